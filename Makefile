@@ -1,0 +1,9 @@
+# Proves, builds and runs hip_play on standard input.
+.PHONY: play
+play:
+	@cd crates/hip_play && rt run
+
+# The gate: every proof from nothing, every must-fail edit, every test, every program.
+.PHONY: test
+test:
+	rt ci
