@@ -1,0 +1,61 @@
+ghost use Rattle.std.specs.Prelude.{◌≡◌};
+ghost use Rattle.hip_play.specs.Fault.{status_of};
+
+use std::alloc::{AllocError, AllocFailed};
+use std::fmt;
+
+/// Why a script was not played to its end.
+#[derive(Clone, Copy, Debug, PartialEq, Eq)]
+pub(crate) enum PlayFault {
+    /// The line with this number, counted from 1, is not a command.
+    NotACommand(usize),
+    /// The script could not be read.
+    ReadFailed,
+    /// The answers could not be written.
+    WriteFailed,
+    /// Memory ran out.
+    Memory,
+}
+
+impl PlayFault {
+    /// The exit status of a program that met the fault.
+    pub(crate) fn status(self) -> u8
+        ensures { result ≡ status_of self }
+    {
+        match self {
+            PlayFault::NotACommand(_) => 2,
+            PlayFault::ReadFailed | PlayFault::WriteFailed | PlayFault::Memory => 1,
+        }
+    }
+}
+
+impl fmt::Display for PlayFault {
+    fn fmt<W: fmt::Write>(&self, f: &mut fmt::Formatter<W>) -> fmt::Result {
+        match self {
+            PlayFault::NotACommand(number) => write!(f, "line {number}: not a command"),
+            PlayFault::ReadFailed => write!(f, "read failed"),
+            PlayFault::WriteFailed => write!(f, "write failed"),
+            PlayFault::Memory => write!(f, "out of memory"),
+        }
+    }
+}
+
+impl From<AllocError> for PlayFault {
+    ghost use Rattle.hip_play.specs.declared.fault.PlayFault.TheVariants.{Memory};
+
+    ghost from_gives = { λ _ fault. fault ≡ Memory };
+
+    fn from(_refused: AllocError) -> PlayFault {
+        PlayFault::Memory
+    }
+}
+
+impl<T: Drop> From<AllocFailed<T>> for PlayFault {
+    ghost use Rattle.hip_play.specs.declared.fault.PlayFault.TheVariants.{Memory};
+
+    ghost from_gives = { λ _ fault. fault ≡ Memory };
+
+    fn from(_refused: AllocFailed<T>) -> PlayFault {
+        PlayFault::Memory
+    }
+}

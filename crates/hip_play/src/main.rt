@@ -1,0 +1,29 @@
+//! `hip_play` reads lines of commands from standard input, gives them to [`hipstr::run`] and
+//! prints the answers.
+//!
+//! The work is in [`play`], which is generic in the backend, the reader and the writer.
+#![tactic(auto)]
+
+use hipstr::Unique;
+use play::play;
+use std::io;
+use std::process::ExitCode;
+
+mod fault;
+mod line;
+mod literal;
+mod play;
+mod print;
+mod script;
+mod words;
+
+fn main(rt: HostRuntime) -> ExitCode {
+    match play::<Unique, _, _>(rt.alloc(), rt.reader(), io::writer(&rt)) {
+        Ok(()) => ExitCode::SUCCESS,
+        Err(fault) => {
+            // There is nowhere left to tell that this line could not be written.
+            let _ = eprintln!(rt; "{fault}");
+            ExitCode::from(fault.status())
+        }
+    }
+}

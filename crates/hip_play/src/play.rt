@@ -1,0 +1,121 @@
+use crate::fault::PlayFault;
+use crate::line::{Aside, Line};
+use crate::literal::Literals;
+use crate::print::{print_answer, print_literal};
+use crate::script::read_script;
+use hipstr::{Backend, Command, Meter, Pool, run};
+use std::alloc::Global;
+use std::io;
+use std::io::{BufWriter, ErrorKind, Read, Write};
+
+/// How many slots a script works on.
+pub(crate) const SLOTS: usize = 16;
+
+/// Plays a script: reads it whole, performs its commands on a pool of [`SLOTS`] slots, and writes
+/// the answers, one a line.
+///
+/// A script with a line that is no command is refused before anything runs. What was written
+/// before a later fault stays written.
+pub(crate) fn play<B: Backend, R: Read + Drop, W: Write + Drop>(
+    alloc: Global,
+    mut reader: R,
+    writer: W,
+) -> Result<(), PlayFault> {
+    let mut input = Vec::new(alloc);
+    if let Err(error) = reader.read_to_end(&mut input) {
+        return Err(read_fault(&error));
+    }
+    let literals = Literals::decode(alloc, input.as_slice())?;
+    let script = read_script(alloc, input.as_slice(), &literals)?;
+    let Ok(mut out) = BufWriter::new(alloc, writer) else {
+        return Err(PlayFault::Memory);
+    };
+    let played = play_lines::<B, _>(alloc, script.as_slice(), &mut out);
+    leave(out, played)
+}
+
+/// Why the script could not be read.
+fn read_fault(error: &io::Error) -> PlayFault {
+    match error.kind() {
+        ErrorKind::OutOfMemory => PlayFault::Memory,
+        _ => PlayFault::ReadFailed,
+    }
+}
+
+/// Plays all lines. Each list of commands between two other lines is one run.
+fn play_lines<B: Backend, W: Write>(
+    alloc: Global,
+    lines: &[Line<'_>],
+    out: &mut W,
+) -> Result<(), PlayFault> {
+    let mut pool = Pool::<B>::new(alloc, SLOTS)?;
+    let mut meter = Meter::new();
+    let mut commands = Vec::new(alloc);
+    for line in lines {
+        match *line {
+            Line::Command(command) => commands.push(command)?,
+            Line::Aside(aside) => {
+                perform(alloc, &mut pool, commands.as_slice(), &mut meter, out)?;
+                commands.clear();
+                tell(&pool, aside, out)?;
+            }
+        }
+    }
+    perform(alloc, &mut pool, commands.as_slice(), &mut meter, out)
+}
+
+/// Performs commands, and prints their answers.
+fn perform<'b, B: Backend, W: Write>(
+    alloc: Global,
+    pool: &mut Pool<'b, B>,
+    commands: &[Command<'b>],
+    meter: &mut Meter,
+    out: &mut W,
+) -> Result<(), PlayFault> {
+    let answers = run(alloc, pool, commands, meter)?;
+    for answer in &answers {
+        if print_answer(out, *answer).is_err() {
+            return Err(PlayFault::WriteFailed);
+        }
+    }
+    Ok(())
+}
+
+/// Prints what a line asks for that is no command.
+fn tell<B: Backend, W: Write>(
+    pool: &Pool<'_, B>,
+    aside: Aside,
+    out: &mut W,
+) -> Result<(), PlayFault> {
+    let told = match aside {
+        Aside::Show(slot) => show(pool, slot, out),
+    };
+    told.map_err(|_| PlayFault::WriteFailed)
+}
+
+/// Prints the bytes of a slot.
+fn show<B: Backend, W: Write>(pool: &Pool<'_, B>, slot: usize, out: &mut W) -> io::Result<()> {
+    let Some(slot) = pool.slot(slot) else {
+        return writeln!(out, "refused NoSlot");
+    };
+    out.write_all(b"bytes ")?;
+    print_literal(out, slot.as_bytes())?;
+    writeln!(out)
+}
+
+/// Writes what waits in the buffer, but nothing more after a failed write.
+fn leave<W: Write + Drop>(
+    mut out: BufWriter<W>,
+    played: Result<(), PlayFault>,
+) -> Result<(), PlayFault> {
+    let flushed = match played {
+        Err(PlayFault::WriteFailed) => Ok(()),
+        _ => out.flush(),
+    };
+    let (_writer, _unwritten) = out.into_parts();
+    played?;
+    flushed.map_err(|_| PlayFault::WriteFailed)
+}
+
+#[cfg(test)]
+mod tests;

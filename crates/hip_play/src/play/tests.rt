@@ -1,0 +1,269 @@
+use super::play;
+use crate::fault::PlayFault;
+use hipstr::Unique;
+use std::alloc::Global;
+use std::io;
+use std::io::{ErrorKind, Read, Write};
+use std::test::Fail;
+
+/// A reader that gives so many bytes a call at most, and fails at one call.
+#[derive(Drop)]
+struct Source<'s> {
+    rest: &'s [u8],
+    most: usize,
+    /// How many calls are left before the one that fails.
+    calls: usize,
+}
+
+impl Read for Source<'_> {
+    fn read(&mut self, buf: &mut [u8]) -> io::Result<usize> {
+        if self.calls == 0 {
+            return Err(io::Error::from(ErrorKind::BrokenPipe));
+        }
+        self.calls -= 1;
+        let count = self.most.min(buf.len()).min(self.rest.len());
+        let (front, rest) = self.rest.split_at(count);
+        buf[..count].copy_from_slice(front);
+        self.rest = rest;
+        Ok(count)
+    }
+}
+
+/// A writer that takes so many bytes a call at most, and fails from one call on.
+#[derive(Drop)]
+struct Sink {
+    taken: Vec<u8>,
+    most: usize,
+    /// How many calls are left before the first that fails.
+    calls: usize,
+    /// How many calls failed.
+    failed: usize,
+}
+
+impl Write for Sink {
+    fn write(&mut self, buf: &[u8]) -> io::Result<usize> {
+        if self.calls == 0 {
+            self.failed = self.failed.saturating_add(1);
+            return Err(io::Error::from(ErrorKind::BrokenPipe));
+        }
+        self.calls -= 1;
+        let count = self.most.min(buf.len());
+        self.taken.extend_from_slice(&buf[..count])?;
+        Ok(count)
+    }
+
+    fn flush(&mut self) -> io::Result<()> {
+        Ok(())
+    }
+}
+
+fn make_sink(alloc: Global, most: usize, calls: usize) -> Sink {
+    Sink {
+        taken: Vec::new(alloc),
+        most,
+        calls,
+        failed: 0,
+    }
+}
+
+/// What a script prints, and how it ends.
+fn played(alloc: Global, script: &[u8]) -> (Vec<u8>, Result<(), PlayFault>) {
+    let mut out = make_sink(alloc, usize::MAX, usize::MAX);
+    let ended = play::<Unique, _, _>(alloc, script, &mut out);
+    (out.taken, ended)
+}
+
+const FIRST_RUN: &str =
+    "copy 0 \"Hello John\"\nslice 0 1 6..\nnew 0\npush 1 \"!\"\nlen 1\nshow 1\n";
+
+const FIRST_ANSWERS: &str = "done\ndone\ndone\ndone\n5\nbytes \"John!\"\n";
+
+#[test]
+fn answers(rt: HostRuntime) {
+    let rows = [
+        (FIRST_RUN, FIRST_ANSWERS),
+        // A push on a slice doesn't bring back what followed it in its source.
+        (
+            "copy 0 \"abcdefghijklmnopqrstuvwxyz\"\nslice 0 1 0..24\nnew 0\npush 1 \"!\"\nshow 1\n",
+            "done\ndone\ndone\ndone\nbytes \"abcdefghijklmnopqrstuvwx!\"\n",
+        ),
+        // The first test that fails decides.
+        (
+            "copy 0 \"abc\"\nslice 0 1 4..2\nslice 0 1 2..1\nslice 0 1 ..=18446744073709551615\n",
+            "done\nrefused StartOutOfBounds\nrefused StartGreaterThanEnd\nrefused EndOutOfBounds\n",
+        ),
+        (
+            "copy 0 \"abc\"\nslice 0 0 1..\nslice 0 1 ..=18446744073709551615\nslice 16 1 ..\nshow 0\n",
+            "done\ndone\nrefused EndOutOfBounds\nrefused NoSlot\nbytes \"bc\"\n",
+        ),
+        // Every form of a range.
+        (
+            "copy 0 \"abcd\"\nslice 0 1 1..3\nshow 1\nslice 0 1 1..=2\nshow 1\nslice 0 1 3..\nshow 1\nslice 0 1 ..1\nshow 1\nslice 0 1 ..=1\nshow 1\nslice 0 1 ..\nshow 1\nslice 0 1 2..2\nshow 1\n",
+            "done\ndone\nbytes \"bc\"\ndone\nbytes \"bc\"\ndone\nbytes \"d\"\ndone\nbytes \"a\"\ndone\nbytes \"ab\"\ndone\nbytes \"abcd\"\ndone\nbytes \"\"\n",
+        ),
+        // A clone and its source don't see each other's writes.
+        (
+            "copy 0 \"ab\"\nclone 0 1\npush 1 \"c\"\ntruncate 0 1\nshow 0\nshow 1\ntruncate 1 9\nlen 1\n",
+            "done\ndone\ndone\ndone\nbytes \"a\"\nbytes \"abc\"\ndone\n3\n",
+        ),
+        // Slots that aren't there.
+        (
+            "new 16\ncopy 16 \"\"\nclone 0 16\nclone 16 0\nslice 0 16 9..\npush 16 \"\"\ntruncate 99 0\nlen 18446744073709551615\nshow 16\n",
+            "refused NoSlot\nrefused NoSlot\nrefused NoSlot\nrefused NoSlot\nrefused NoSlot\nrefused NoSlot\nrefused NoSlot\nrefused NoSlot\nrefused NoSlot\n",
+        ),
+        // Escapes of either case; how bytes are printed.
+        (
+            "copy 0 \"\\x00\\x0a\\xFF \\\"\\\\~\\x7F\"\nshow 0\nlen 0\n",
+            "done\nbytes \"\\x00\\x0a\\xff \\\"\\\\~\\x7f\"\n8\n",
+        ),
+        // Empty lines, line ends of two bytes, no end of the last line, leading zeros.
+        ("\nnew 0\r\n\r\nlen 000", "done\n0\n"),
+        ("", ""),
+    ];
+    for (script, answers) in rows {
+        let (written, ended) = played(rt.alloc(), script.as_bytes());
+        assert_eq!(rt; ended, Ok(()), "{script}");
+        assert_eq!(rt; written.as_slice(), answers.as_bytes(), "{script}");
+    }
+}
+
+#[test]
+fn bad_lines(rt: HostRuntime) {
+    let rows = [
+        ("copy 0 abc\n", 1),
+        ("new 0\nnew 0 \n", 2),
+        ("new 0\n new 0\n", 2),
+        ("new  0\n", 1),
+        ("new\n", 1),
+        ("new \n", 1),
+        ("new 0 1\n", 1),
+        ("new +1\n", 1),
+        ("new -1\n", 1),
+        ("new 1a\n", 1),
+        ("len 18446744073709551616\n", 1),
+        ("pop 0\n", 1),
+        ("NEW 0\n", 1),
+        ("new\t0\n", 1),
+        ("\n\nbad", 3),
+        ("new 0\r", 1),
+        ("new 0\r\r\n", 1),
+        ("copy 0 \"abc\n", 1),
+        ("copy 0 \"abc\\\"\n", 1),
+        ("copy 0 \"a\\n\"\n", 1),
+        ("copy 0 \"\\x4\"\n", 1),
+        ("copy 0 \"\\xg0\"\n", 1),
+        ("copy 0 \"\\", 1),
+        ("copy 0 \"a\"b\n", 1),
+        ("copy 0 \"a\" \n", 1),
+        ("copy 0 \"a\" \"b\"\n", 1),
+        ("copy 0 a\"b\"\n", 1),
+        ("copy \"0\" \"b\"\n", 1),
+        ("slice 0 1 1\n", 1),
+        ("slice 0 1 a..\n", 1),
+        ("slice 0 1 1.2\n", 1),
+        ("slice 0 1 ..=\n", 1),
+        ("slice 0 1 1..=\n", 1),
+        ("slice 0 1 1...2\n", 1),
+        ("slice 0 1 1.. 2\n", 1),
+        ("slice 0 1 \n", 1),
+        ("new 0\nshow 0 \"\nbad\n", 2),
+        ("copy 0 \"a\"\nnew x\ncopy 0 \"\n", 2),
+    ];
+    for (script, line) in rows {
+        let (written, ended) = played(rt.alloc(), script.as_bytes());
+        assert_eq!(rt; ended, Err(PlayFault::NotACommand(line)), "{script:?}");
+        assert!(rt; written.is_empty(), "{script:?}");
+    }
+}
+
+#[test]
+fn failing_reads(rt: HostRuntime) -> Result<(), Fail> {
+    let script = FIRST_RUN.as_bytes();
+    for calls in 0..script.len() + 2 {
+        let source = Source {
+            rest: script,
+            most: 1,
+            calls,
+        };
+        let mut out = make_sink(rt.alloc(), usize::MAX, usize::MAX);
+        match play::<Unique, _, _>(rt.alloc(), source, &mut out) {
+            Ok(()) => {
+                // One byte a call, and a last one that finds the end.
+                assert_eq!(rt; calls, script.len() + 1);
+                assert_eq!(rt; out.taken.as_slice(), FIRST_ANSWERS.as_bytes());
+                return Ok(());
+            }
+            Err(fault) => {
+                assert_eq!(rt; fault, PlayFault::ReadFailed, "at call {calls}");
+                assert!(rt; out.taken.is_empty());
+            }
+        }
+    }
+    Err(Fail::from("no run read the whole script"))
+}
+
+#[test]
+fn failed_read_before_bad_line(rt: HostRuntime) {
+    let source = Source {
+        rest: b"bad\n",
+        most: 100,
+        calls: 1,
+    };
+    let mut out = make_sink(rt.alloc(), usize::MAX, usize::MAX);
+    let ended = play::<Unique, _, _>(rt.alloc(), source, &mut out);
+    assert_eq!(rt; ended, Err(PlayFault::ReadFailed));
+}
+
+#[test]
+fn failing_writes(rt: HostRuntime) {
+    let answers = FIRST_ANSWERS.as_bytes();
+    for calls in 0..answers.len() + 1 {
+        let mut out = make_sink(rt.alloc(), 1, calls);
+        let ended = play::<Unique, _, _>(rt.alloc(), FIRST_RUN.as_bytes(), &mut out);
+        if calls < answers.len() {
+            assert_eq!(rt; ended, Err(PlayFault::WriteFailed), "at call {calls}");
+            assert_eq!(rt; out.failed, 1, "nothing is written after a failure");
+        } else {
+            assert_eq!(rt; ended, Ok(()));
+        }
+        assert_eq!(rt; out.taken.len(), calls);
+        assert!(rt; answers.starts_with(out.taken.as_slice()));
+    }
+}
+
+#[test]
+fn writer_that_takes_nothing(rt: HostRuntime) {
+    let mut out = make_sink(rt.alloc(), 0, usize::MAX);
+    let ended = play::<Unique, _, _>(rt.alloc(), FIRST_RUN.as_bytes(), &mut out);
+    assert_eq!(rt; ended, Err(PlayFault::WriteFailed));
+    assert!(rt; out.taken.is_empty());
+}
+
+/// More answers than the buffer holds, and then a failure: what was written stays.
+#[test]
+fn failure_in_mid_stream(rt: HostRuntime) -> Result<(), Fail> {
+    let script = "new 0\n".repeat(rt.alloc(), 4000)?;
+    let answers = "done\n".repeat(rt.alloc(), 4000)?;
+    let mut out = make_sink(rt.alloc(), 5000, 2);
+    let ended = play::<Unique, _, _>(rt.alloc(), script.as_bytes(), &mut out);
+    assert_eq!(rt; ended, Err(PlayFault::WriteFailed));
+    assert_eq!(rt; out.failed, 1);
+    assert!(rt; !out.taken.is_empty());
+    assert!(rt; answers.as_bytes().starts_with(out.taken.as_slice()));
+    Ok(())
+}
+
+#[test]
+fn fault_lines(rt: HostRuntime) -> Result<(), Fail> {
+    let rows = [
+        (PlayFault::NotACommand(12), "line 12: not a command", 2),
+        (PlayFault::ReadFailed, "read failed", 1),
+        (PlayFault::WriteFailed, "write failed", 1),
+        (PlayFault::Memory, "out of memory", 1),
+    ];
+    for (fault, line, status) in rows {
+        assert_eq!(rt; format!(in rt.alloc(); "{fault}")?.as_str(), line);
+        assert_eq!(rt; fault.status(), status);
+    }
+    Ok(())
+}

@@ -1,0 +1,28 @@
+//! How answers and bytes are printed.
+
+use hipstr::Answer;
+use std::io;
+use std::io::Write;
+
+/// Prints an answer on a line of its own.
+pub(crate) fn print_answer<W: Write>(out: &mut W, answer: Answer) -> io::Result<()> {
+    match answer {
+        Answer::Done => writeln!(out, "done"),
+        Answer::Number(number) => writeln!(out, "{number}"),
+        Answer::Refused(reason) => writeln!(out, "refused {reason:?}"),
+    }
+}
+
+/// Prints bytes as a literal: 0x20 to 0x7E stand for themselves save `\"` and `\\`.
+pub(crate) fn print_literal<W: Write>(out: &mut W, bytes: &[u8]) -> io::Result<()> {
+    out.write_all(b"\"")?;
+    for byte in bytes {
+        match *byte {
+            b'"' => out.write_all(b"\\\"")?,
+            b'\\' => out.write_all(b"\\\\")?,
+            0x20..=0x7E => out.write_all(&[*byte])?,
+            byte => write!(out, "\\x{byte:02x}")?,
+        }
+    }
+    out.write_all(b"\"")
+}
