@@ -8,6 +8,8 @@ use hipstr::Command;
 pub(crate) enum Aside {
     /// Prints the slot's bytes.
     Show(usize),
+    /// Prints how many bytes were copied so far.
+    Copied,
 }
 
 /// What one line says.
@@ -21,9 +23,23 @@ pub(crate) enum Line<'b> {
 
 /// Reads the words of a line up to its last one.
 pub(crate) fn read_line<'b>(words: &mut Words<'_, 'b>) -> Option<Line<'b>> {
-    let command = match words.plain()? {
+    let verb = words.plain()?;
+    let aside = match verb {
+        b"show" => Aside::Show(words.number()?),
+        b"copied" => Aside::Copied,
+        _ => return Some(Line::Command(read_command(verb, words)?)),
+    };
+    Some(Line::Aside(aside))
+}
+
+/// Reads what follows the verb of a command.
+fn read_command<'b>(verb: &[u8], words: &mut Words<'_, 'b>) -> Option<Command<'b>> {
+    Some(match verb {
         b"new" => Command::New(words.number()?),
+        b"inline" => Command::Inline(words.number()?, words.literal()?),
+        b"borrow" => Command::Borrow(words.number()?, words.literal()?),
         b"copy" => Command::Copy(words.number()?, words.literal()?),
+        b"room" => Command::Room(words.number()?, words.number()?),
         b"clone" => Command::Clone(words.number()?, words.number()?),
         b"slice" => {
             let (s, t) = (words.number()?, words.number()?);
@@ -31,10 +47,12 @@ pub(crate) fn read_line<'b>(words: &mut Words<'_, 'b>) -> Option<Line<'b>> {
             Command::Slice(s, t, low, high)
         }
         b"push" => Command::Push(words.number()?, words.literal()?),
+        b"pop" => Command::Pop(words.number()?),
         b"truncate" => Command::Truncate(words.number()?, words.number()?),
+        b"clear" => Command::Clear(words.number()?),
         b"len" => Command::Len(words.number()?),
-        b"show" => return Some(Line::Aside(Aside::Show(words.number()?))),
+        b"kind" => Command::Kind(words.number()?),
+        b"capacity" => Command::Capacity(words.number()?),
         _ => return None,
-    };
-    Some(Line::Command(command))
+    })
 }

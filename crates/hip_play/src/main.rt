@@ -4,7 +4,7 @@
 //! The work is in [`play`], which is generic in the backend, the reader and the writer.
 #![tactic(auto)]
 
-use hipstr::Unique;
+use hipstr::Rc;
 use play::play;
 use std::io;
 use std::process::ExitCode;
@@ -18,7 +18,7 @@ mod script;
 mod words;
 
 fn main(rt: HostRuntime) -> ExitCode {
-    match play::<Unique, _, _>(rt.alloc(), rt.reader(), io::writer(&rt)) {
+    match play::<Rc, _, _>(rt.alloc(), rt.reader(), io::writer(&rt)) {
         Ok(()) => ExitCode::SUCCESS,
         Err(fault) => {
             // There is nowhere left to tell that this line could not be written.

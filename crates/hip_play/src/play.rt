@@ -57,7 +57,7 @@ fn play_lines<B: Backend, W: Write>(
             Line::Aside(aside) => {
                 perform(alloc, &mut pool, commands.as_slice(), &mut meter, out)?;
                 commands.clear();
-                tell(&pool, aside, out)?;
+                tell(&pool, &meter, aside, out)?;
             }
         }
     }
@@ -84,11 +84,13 @@ fn perform<'b, B: Backend, W: Write>(
 /// Prints what a line asks for that is no command.
 fn tell<B: Backend, W: Write>(
     pool: &Pool<'_, B>,
+    meter: &Meter,
     aside: Aside,
     out: &mut W,
 ) -> Result<(), PlayFault> {
     let told = match aside {
         Aside::Show(slot) => show(pool, slot, out),
+        Aside::Copied => writeln!(out, "{}", meter.copied()),
     };
     told.map_err(|_| PlayFault::WriteFailed)
 }

@@ -1,6 +1,6 @@
 //! How answers and bytes are printed.
 
-use hipstr::Answer;
+use hipstr::{Answer, Kind};
 use std::io;
 use std::io::Write;
 
@@ -8,7 +8,12 @@ use std::io::Write;
 pub(crate) fn print_answer<W: Write>(out: &mut W, answer: Answer) -> io::Result<()> {
     match answer {
         Answer::Done => writeln!(out, "done"),
+        Answer::Nothing => writeln!(out, "nothing"),
         Answer::Number(number) => writeln!(out, "{number}"),
+        Answer::Byte(byte) => writeln!(out, "byte {byte}"),
+        Answer::Kind(Kind::Inline) => writeln!(out, "inline"),
+        Answer::Kind(Kind::Borrowed) => writeln!(out, "borrowed"),
+        Answer::Kind(Kind::Allocated) => writeln!(out, "allocated"),
         Answer::Refused(reason) => writeln!(out, "refused {reason:?}"),
     }
 }

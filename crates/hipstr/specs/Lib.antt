@@ -1,5 +1,10 @@
-pub mod Bytes
-pub mod Range
 pub mod Slot
 pub mod Step
 pub mod Run
+pub use Rattle.hip_bytes.specs.Cost
+pub use Rattle.hip_bytes.specs.Handle
+pub use Rattle.hip_bytes.specs.Kinds
+pub use Rattle.hip_bytes.specs.Range
+pub use Rattle.hip_bytes.specs.Slice
+pub use Rattle.hip_bytes.specs.SliceError
+pub use Rattle.hip_bytes.specs.Meter

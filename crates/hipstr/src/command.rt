@@ -1,4 +1,4 @@
-use crate::range::SliceErrorKind;
+use hip_bytes::{Kind, SliceErrorKind};
 use std::ops::Bound;
 
 /// What [`run`](crate::run) can be told to do. Slots are named by their position in the pool.
@@ -6,18 +6,32 @@ use std::ops::Bound;
 pub enum Command<'b> {
     /// The slot becomes empty.
     New(usize),
+    /// The slot becomes a copy of these bytes, in the handle itself.
+    Inline(usize, &'b [u8]),
+    /// The slot borrows these bytes.
+    Borrow(usize, &'b [u8]),
     /// The slot becomes a copy of these bytes.
     Copy(usize, &'b [u8]),
+    /// The slot becomes empty, with room for so many bytes.
+    Room(usize, usize),
     /// The second slot becomes the value of the first.
     Clone(usize, usize),
     /// The second slot becomes the items of the first between two bounds.
     Slice(usize, usize, Bound<usize>, Bound<usize>),
     /// The bytes are added at the slot's end.
     Push(usize, &'b [u8]),
+    /// The slot's last byte is taken off, and answered.
+    Pop(usize),
     /// The slot keeps its first items, as many as are told.
     Truncate(usize, usize),
+    /// The slot lets go of its items.
+    Clear(usize),
     /// The number of the slot's bytes.
     Len(usize),
+    /// Where the slot's bytes lie.
+    Kind(usize),
+    /// How many bytes the slot can hold where they lie.
+    Capacity(usize),
 }
 
 /// What a command answered.
@@ -25,8 +39,14 @@ pub enum Command<'b> {
 pub enum Answer {
     /// It was done.
     Done,
+    /// There was nothing to do it to.
+    Nothing,
     /// The number that was asked for.
     Number(usize),
+    /// The byte that was taken off.
+    Byte(u8),
+    /// The kind that was asked for.
+    Kind(Kind),
     /// It was refused.
     Refused(Reason),
 }
@@ -36,12 +56,29 @@ pub enum Answer {
 pub enum Reason {
     /// A slot isn't there.
     NoSlot,
+    /// The bytes are too many for a handle itself.
+    TooLong,
     /// The range's start comes after its end.
     StartGreaterThanEnd,
     /// The range's start is past the length.
     StartOutOfBounds,
     /// The range's end is past the length.
     EndOutOfBounds,
-    /// Memory ran out.
+    /// Memory ran out, or an owner couldn't be shared once more.
     Memory,
+}
+
+impl From<SliceErrorKind> for Reason {
+    ghost use Rattle.std.specs.Prelude.{◌≡◌};
+    ghost use Rattle.hipstr.specs.Step.{reason_of};
+
+    ghost from_gives = { λ kind reason. reason ≡ reason_of kind };
+
+    fn from(kind: SliceErrorKind) -> Reason {
+        match kind {
+            SliceErrorKind::StartGreaterThanEnd => Reason::StartGreaterThanEnd,
+            SliceErrorKind::StartOutOfBounds => Reason::StartOutOfBounds,
+            SliceErrorKind::EndOutOfBounds => Reason::EndOutOfBounds,
+        }
+    }
 }

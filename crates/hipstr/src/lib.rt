@@ -1,27 +1,33 @@
 //! Byte strings that are cheap to clone and to cut, ported from the Rust crate hipstr 0.8.0.
 //!
-//! **A handle is a list; a call is a step of the list machine.** [`Pool`] keeps many handles, and
-//! [`run`] performs a list of [`Command`]s on them. Its contract says that each [`Answer`] and
-//! every handle's bytes are those of a machine that keeps one plain list for each handle, so that
-//! no write through one handle shows in another.
+//! **A handle is a list with a kind and a capacity; a call is a step of the list machine within a cost.** [`Pool`] keeps many
+//! handles, and [`run`] performs a list of [`Command`]s on them. Its contract says that each [`Answer`] and every handle's bytes
+//! are those of a machine that keeps one plain list for each handle, so that no write through one handle shows in another, and
+//! that no more bytes are copied than the run costs.
 //!
-//! What the clauses say in words is defined in `specs/`: `Bytes` (a handle as clauses see it),
-//! `Range` (ranges and why one is refused), `Slot` (the machine's state), `Step` (one command)
-//! and `Run` (many commands).
+//! [`bytes`] has the byte strings themselves, [`HipByt`](bytes::HipByt) generic in the [`Backend`]: owners are shared on [`Rc`],
+//! and not on [`Unique`].
+//!
+//! What the clauses of `run` say in words is defined in `specs/`: `Slot` (the machine's state), `Step` (one command: its fault, its
+//! answer, what it leaves, its cost) and `Run` (many commands).
 #![tactic(auto)]
 
-mod backend;
-mod bytes;
 mod command;
 mod machine;
-mod meter;
 mod pool;
-mod range;
 
-pub use backend::{Backend, Unique};
-pub use bytes::HipByt;
+/// Byte strings.
+pub mod bytes {
+    pub use hip_bytes::{HipByt, INLINE_CAPACITY, Kind, SliceError, SliceErrorKind, SliceRefusal};
+}
+
 pub use command::{Answer, Command, Reason};
+pub use hip_bytes::{Backend, Kind, Meter, Rc, Unique};
 pub use machine::run;
-pub use meter::Meter;
 pub use pool::{MAX_SLOTS, Pool, Slot};
-pub use range::SliceErrorKind;
+
+/// [`Rc`] under the name that it had before.
+pub type Local = Rc;
+
+/// A byte string whose owners are shared in one thread.
+pub type LocalHipByt<'b> = hip_bytes::HipByt<'b, Rc>;

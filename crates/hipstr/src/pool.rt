@@ -1,8 +1,7 @@
 ghost use Rattle.std.specs.Prelude.{◌≡◌, ◌≤◌, ◌<◌, ◌==◌, ◌↔◌, replicate, length, slice_set, IfOk, IfSome, IsSome};
-ghost use Rattle.hipstr.specs.Slot.{state_of, slot_at, empty_slot};
+ghost use Rattle.hipstr.specs.Slot.{state_of, bytes_slot, slot_at, empty_slot};
 
-use crate::backend::Backend;
-use crate::bytes::HipByt;
+use hip_bytes::{Backend, HipByt, Kind};
 use std::alloc::{AllocError, Global};
 use std::marker::Model;
 use std::mem;
@@ -25,6 +24,16 @@ impl<'b, B: Backend> Slot<'b, B> {
     {
         match self {
             Slot::Bytes(handle) => handle.as_slice(),
+        }
+    }
+
+    /// Where the slot's bytes lie.
+    #[inline]
+    pub fn kind(&self) -> Kind
+        ensures kind { result ≡ (state_of self.now).kind }
+    {
+        match self {
+            Slot::Bytes(handle) => handle.kind(),
         }
     }
 }
@@ -52,7 +61,7 @@ impl<'b, B: Backend> Pool<'b, B> {
     {
         let mut slots = Vec::with_capacity(alloc, count)?;
         for _ in 0..count {
-            slots.push(Slot::Bytes(HipByt::new(alloc)))?;
+            slots.push(Slot::Bytes(HipByt::new()))?;
         }
         Ok(Pool { slots })
     }
@@ -86,7 +95,7 @@ impl<'b, B: Backend> Pool<'b, B> {
     #[inline]
     pub(crate) fn bytes(&self, i: usize) -> &HipByt<'b, B>
         requires { i < length self.now }
-        ensures items { result.now.items ≡ (slot_at self.now i).items }
+        ensures { bytes_slot result.now ≡ slot_at self.now i }
     {
         match &self.slots[i] {
             Slot::Bytes(handle) => handle,
@@ -95,12 +104,12 @@ impl<'b, B: Backend> Pool<'b, B> {
 
     /// Takes the handle at a position, and leaves an empty one.
     #[inline]
-    pub(crate) fn take(&mut self, alloc: Global, i: usize) -> HipByt<'b, B>
+    pub(crate) fn take(&mut self, i: usize) -> HipByt<'b, B>
         requires { i < length self.old }
-        ensures taken { result.items ≡ (slot_at self.old i).items }
+        ensures taken { bytes_slot result ≡ slot_at self.old i }
         ensures emptied { self.new ≡ slice_set self.old i empty_slot }
     {
-        let Slot::Bytes(handle) = mem::replace(&mut self.slots[i], Slot::Bytes(HipByt::new(alloc)));
+        let Slot::Bytes(handle) = mem::replace(&mut self.slots[i], Slot::Bytes(HipByt::new()));
         handle
     }
 
@@ -108,7 +117,7 @@ impl<'b, B: Backend> Pool<'b, B> {
     #[inline]
     pub(crate) fn put(&mut self, i: usize, handle: HipByt<'b, B>)
         requires { i < length self.old }
-        ensures { self.new ≡ slice_set self.old i (record { items = handle.entry.items }) }
+        ensures { self.new ≡ slice_set self.old i (bytes_slot handle.entry) }
     {
         self.slots[i] = Slot::Bytes(handle);
     }

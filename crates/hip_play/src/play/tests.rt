@@ -1,9 +1,10 @@
 use super::play;
 use crate::fault::PlayFault;
-use hipstr::Unique;
+use hipstr::{Backend, Rc, Unique};
 use std::alloc::Global;
 use std::io;
 use std::io::{ErrorKind, Read, Write};
+use std::process::Abort;
 use std::test::Fail;
 
 /// A reader that gives so many bytes a call at most, and fails at one call.
@@ -67,10 +68,17 @@ fn make_sink(alloc: Global, most: usize, calls: usize) -> Sink {
 }
 
 /// What a script prints, and how it ends.
-fn played(alloc: Global, script: &[u8]) -> (Vec<u8>, Result<(), PlayFault>) {
+fn played<B: Backend>(alloc: Global, script: &str) -> (Vec<u8>, Result<(), PlayFault>) {
     let mut out = make_sink(alloc, usize::MAX, usize::MAX);
-    let ended = play::<Unique, _, _>(alloc, script, &mut out);
+    let ended = play::<B, _, _>(alloc, script.as_bytes(), &mut out);
     (out.taken, ended)
+}
+
+/// Plays a script on a backend, and compares what it prints.
+fn compare<B: Backend>(rt: &impl Abort, alloc: Global, script: &str, answers: &str) {
+    let (written, ended) = played::<B>(alloc, script);
+    assert_eq!(rt; ended, Ok(()), "{script}");
+    assert_eq!(rt; written.as_slice(), answers.as_bytes(), "{script}");
 }
 
 const FIRST_RUN: &str =
@@ -121,10 +129,70 @@ fn answers(rt: HostRuntime) {
         ("", ""),
     ];
     for (script, answers) in rows {
-        let (written, ended) = played(rt.alloc(), script.as_bytes());
-        assert_eq!(rt; ended, Ok(()), "{script}");
-        assert_eq!(rt; written.as_slice(), answers.as_bytes(), "{script}");
+        compare::<Rc>(&rt, rt.alloc(), script, answers);
+        compare::<Unique>(&rt, rt.alloc(), script, answers);
     }
+}
+
+/// Kinds and capacities, on either backend.
+#[test]
+fn kinds(rt: HostRuntime) {
+    let rows = [
+        // A borrowed value: its clone is borrowed, and a push of nothing copies it.
+        (
+            "borrow 0 \"abc\"\nclone 0 1\nkind 1\npush 1 \"\"\nkind 1\ncopied\n",
+            "done\ndone\nborrowed\ndone\ninline\n3\n",
+        ),
+        // A slice outlives its source, and copies what fits the handle.
+        (
+            "copy 0 \"Hello John\"\nslice 0 1 6..\nnew 0\nshow 1\nkind 1\ncopied\n",
+            "done\ndone\ndone\nbytes \"John\"\ninline\n14\n",
+        ),
+        (
+            "new 0\npop 0\nlen 0\nkind 0\ncapacity 0\n",
+            "done\nnothing\n0\ninline\n23\n",
+        ),
+        // The limit of the handle itself.
+        (
+            "inline 0 \"aaaaaaaaaaaaaaaaaaaaaaa\"\ninline 1 \"aaaaaaaaaaaaaaaaaaaaaaaa\"\nkind 0\nlen 0\npush 0 \"b\"\nkind 0\nlen 0\npop 0\nkind 0\n",
+            "done\nrefused TooLong\ninline\n23\ndone\nallocated\n24\nbyte 98\ninline\n",
+        ),
+        // What follows a slice in its source doesn't come back.
+        (
+            "copy 0 \"abcdefghijklmnopqrstuvwxyz\"\nslice 0 1 0..24\nnew 0\npush 1 \"!\"\nshow 1\nkind 1\n",
+            "done\ndone\ndone\ndone\nbytes \"abcdefghijklmnopqrstuvwx!\"\nallocated\n",
+        ),
+        // Room stays until bytes go.
+        (
+            "room 0 42\nclear 0\nkind 0\nlen 0\nslice 0 1 0..0\nkind 1\nroom 2 23\nkind 2\nroom 3 18446744073709551615\n",
+            "done\ndone\nallocated\n0\ndone\ninline\ndone\ninline\nrefused Memory\n",
+        ),
+        // Borrowed bytes are cut with no copy, however few.
+        (
+            "borrow 0 \"abcdefghijklmnopqrstuvwxyzabcd\"\nslice 0 1 2..5\nkind 1\ntruncate 0 5\nkind 0\ncapacity 0\nclear 1\nkind 1\ncopied\n",
+            "done\ndone\nborrowed\ndone\nborrowed\n5\ndone\nborrowed\n0\n",
+        ),
+        // No write through one handle shows in another, whether owners are shared or not.
+        (
+            "copy 0 \"aaaaaaaaaaaaaaaaaaaaaaaaaaaaaa\"\nclone 0 1\nslice 0 2 3..30\npush 0 \"b\"\ntruncate 1 29\nshow 0\nshow 1\nshow 2\n",
+            "done\ndone\ndone\ndone\ndone\nbytes \"aaaaaaaaaaaaaaaaaaaaaaaaaaaaaab\"\nbytes \"aaaaaaaaaaaaaaaaaaaaaaaaaaaaa\"\nbytes \"aaaaaaaaaaaaaaaaaaaaaaaaaaa\"\n",
+        ),
+    ];
+    for (script, answers) in rows {
+        compare::<Rc>(&rt, rt.alloc(), script, answers);
+        compare::<Unique>(&rt, rt.alloc(), script, answers);
+    }
+}
+
+/// A slice of 23 bytes copies them; one of 24 copies none where owners are shared.
+#[test]
+fn inline_limit(rt: HostRuntime) {
+    let script =
+        "borrow 0 \"abcdefghijklmnopqrstuvwxyz\"\ncopy 0 \"abcdefghijklmnopqrstuvwxyz\"\ncopied\nslice 0 1 0..23\nkind 1\ncopied\nslice 0 1 0..24\nkind 1\ncopied\nclone 0 2\ncopied\n";
+    let on_rc = "done\ndone\n26\ndone\ninline\n49\ndone\nallocated\n49\ndone\n49\n";
+    let on_unique = "done\ndone\n26\ndone\ninline\n49\ndone\nallocated\n73\ndone\n99\n";
+    compare::<Rc>(&rt, rt.alloc(), script, on_rc);
+    compare::<Unique>(&rt, rt.alloc(), script, on_unique);
 }
 
 #[test]
@@ -141,7 +209,8 @@ fn bad_lines(rt: HostRuntime) {
         ("new -1\n", 1),
         ("new 1a\n", 1),
         ("len 18446744073709551616\n", 1),
-        ("pop 0\n", 1),
+        ("copied 0\n", 1),
+        ("shrink 0 0\n", 1),
         ("NEW 0\n", 1),
         ("new\t0\n", 1),
         ("\n\nbad", 3),
@@ -170,7 +239,7 @@ fn bad_lines(rt: HostRuntime) {
         ("copy 0 \"a\"\nnew x\ncopy 0 \"\n", 2),
     ];
     for (script, line) in rows {
-        let (written, ended) = played(rt.alloc(), script.as_bytes());
+        let (written, ended) = played::<Rc>(rt.alloc(), script);
         assert_eq!(rt; ended, Err(PlayFault::NotACommand(line)), "{script:?}");
         assert!(rt; written.is_empty(), "{script:?}");
     }
@@ -186,7 +255,7 @@ fn failing_reads(rt: HostRuntime) -> Result<(), Fail> {
             calls,
         };
         let mut out = make_sink(rt.alloc(), usize::MAX, usize::MAX);
-        match play::<Unique, _, _>(rt.alloc(), source, &mut out) {
+        match play::<Rc, _, _>(rt.alloc(), source, &mut out) {
             Ok(()) => {
                 // One byte a call, and a last one that finds the end.
                 assert_eq!(rt; calls, script.len() + 1);
@@ -210,7 +279,7 @@ fn failed_read_before_bad_line(rt: HostRuntime) {
         calls: 1,
     };
     let mut out = make_sink(rt.alloc(), usize::MAX, usize::MAX);
-    let ended = play::<Unique, _, _>(rt.alloc(), source, &mut out);
+    let ended = play::<Rc, _, _>(rt.alloc(), source, &mut out);
     assert_eq!(rt; ended, Err(PlayFault::ReadFailed));
 }
 
@@ -219,7 +288,7 @@ fn failing_writes(rt: HostRuntime) {
     let answers = FIRST_ANSWERS.as_bytes();
     for calls in 0..answers.len() + 1 {
         let mut out = make_sink(rt.alloc(), 1, calls);
-        let ended = play::<Unique, _, _>(rt.alloc(), FIRST_RUN.as_bytes(), &mut out);
+        let ended = play::<Rc, _, _>(rt.alloc(), FIRST_RUN.as_bytes(), &mut out);
         if calls < answers.len() {
             assert_eq!(rt; ended, Err(PlayFault::WriteFailed), "at call {calls}");
             assert_eq!(rt; out.failed, 1, "nothing is written after a failure");
@@ -234,7 +303,7 @@ fn failing_writes(rt: HostRuntime) {
 #[test]
 fn writer_that_takes_nothing(rt: HostRuntime) {
     let mut out = make_sink(rt.alloc(), 0, usize::MAX);
-    let ended = play::<Unique, _, _>(rt.alloc(), FIRST_RUN.as_bytes(), &mut out);
+    let ended = play::<Rc, _, _>(rt.alloc(), FIRST_RUN.as_bytes(), &mut out);
     assert_eq!(rt; ended, Err(PlayFault::WriteFailed));
     assert!(rt; out.taken.is_empty());
 }
@@ -245,7 +314,7 @@ fn failure_in_mid_stream(rt: HostRuntime) -> Result<(), Fail> {
     let script = "new 0\n".repeat(rt.alloc(), 4000)?;
     let answers = "done\n".repeat(rt.alloc(), 4000)?;
     let mut out = make_sink(rt.alloc(), 5000, 2);
-    let ended = play::<Unique, _, _>(rt.alloc(), script.as_bytes(), &mut out);
+    let ended = play::<Rc, _, _>(rt.alloc(), script.as_bytes(), &mut out);
     assert_eq!(rt; ended, Err(PlayFault::WriteFailed));
     assert_eq!(rt; out.failed, 1);
     assert!(rt; !out.taken.is_empty());

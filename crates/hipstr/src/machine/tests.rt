@@ -1,12 +1,12 @@
 use super::run;
-use crate::{Answer, Command, Meter, Pool, Reason, Unique};
+use crate::{Answer, Backend, Command, Kind, Meter, Pool, Rc, Reason, Unique};
+use std::alloc::Global;
 use std::ops::Bound;
+use std::process::Abort;
 use std::test::Fail;
 
-#[test]
-fn runs(rt: HostRuntime) -> Result<(), Fail> {
-    let alloc = rt.alloc();
-    let mut pool = Pool::<Unique>::new(alloc, 3)?;
+fn runs<B: Backend>(rt: &impl Abort, alloc: Global) -> Result<(), Fail> {
+    let mut pool = Pool::<B>::new(alloc, 3)?;
     let mut meter = Meter::new();
     assert_eq!(rt; pool.len(), 3);
     assert!(rt; !pool.is_empty());
@@ -23,6 +23,15 @@ fn runs(rt: HostRuntime) -> Result<(), Fail> {
         Command::Truncate(2, 4),
         Command::Len(1),
         Command::Len(2),
+        Command::Inline(0, b"ab"),
+        Command::Pop(0),
+        Command::Kind(0),
+        Command::Clear(0),
+        Command::Pop(0),
+        Command::Room(0, 42),
+        Command::Kind(0),
+        Command::Borrow(0, b"abc"),
+        Command::Capacity(0),
     ];
     let answers = run(alloc, &mut pool, &commands, &mut meter)?;
     let wanted = [
@@ -38,14 +47,30 @@ fn runs(rt: HostRuntime) -> Result<(), Fail> {
         Answer::Done,
         Answer::Number(5),
         Answer::Number(4),
+        Answer::Done,
+        Answer::Byte(98),
+        Answer::Kind(Kind::Inline),
+        Answer::Done,
+        Answer::Nothing,
+        Answer::Done,
+        Answer::Kind(Kind::Allocated),
+        Answer::Done,
+        Answer::Number(3),
     ];
     assert_eq!(rt; answers.as_slice(), wanted.as_slice());
-    let slots: [(usize, &[u8]); 3] = [(0, b""), (1, b"John!"), (2, b"John")];
+    let slots: [(usize, &[u8]); 3] = [(0, b"abc"), (1, b"John!"), (2, b"John")];
     for (i, bytes) in slots {
         let slot = pool.slot(i).ok_or("no slot")?;
         assert_eq!(rt; slot.as_bytes(), bytes);
+        assert_eq!(rt; slot.kind() == Kind::Borrowed, i == 0);
     }
     assert!(rt; pool.slot(3).is_none());
     assert!(rt; run(alloc, &mut pool, &[], &mut meter)?.is_empty());
     Ok(())
+}
+
+#[test]
+fn runs_on_either_backend(rt: HostRuntime) -> Result<(), Fail> {
+    runs::<Rc>(&rt, rt.alloc())?;
+    runs::<Unique>(&rt, rt.alloc())
 }

@@ -3,8 +3,14 @@ use Rattle.hipstr.proofs.Runs.{Run-take_more}
 use Rattle.hipstr.proofs.machine.run.Goals as goal
 
 pub loop-command-preserved : goal.loop-command-preserved
-loop-command-preserved g c = record {
-  run = Run-take_more _ _ _ _ _ _ _ _ _ c.loop-command-test.true c.loop-command.invariant.run c.perform.ensures.step c.push_reserved.ensures.items;
-  answered = omega arith;
-  room = omega arith;
-}
+loop-command-preserved g c =
+    let so_far = c.loop-command.invariant.run in
+    record {
+      run = (
+        _,
+        Run-take_more _ _ _ _ _ _ _ _ _ _ _ c.loop-command-test.true so_far.1 c.perform.ensures.step c.push_reserved.ensures.items,
+        record { never_falls = omega (arith, so_far.2.never_falls, c.perform.ensures.counted.never_falls); at_most = omega (arith, so_far.2.at_most, c.perform.ensures.counted.at_most) },
+      );
+      answered = omega arith;
+      room = omega arith;
+    }

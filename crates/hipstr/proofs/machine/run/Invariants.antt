@@ -1,11 +1,12 @@
-use Rattle.std.proofs.Common.{◌≡◌, ◌≤◌, length, take, vec_len, vec_capacity}
+use Rattle.std.proofs.Common.{◌≡◌, ◌≤◌, ℕ, length, take, vec_len, vec_capacity}
+use Rattle.hip_bytes.specs.Meter.{RisesAtMost}
 use Rattle.hipstr.specs.Run.{Run}
 use Rattle.hipstr.proofs.machine.run.Given as goal
 
--- the answers so far are those to the commands so far, and there is room for the rest
+-- the answers so far are those to the commands so far, within their cost, and there is room for the rest
 abbrev pub invariant-loop-command : goal.invariant-loop-command
 invariant-loop-command g l = record {
-  run : Run l.fn.pool (take l.command-index l.commands) l.answers.items l.pool;
+  run : (total : ℕ) × Run g.B.Backend.SHARES l.fn.pool (take l.command-index l.commands) l.answers.items l.pool total × RisesAtMost l.fn.meter l.meter total;
   answered : vec_len l.answers ≡ l.command-index;
   room : length l.commands ≤ vec_capacity l.answers;
 }

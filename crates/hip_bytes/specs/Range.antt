@@ -3,8 +3,8 @@ use Rattle.std.specs.Prelude.{◌≡◌, ℕ, List, [], ◌∷◌, length, Optio
 use Rattle.std.specs.Range.Bound.{start_index, end_index}
 use Rattle.std.specs.declared.ops.Bound.{Bound}
 use Rattle.std.specs.declared.ops.Bound.TheVariants.{Included, Excluded, Unbounded}
-use Rattle.hipstr.specs.declared.range.SliceErrorKind.{SliceErrorKind}
-use Rattle.hipstr.specs.declared.range.SliceErrorKind.TheVariants.{StartGreaterThanEnd, StartOutOfBounds, EndOutOfBounds}
+use Rattle.hip_bytes.specs.declared.slice_error.SliceErrorKind.{SliceErrorKind}
+use Rattle.hip_bytes.specs.declared.slice_error.SliceErrorKind.TheVariants.{StartGreaterThanEnd, StartOutOfBounds, EndOutOfBounds}
 
 -- why the positions from `start` up to `end` are no range of a list of `len` items: the first test that fails
 abbrev pub range_fault : ℕ → ℕ → ℕ → Option SliceErrorKind

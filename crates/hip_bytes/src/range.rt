@@ -1,24 +1,27 @@
-ghost use Rattle.std.specs.Prelude.{◌≡◌, ◌≤◌, ◌<◌, ◌^◌, MatchOption, IfOk};
+//! Ranges, over whole numbers.
+ghost use Rattle.std.specs.Prelude.{◌≡◌, ◌≤◌, ◌<◌, ◌^◌, MatchOption, IfOk, None};
 ghost use Rattle.std.specs.Option.{SomeIff};
-ghost use Rattle.std.specs.Range.Bound.{start_index, end_index};
-ghost use Rattle.hipstr.specs.Range.{slice_fault};
+ghost use Rattle.std.specs.Range.Bound.{start_index, end_index, bound_map};
+ghost use Rattle.hip_bytes.specs.Range.{slice_fault};
 
+use crate::slice_error::SliceErrorKind;
 use std::ops::Bound;
 
-/// Why a range is no range of a list of bytes.
-#[derive(Clone, Copy, Debug, PartialEq, Eq)]
-pub enum SliceErrorKind {
-    /// The start comes after the end.
-    StartGreaterThanEnd,
-    /// The start is past the length.
-    StartOutOfBounds,
-    /// The end is past the length.
-    EndOutOfBounds,
+/// A bound by value.
+#[inline]
+pub(crate) fn bound_of(bound: Bound<&usize>) -> Bound<usize>
+    ensures { result ≡ bound_map (λ number. number.now) bound.entry }
+{
+    match bound {
+        Bound::Included(number) => Bound::Included(*number),
+        Bound::Excluded(number) => Bound::Excluded(*number),
+        Bound::Unbounded => Bound::Unbounded,
+    }
 }
 
 /// The position at which a range starts, if it is a `usize`.
 #[inline]
-fn start_of(low: Bound<usize>) -> Option<usize>
+pub(crate) fn start_of(low: Bound<usize>) -> Option<usize>
     ensures { SomeIff result (start_index low < 2 ^ 64) (start_index low) }
 {
     match low {
@@ -30,7 +33,7 @@ fn start_of(low: Bound<usize>) -> Option<usize>
 
 /// The position before which a range of `len` items ends, if it is a `usize`.
 #[inline]
-fn end_of(high: Bound<usize>, len: usize) -> Option<usize>
+pub(crate) fn end_of(high: Bound<usize>, len: usize) -> Option<usize>
     ensures { SomeIff result (end_index high len < 2 ^ 64) (end_index high len) }
 {
     match high {
@@ -40,7 +43,8 @@ fn end_of(high: Bound<usize>, len: usize) -> Option<usize>
     }
 }
 
-/// The start and the end that two bounds have in a list of `len` items.
+/// The start and the end that two bounds have in a list of `len` items, or why they are no range of it.
+#[inline]
 pub(crate) fn range_of(
     low: Bound<usize>,
     high: Bound<usize>,
@@ -63,4 +67,16 @@ pub(crate) fn range_of(
         return Err(SliceErrorKind::StartGreaterThanEnd);
     }
     Ok((start, end))
+}
+
+/// The start and the end that two bounds have in a list of `len` items, of which they are a range.
+#[inline]
+pub(crate) fn sound_range(low: Bound<usize>, high: Bound<usize>, len: usize) -> (usize, usize)
+    requires { slice_fault low high len ≡ None }
+    ensures start { result.0 ≡ start_index low }
+    ensures end { result.1 ≡ end_index high len }
+    ensures ordered { result.0 ≤ result.1 }
+    ensures in_bounds { result.1 ≤ len }
+{
+    range_of(low, high, len).unwrap()
 }

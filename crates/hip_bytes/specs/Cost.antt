@@ -1,0 +1,46 @@
+-- How many bytes a call copies at most, and where it may want memory, by the kind and the length that there are.
+-- `shares` says whether owners are shared.
+use Rattle.std.specs.Prelude.{◌≡◌, ℕ, ◌<◌, Bool, true, false, if◌then◌else◌, nat_le, refl}
+use Rattle.hip_raw.specs.Meter.{unless_shared}
+use Rattle.hip_bytes.specs.declared.kind.Kind.{Kind}
+use Rattle.hip_bytes.specs.declared.kind.Kind.TheVariants.{Inline, Borrowed, Allocated}
+use Rattle.hip_bytes.specs.declared.kind.TheConstants.{INLINE_CAPACITY}
+
+-- a clone of `len` bytes
+abbrev pub clone_cost : Bool → Kind → ℕ → ℕ
+clone_cost shares Inline len = len
+clone_cost shares Borrowed len = 0
+clone_cost shares Allocated len = unless_shared shares len
+
+-- a part of `len` bytes: none from borrowed, and on a shared owner none past what a handle holds in itself
+abbrev pub cut_cost : Bool → Kind → ℕ → ℕ
+cut_cost shares Inline len = len
+cut_cost shares Borrowed len = 0
+cut_cost shares Allocated len = if nat_le len INLINE_CAPACITY then len else unless_shared shares len
+
+-- bytes that are taken over in a vector
+abbrev pub taken_cost : Bool → ℕ → ℕ
+taken_cost shares len = if nat_le len INLINE_CAPACITY then len else unless_shared shares len
+
+-- a handle that loses bytes at its end
+abbrev pub shortened_cost : Kind → ℕ
+shortened_cost Inline = 0
+shortened_cost Borrowed = 0
+shortened_cost Allocated = INLINE_CAPACITY
+
+-- a part of `len` bytes may want memory
+abbrev pub CutNeedsMemory : Kind → ℕ → Type 0
+CutNeedsMemory kind len = (kind ≡ Allocated) × (INLINE_CAPACITY < len)
+
+-- a push that leaves `len` bytes may want memory
+abbrev pub PushNeedsMemory : Kind → ℕ → Type 0
+PushNeedsMemory Inline len = INLINE_CAPACITY < len
+PushNeedsMemory Borrowed len = INLINE_CAPACITY < len
+PushNeedsMemory Allocated len = Unit {0}
+
+-- a part of 500 allocated bytes is free where owners are shared, and copied where not
+pub shared_part : cut_cost true Allocated 500 ≡ 0
+shared_part = refl
+
+pub unshared_part : cut_cost false Allocated 500 ≡ 500
+unshared_part = refl

@@ -1,0 +1,205 @@
+//! Pushes, and cuts in place.
+ghost use Rattle.std.specs.Prelude.{◌≡◌, ◌≤◌, ◌<◌, ◌+◌, ◌-◌, ◌↔◌, ◌∷◌, [], ◌++◌, length, take, IfOk, IfSome, IfNone, IsSome, OnOk, OnErr, OnSome};
+ghost use Rattle.std.specs.Option.{option_to_list};
+ghost use Rattle.hip_raw.specs.Meter.{RisesAtMost, times_copied};
+ghost use Rattle.hip_bytes.specs.Cost.{PushNeedsMemory, shortened_cost};
+ghost use Rattle.hip_bytes.specs.Repr.{handle_of};
+ghost use Rattle.hip_bytes.specs.Kinds.{by_length, cut_kind, kept_capacity, PushedKind, HasCapacity};
+
+use super::{HipByt, Repr};
+use crate::kind::INLINE_CAPACITY;
+use hip_raw::{Allocated, Appended, Backend, Inline, Meter, fill_counted};
+use std::alloc::{AllocError, Global};
+
+/// A handle of the bytes of two slices, one behind the other, by length.
+fn joined<'b, B: Backend>(
+    alloc: Global,
+    front: &[u8],
+    back: &[u8],
+    meter: &mut Meter,
+) -> Result<Repr<'b, B>, AllocError>
+    ensures items { IfOk result (λ repr. (handle_of repr).items ≡ front.now ++ back.now) }
+    ensures kind { IfOk result (λ repr. (handle_of repr).kind ≡ by_length (length front.now + length back.now)) }
+    ensures capacity { IfOk result (λ repr. HasCapacity (handle_of repr).kind (length front.now + length back.now) (handle_of repr).capacity) }
+    ensures memory { OnErr result (INLINE_CAPACITY < length front.now + length back.now) }
+    ensures counted { RisesAtMost meter.old meter.new (times_copied B.SHARES (length front.now + length back.now)) }
+{
+    let Some(len) = front.len().checked_add(back.len()) else {
+        return Err(AllocError);
+    };
+    if len <= INLINE_CAPACITY {
+        let mut inline = Inline::new_unchecked_metered(front, meter);
+        inline.push_slice_unchecked_metered(back, meter);
+        return Ok(Repr::Inline(inline));
+    }
+    let mut vec = vec![in alloc; 0; len]?;
+    let (front_room, back_room) = vec.as_mut_slice().split_at_mut(front.len());
+    fill_counted(front_room, front, meter);
+    fill_counted(back_room, back, meter);
+    match Allocated::new_metered(alloc, vec, meter) {
+        Ok(allocated) => Ok(Repr::Allocated(allocated)),
+        Err(_) => Err(AllocError),
+    }
+}
+
+impl<'b, B: Backend> HipByt<'b, B> {
+    /// Adds bytes at the end: in place where they fit the handle itself or its owner is not shared, else in a copy.
+    #[inline]
+    pub fn push_slice(&mut self, alloc: Global, addition: &[u8]) -> Result<(), AllocError>
+        ensures items { OnOk result (self.new.items ≡ self.old.items ++ addition.now) }
+        ensures kind { OnOk result (PushedKind B.SHARES self.old.kind (length self.new.items) self.new.kind) }
+        ensures capacity { OnOk result (HasCapacity self.new.kind (length self.new.items) self.new.capacity) }
+        ensures memory { OnErr result (PushNeedsMemory self.old.kind (length self.old.items + length addition.now)) }
+        ensures err { OnErr result (self.new ≡ self.old) }
+    {
+        self.push_slice_metered(alloc, addition, &mut Meter::new())
+    }
+
+    /// [`HipByt::push_slice`], counted.
+    #[inline]
+    pub fn push_slice_metered(
+        &mut self,
+        alloc: Global,
+        addition: &[u8],
+        meter: &mut Meter,
+    ) -> Result<(), AllocError>
+        ensures items { OnOk result (self.new.items ≡ self.old.items ++ addition.now) }
+        ensures kind { OnOk result (PushedKind B.SHARES self.old.kind (length self.new.items) self.new.kind) }
+        ensures capacity { OnOk result (HasCapacity self.new.kind (length self.new.items) self.new.capacity) }
+        ensures memory { OnErr result (PushNeedsMemory self.old.kind (length self.old.items + length addition.now)) }
+        ensures counted { RisesAtMost meter.old meter.new (times_copied B.SHARES (length self.old.items + length addition.now)) }
+        ensures err { OnErr result (self.new ≡ self.old) }
+    {
+        match &mut self.repr {
+            Repr::Inline(inline) if addition.len() <= INLINE_CAPACITY - inline.len() => {
+                inline.push_slice_unchecked_metered(addition, meter);
+                return Ok(());
+            }
+            Repr::Allocated(allocated) => {
+                match allocated.push_slice_metered(alloc, addition, meter) {
+                    Appended::Done => return Ok(()),
+                    Appended::Memory => return Err(AllocError),
+                    Appended::Shared => {}
+                }
+            }
+            _ => {}
+        }
+        self.repr = joined(alloc, self.as_slice(), addition, meter)?;
+        Ok(())
+    }
+
+    /// Adds a byte at the end.
+    #[inline]
+    pub fn push(&mut self, alloc: Global, byte: u8) -> Result<(), AllocError>
+        ensures items { OnOk result (self.new.items ≡ self.old.items ++ byte ∷ []) }
+        ensures kind { OnOk result (PushedKind B.SHARES self.old.kind (length self.new.items) self.new.kind) }
+        ensures capacity { OnOk result (HasCapacity self.new.kind (length self.new.items) self.new.capacity) }
+        ensures memory { OnErr result (PushNeedsMemory self.old.kind (length self.old.items + 1)) }
+        ensures err { OnErr result (self.new ≡ self.old) }
+    {
+        self.push_slice(alloc, &[byte])
+    }
+
+    /// [`HipByt::push`], counted.
+    #[inline]
+    pub fn push_metered(
+        &mut self,
+        alloc: Global,
+        byte: u8,
+        meter: &mut Meter,
+    ) -> Result<(), AllocError>
+        ensures items { OnOk result (self.new.items ≡ self.old.items ++ byte ∷ []) }
+        ensures kind { OnOk result (PushedKind B.SHARES self.old.kind (length self.new.items) self.new.kind) }
+        ensures capacity { OnOk result (HasCapacity self.new.kind (length self.new.items) self.new.capacity) }
+        ensures memory { OnErr result (PushNeedsMemory self.old.kind (length self.old.items + 1)) }
+        ensures counted { RisesAtMost meter.old meter.new (times_copied B.SHARES (length self.old.items + 1)) }
+        ensures err { OnErr result (self.new ≡ self.old) }
+    {
+        self.push_slice_metered(alloc, &[byte], meter)
+    }
+
+    /// Keeps the first bytes, as many as are told, or all where there are no more.
+    #[inline]
+    pub fn truncate(&mut self, len: usize)
+        ensures items { self.new.items ≡ take len self.old.items }
+        ensures kind { len < length self.old.items → self.new.kind ≡ cut_kind self.old.kind len }
+        ensures capacity { len < length self.old.items → self.new.capacity ≡ kept_capacity self.old.kind len self.old.capacity }
+        ensures unchanged { length self.old.items ≤ len → self.new ≡ self.old }
+    {
+        self.truncate_metered(len, &mut Meter::new());
+    }
+
+    /// [`HipByt::truncate`], counted.
+    #[inline]
+    pub fn truncate_metered(&mut self, len: usize, meter: &mut Meter)
+        ensures items { self.new.items ≡ take len self.old.items }
+        ensures kind { len < length self.old.items → self.new.kind ≡ cut_kind self.old.kind len }
+        ensures capacity { len < length self.old.items → self.new.capacity ≡ kept_capacity self.old.kind len self.old.capacity }
+        ensures unchanged { length self.old.items ≤ len → self.new ≡ self.old }
+        ensures counted { RisesAtMost meter.old meter.new (shortened_cost self.old.kind) }
+    {
+        match &mut self.repr {
+            Repr::Inline(inline) => inline.truncate(len),
+            Repr::Borrowed(borrowed) => borrowed.truncate(len),
+            Repr::Allocated(allocated) if len >= allocated.len() => {}
+            Repr::Allocated(allocated) if len > INLINE_CAPACITY => allocated.truncate(len),
+            Repr::Allocated(allocated) => {
+                let inline = Inline::new_unchecked_metered(&allocated.as_slice()[..len], meter);
+                self.repr = Repr::Inline(inline);
+            }
+        }
+    }
+
+    /// Lets go of all bytes.
+    #[inline]
+    pub fn clear(&mut self)
+        ensures items { self.new.items ≡ [] }
+        ensures kind { 0 < length self.old.items → self.new.kind ≡ cut_kind self.old.kind 0 }
+        ensures capacity { 0 < length self.old.items → self.new.capacity ≡ kept_capacity self.old.kind 0 self.old.capacity }
+        ensures unchanged { self.old.items ≡ [] → self.new ≡ self.old }
+    {
+        self.clear_metered(&mut Meter::new());
+    }
+
+    /// [`HipByt::clear`], counted.
+    #[inline]
+    pub fn clear_metered(&mut self, meter: &mut Meter)
+        ensures items { self.new.items ≡ [] }
+        ensures kind { 0 < length self.old.items → self.new.kind ≡ cut_kind self.old.kind 0 }
+        ensures capacity { 0 < length self.old.items → self.new.capacity ≡ kept_capacity self.old.kind 0 self.old.capacity }
+        ensures unchanged { self.old.items ≡ [] → self.new ≡ self.old }
+        ensures counted { RisesAtMost meter.old meter.new (shortened_cost self.old.kind) }
+    {
+        self.truncate_metered(0, meter);
+    }
+
+    /// Takes the last byte off.
+    #[inline]
+    pub fn pop(&mut self) -> Option<u8>
+        ensures items { self.old.items ≡ self.new.items ++ option_to_list result }
+        ensures some { IsSome result ↔ (0 < length self.old.items) }
+        ensures kind { OnSome result (self.new.kind ≡ cut_kind self.old.kind (length self.new.items)) }
+        ensures capacity { OnSome result (self.new.capacity ≡ kept_capacity self.old.kind (length self.new.items) self.old.capacity) }
+        ensures empty { IfNone result (self.old.items ≡ []) }
+        ensures none { IfNone result (self.new ≡ self.old) }
+    {
+        self.pop_metered(&mut Meter::new())
+    }
+
+    /// [`HipByt::pop`], counted.
+    #[inline]
+    pub fn pop_metered(&mut self, meter: &mut Meter) -> Option<u8>
+        ensures items { self.old.items ≡ self.new.items ++ option_to_list result }
+        ensures some { IsSome result ↔ (0 < length self.old.items) }
+        ensures kind { OnSome result (self.new.kind ≡ cut_kind self.old.kind (length self.new.items)) }
+        ensures capacity { OnSome result (self.new.capacity ≡ kept_capacity self.old.kind (length self.new.items) self.old.capacity) }
+        ensures empty { IfNone result (self.old.items ≡ []) }
+        ensures none { IfNone result (self.new ≡ self.old) }
+        ensures counted { RisesAtMost meter.old meter.new (shortened_cost self.old.kind) }
+    {
+        let (last, rest) = self.as_slice().split_last()?;
+        let (last, len) = (*last, rest.len());
+        self.truncate_metered(len, meter);
+        Some(last)
+    }
+}

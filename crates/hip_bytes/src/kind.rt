@@ -1,0 +1,13 @@
+/// How many bytes a handle holds in itself at most.
+pub const INLINE_CAPACITY: usize = 23;
+
+/// Where the bytes of a handle lie.
+#[derive(Clone, Copy, Debug, PartialEq, Eq)]
+pub enum Kind {
+    /// In the handle itself.
+    Inline,
+    /// With another value, which outlives the handle.
+    Borrowed,
+    /// With an owner, which other handles may share.
+    Allocated,
+}

@@ -1,0 +1,24 @@
+//! Byte strings: **a handle is a list of bytes with a kind and a capacity, and each call says what it makes of them, when memory
+//! may be wanted, and how many bytes it copies.**
+//!
+//! - [`HipByt`] is the handle, generic in the [`Backend`] that owns what doesn't fit the handle itself: [`Rc`] shares owners,
+//!   [`Unique`] doesn't.
+//! - [`Kind`] says where the bytes of a handle lie.
+//! - [`SliceError`] says why a range is none of a handle's bytes, [`SliceRefusal`] why a call gave no slice.
+//!
+//! A call that copies has a form with the suffix `_metered` and a last argument `&mut Meter`; the plain call is that form with a
+//! fresh meter. A call that may want memory takes the allocator first, and a refused one changes nothing.
+//!
+//! The words of the contracts stand in `specs/`: `Handle` (a handle as clauses see it), `Kinds` (the kind and the capacity that a call
+//! gives), `Cost` (what it copies, and where it may want memory), `Range`, `Slice` and `SliceError` (ranges and their faults).
+#![tactic(auto)]
+
+mod hip_byt;
+mod kind;
+mod range;
+mod slice_error;
+
+pub use hip_byt::HipByt;
+pub use hip_raw::{Backend, Meter, Rc, Unique};
+pub use kind::{INLINE_CAPACITY, Kind};
+pub use slice_error::{SliceError, SliceErrorKind, SliceRefusal};

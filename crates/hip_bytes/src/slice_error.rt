@@ -1,0 +1,151 @@
+//! Why a range wasn't sliced.
+ghost use Rattle.std.specs.Prelude.{◌≡◌, length, Some};
+ghost use Rattle.hip_bytes.specs.SliceError.{error_kind, error_start, error_end, error_source, slice_error_text};
+
+use crate::hip_byt::HipByt;
+use hip_raw::Backend;
+use std::alloc::AllocError;
+use std::error::Error;
+use std::fmt;
+use std::ops::Range;
+
+/// Which test a range failed. The tests have this order: the start against the length, the end against the length, the start
+/// against the end.
+#[derive(Clone, Copy, Debug, PartialEq, Eq)]
+pub enum SliceErrorKind {
+    /// The start comes after the end.
+    StartGreaterThanEnd,
+    /// The start is past the length.
+    StartOutOfBounds,
+    /// The end is past the length.
+    EndOutOfBounds,
+}
+
+/// A range that is none of a handle's bytes, and the handle.
+pub struct SliceError<'a, 'b, B: Backend> {
+    kind: SliceErrorKind,
+    start: usize,
+    end: usize,
+    source: &'a HipByt<'b, B>,
+}
+
+impl<'a, 'b, B: Backend> SliceError<'a, 'b, B> {
+    #[inline]
+    pub(crate) fn new(
+        kind: SliceErrorKind,
+        start: usize,
+        end: usize,
+        source: &'a HipByt<'b, B>,
+    ) -> Self
+        ensures kind { error_kind result ≡ kind }
+        ensures start { error_start result ≡ start }
+        ensures end { error_end result ≡ end }
+        ensures source { error_source result ≡ source.now }
+    {
+        SliceError {
+            kind,
+            start,
+            end,
+            source,
+        }
+    }
+
+    /// Which test failed.
+    #[inline]
+    pub fn kind(&self) -> SliceErrorKind
+        ensures { result ≡ error_kind self.now }
+    {
+        self.kind
+    }
+
+    /// Where the range starts. A start past `usize::MAX` is told as `usize::MAX`.
+    #[inline]
+    pub fn start(&self) -> usize
+        ensures { result ≡ error_start self.now }
+    {
+        self.start
+    }
+
+    /// Where the range ends, not included. An end past `usize::MAX` is told as `usize::MAX`.
+    #[inline]
+    pub fn end(&self) -> usize
+        ensures { result ≡ error_end self.now }
+    {
+        self.end
+    }
+
+    /// From the start to the end.
+    #[inline]
+    pub fn range(&self) -> Range<usize>
+        ensures start { result.start ≡ error_start self.now }
+        ensures end { result.end ≡ error_end self.now }
+    {
+        self.start..self.end
+    }
+
+    /// The value that was to be sliced.
+    #[inline]
+    pub fn source(&self) -> &'a HipByt<'b, B>
+        ensures { result.now ≡ error_source self.now }
+    {
+        self.source
+    }
+}
+
+impl<'a, 'b, B: Backend> Clone for SliceError<'a, 'b, B> {
+    ghost is_clone = { λ error copy. copy ≡ error };
+
+    fn clone(&self) -> Result<Self, AllocError> {
+        Ok(*self)
+    }
+}
+
+impl<'a, 'b, B: Backend> Copy for SliceError<'a, 'b, B> {}
+
+impl<'a, 'b, B: Backend> fmt::Display for SliceError<'a, 'b, B> {
+    ghost output = { λ error. Some (slice_error_text (error_kind error) (error_start error) (error_end error) (length (error_source error).items)) };
+
+    fn fmt<W: fmt::Write>(&self, f: &mut fmt::Formatter<W>) -> fmt::Result {
+        let (start, end) = (self.start, self.end);
+        let len = self.source.len();
+        match self.kind {
+            SliceErrorKind::StartGreaterThanEnd => {
+                write!(f, "range starts at {start} but ends at {end}")
+            }
+            SliceErrorKind::StartOutOfBounds => {
+                write!(
+                    f,
+                    "range start index {start} out of bounds for slice of length {len}"
+                )
+            }
+            SliceErrorKind::EndOutOfBounds => {
+                write!(
+                    f,
+                    "range end index {end} out of bounds for slice of length {len}"
+                )
+            }
+        }
+    }
+}
+
+impl<'a, 'b, B: Backend> fmt::Debug for SliceError<'a, 'b, B> {
+    fn fmt<W: fmt::Write>(&self, f: &mut fmt::Formatter<W>) -> fmt::Result {
+        f.debug_struct("SliceError")
+            .field("kind", &self.kind)
+            .field("start", &self.start)
+            .field("end", &self.end)
+            .field("bytes", &self.source.as_slice())
+            .finish()
+    }
+}
+
+impl<'a, 'b, B: Backend> Error for SliceError<'a, 'b, B> {}
+
+/// Why a call that slices gave no slice.
+#[derive(Clone, Copy, Debug)]
+pub enum SliceRefusal<'a, 'b, B: Backend> {
+    /// The range is none of the bytes.
+    Slice(SliceError<'a, 'b, B>),
+    /// Memory ran out, or an owner couldn't be shared once more.
+    Memory,
+}

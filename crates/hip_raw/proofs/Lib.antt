@@ -1,0 +1,2 @@
+mod CellsMemory
+pub mod Windows

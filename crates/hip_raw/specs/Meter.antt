@@ -1,0 +1,35 @@
+-- What calls copy. A meter counts bytes in 128 bits and stays at its greatest number, so a contract says by how much it
+-- rises at most.
+use Rattle.std.specs.Prelude.{◌≡◌, ℕ, ◌+◌, ◌-◌, ◌^◌, ◌≤◌, min, Bool, true, false, refl}
+
+-- a meter that stood at `old` stands at `new`: it has not fallen, and has risen by `most` at most
+pub record RisesAtMost (old new most : ℕ) : Type 0 where
+  pub never_falls : old ≤ new
+  pub at_most : new ≤ old + most
+
+-- where a meter stands that stood at `old` and counted `n` bytes more (Rust's `saturating_add` of `u128`)
+abbrev pub count_from : ℕ → ℕ → ℕ
+count_from old n = min (old + n) (2 ^ 128 - 1)
+
+pub count_from-small : count_from 40 2 ≡ 42
+count_from-small = refl
+
+pub count_from-full : count_from (2 ^ 128 - 2) 5 ≡ 2 ^ 128 - 1
+count_from-full = refl
+
+-- the bytes that are copied where an owner can't be shared: none where it can
+abbrev pub unless_shared : Bool → ℕ → ℕ
+unless_shared true n = 0
+unless_shared false n = n
+
+pub unless_shared-examples : (unless_shared true 42 ≡ 0) × (unless_shared false 42 ≡ 42)
+unless_shared-examples = (refl, refl)
+
+-- `n` bytes that go into a new vector and then into its owner: where owners can't be shared, the second step may copy
+-- them once more
+abbrev pub times_copied : Bool → ℕ → ℕ
+times_copied true n = n
+times_copied false n = n + n
+
+pub times_copied-examples : (times_copied true 24 ≡ 24) × (times_copied false 24 ≡ 48)
+times_copied-examples = (refl, refl)

@@ -1,0 +1,36 @@
+//! The lowest layer of hipstr: **an owner is a list of bytes and a capacity, and every byte that is copied is counted.**
+//!
+//! - [`Meter`] counts copied bytes. [`fill_counted`] is the one function that copies them. By it [`extend_counted`] appends to a vector,
+//!   and [`copy_counted`] and [`copy_with_capacity`] make one.
+//! - [`Backend`] is what an owner promises, to this crate and to any other implementor: [`Rc`], which many handles share, and
+//!   [`Unique`], which has one. A sole owner lends a [`Room`], and an append answers [`Appended`].
+//! - [`Inline`], [`Borrowed`] and [`Allocated`] are the three representations of a byte string: in the handle itself, lent by
+//!   another value, or a range of an owner's list.
+//!
+//! A call that copies has a form with the suffix `_metered` and a last argument `&mut Meter`; the plain call is that form with a fresh
+//! meter. A call that takes memory on some backend is passed the allocator first, and a refused one changes nothing.
+//!
+//! The words of the contracts stand in `specs/`: `Held` (what a contract sees of an owner and of an allocated handle), `Meter` (what is
+//! copied), `Window` (a part of a list), `Appended` (facts by the answer of an append), `Allocated` (what holds of a handle's range),
+//! `Borrowed` and `Inline`.
+#![tactic(auto)]
+
+mod allocated;
+mod appended;
+mod backend;
+mod borrowed;
+mod inline;
+mod meter;
+mod rc;
+#[cfg(test)]
+mod tests;
+mod unique;
+
+pub use allocated::Allocated;
+pub use appended::Appended;
+pub use backend::{Backend, Room};
+pub use borrowed::Borrowed;
+pub use inline::Inline;
+pub use meter::{Meter, copy_counted, copy_with_capacity, extend_counted, fill_counted};
+pub use rc::Rc;
+pub use unique::Unique;

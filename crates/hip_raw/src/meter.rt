@@ -1,0 +1,123 @@
+//! The meter, and the one function that copies bytes.
+ghost use Rattle.std.specs.Prelude.{◌≡◌, ◌+◌, ◌^◌, ◌<◌, ◌≤◌, ◌++◌, length, vec_len, vec_capacity, IfOk, IsOk, OnOk, OnErr};
+ghost use Rattle.hip_raw.specs.Meter.{RisesAtMost, count_from};
+
+use std::alloc::{AllocError, Global};
+use std::marker::Model;
+
+/// Counts the bytes that are copied. Only this crate raises it, and it stays at `u128::MAX`.
+#[derive(Debug, Drop)]
+pub struct Meter {
+    copied: u128,
+}
+
+impl Model for Meter {
+    ghost use Rattle.std.specs.Prelude.{ℕ, ◌<◌, ◌^◌};
+
+    ghost Value = { ℕ };
+
+    ghost view = { λ m. m.copied };
+
+    ghost invariant = { λ m. m.copied < 2 ^ 128 };
+}
+
+impl Meter {
+    /// A meter that has counted nothing.
+    #[inline]
+    pub fn new() -> Self
+        ensures { result ≡ 0 }
+    {
+        Meter { copied: 0 }
+    }
+
+    /// How many bytes were counted.
+    #[inline]
+    pub fn copied(&self) -> u128
+        ensures { result ≡ self.now }
+    {
+        self.copied
+    }
+
+    #[inline]
+    pub(crate) fn count(&mut self, bytes: usize)
+        ensures counted { RisesAtMost self.old self.new bytes }
+        ensures exact { self.new ≡ count_from self.old bytes }
+    {
+        self.copied = self.copied.saturating_add(bytes as u128);
+    }
+}
+
+impl Default for Meter {
+    ghost is_default = { λ meter. meter ≡ 0 };
+
+    #[inline]
+    fn default() -> Self {
+        Self::new()
+    }
+}
+
+/// Copies `from` over `to` and counts its bytes. It is the one function of the product that copies bytes.
+#[inline]
+pub fn fill_counted(to: &mut [u8], from: &[u8], meter: &mut Meter)
+    requires { length to.old ≡ length from.now }
+    ensures items { to.new ≡ from.now }
+    ensures counted { RisesAtMost meter.old meter.new (length from.now) }
+    ensures exact { meter.new ≡ count_from meter.old (length from.now) }
+{
+    to.copy_from_slice(from);
+    meter.count(from.len());
+}
+
+/// Appends these bytes to a vector. The new room is made of zeros and then filled. A refused vector stays as it was.
+#[inline]
+pub fn extend_counted(
+    vec: &mut Vec<u8>,
+    addition: &[u8],
+    meter: &mut Meter,
+) -> Result<(), AllocError>
+    ensures items { OnOk result (vec.new.items ≡ vec.old.items ++ addition.now) }
+    ensures capacity { vec_capacity vec.old ≤ vec_capacity vec.new }
+    ensures counted { RisesAtMost meter.old meter.new (length addition.now) }
+    ensures exact { OnOk result (meter.new ≡ count_from meter.old (length addition.now)) }
+    ensures memory { OnErr result (vec_capacity vec.old < vec_len vec.old + length addition.now) }
+    ensures succeeds { vec_len vec.old + length addition.now ≤ vec_capacity vec.old → IsOk result }
+    ensures err { OnErr result
+        ((vec.new.items ≡ vec.old.items) × (vec_capacity vec.new ≡ vec_capacity vec.old)) }
+    ensures refused_copies_nothing { OnErr result (meter.new ≡ meter.old) }
+{
+    let start = vec.len();
+    vec.try_reserve(addition.len())?;
+    vec.resize(start + addition.len(), 0).unwrap();
+    fill_counted(vec.slice_mut(start..), addition, meter);
+    Ok(())
+}
+
+/// A new vector of these bytes.
+#[inline]
+pub fn copy_counted(alloc: Global, bytes: &[u8], meter: &mut Meter) -> Result<Vec<u8>, AllocError>
+    ensures items { IfOk result (λ vec. vec.items ≡ bytes.now) }
+    ensures counted { RisesAtMost meter.old meter.new (length bytes.now) }
+    ensures exact { OnOk result (meter.new ≡ count_from meter.old (length bytes.now)) }
+    ensures refused_copies_nothing { OnErr result (meter.new ≡ meter.old) }
+{
+    copy_with_capacity(alloc, bytes, bytes.len(), meter)
+}
+
+/// A new vector of these bytes with room for `capacity`.
+#[inline]
+pub fn copy_with_capacity(
+    alloc: Global,
+    bytes: &[u8],
+    capacity: usize,
+    meter: &mut Meter,
+) -> Result<Vec<u8>, AllocError>
+    ensures items { IfOk result (λ vec. vec.items ≡ bytes.now) }
+    ensures capacity { IfOk result (λ vec. capacity ≤ vec_capacity vec) }
+    ensures counted { RisesAtMost meter.old meter.new (length bytes.now) }
+    ensures exact { OnOk result (meter.new ≡ count_from meter.old (length bytes.now)) }
+    ensures refused_copies_nothing { OnErr result (meter.new ≡ meter.old) }
+{
+    let mut vec = Vec::with_capacity(alloc, capacity)?;
+    extend_counted(&mut vec, bytes, meter)?;
+    Ok(vec)
+}
