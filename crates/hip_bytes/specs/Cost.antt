@@ -1,7 +1,7 @@
 -- How many bytes a call copies at most, and where it may want memory, by the kind and the length that there are.
 -- `shares` says whether owners are shared.
 use Rattle.std.specs.Prelude.{◌≡◌, ℕ, ◌<◌, Bool, true, false, if◌then◌else◌, nat_le, refl}
-use Rattle.hip_raw.specs.Meter.{unless_shared}
+use Rattle.hip_raw.specs.Meter.{unless_shared, times_copied}
 use Rattle.hip_bytes.specs.declared.kind.Kind.{Kind}
 use Rattle.hip_bytes.specs.declared.kind.Kind.TheVariants.{Inline, Borrowed, Allocated}
 use Rattle.hip_bytes.specs.declared.kind.TheConstants.{INLINE_CAPACITY}
@@ -28,6 +28,25 @@ shortened_cost Inline = 0
 shortened_cost Borrowed = 0
 shortened_cost Allocated = INLINE_CAPACITY
 
+-- a handle that gives room back
+abbrev pub shrink_cost : Bool → Kind → ℕ → ℕ
+shrink_cost shares Inline len = 0
+shrink_cost shares Borrowed len = 0
+shrink_cost shares Allocated len = times_copied shares len
+
+-- bytes that are made the handle's own, where another value lends them
+abbrev pub owned_cost : Bool → Kind → ℕ → ℕ
+owned_cost shares Inline len = 0
+owned_cost shares Borrowed len = times_copied shares len
+owned_cost shares Allocated len = 0
+
+-- bytes that are written over: what is lent or may be shared is copied first
+abbrev pub write_cost : Bool → Kind → ℕ → ℕ
+write_cost shares Inline len = 0
+write_cost shares Borrowed len = times_copied shares len
+write_cost true Allocated len = len
+write_cost false Allocated len = 0
+
 -- a part of `len` bytes may want memory
 abbrev pub CutNeedsMemory : Kind → ℕ → Type 0
 CutNeedsMemory kind len = (kind ≡ Allocated) × (INLINE_CAPACITY < len)
@@ -37,6 +56,22 @@ abbrev pub PushNeedsMemory : Kind → ℕ → Type 0
 PushNeedsMemory Inline len = INLINE_CAPACITY < len
 PushNeedsMemory Borrowed len = INLINE_CAPACITY < len
 PushNeedsMemory Allocated len = Unit {0}
+
+-- bytes that are made the handle's own may want memory
+abbrev pub OwnNeedsMemory : Kind → ℕ → Type 0
+OwnNeedsMemory kind len = (kind ≡ Borrowed) × (INLINE_CAPACITY < len)
+
+-- bytes that are written over may want memory
+abbrev pub WriteNeedsMemory : Bool → Kind → ℕ → Type 0
+WriteNeedsMemory shares Inline len = ⊥
+WriteNeedsMemory shares Borrowed len = INLINE_CAPACITY < len
+WriteNeedsMemory shares Allocated len = shares ≡ true
+
+-- a copy of the bytes with the same kind, but of lent ones by length, may want memory
+abbrev pub CopyNeedsMemory : Kind → ℕ → Type 0
+CopyNeedsMemory Inline len = ⊥
+CopyNeedsMemory Borrowed len = INLINE_CAPACITY < len
+CopyNeedsMemory Allocated len = Unit {0}
 
 -- a part of 500 allocated bytes is free where owners are shared, and copied where not
 pub shared_part : cut_cost true Allocated 500 ≡ 0

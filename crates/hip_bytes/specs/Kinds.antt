@@ -14,6 +14,12 @@ cut_kind Inline len = Inline
 cut_kind Borrowed len = Borrowed
 cut_kind Allocated len = by_length len
 
+-- the kind of a handle that doesn't depend on the value that lent its bytes
+abbrev pub owned_kind : Kind → ℕ → Kind
+owned_kind Inline len = Inline
+owned_kind Borrowed len = by_length len
+owned_kind Allocated len = Allocated
+
 -- the kinds that a handle of a kind may have after a push that leaves it `len` bytes: what is allocated stays so, but where
 -- owners are shared a short one may have become inline; any other goes by length
 abbrev pub PushedKind : Bool → Kind → ℕ → Kind → Type 0

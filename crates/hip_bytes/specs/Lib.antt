@@ -1,5 +1,7 @@
 pub mod Cost
+pub mod Gathering
 pub mod Handle
+pub mod Join
 pub mod Kinds
 pub mod Range
 pub mod Repr

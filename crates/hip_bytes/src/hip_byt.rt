@@ -5,12 +5,17 @@ use crate::kind::{INLINE_CAPACITY, Kind};
 use hip_raw::{Allocated, Backend, Borrowed, Inline};
 use std::marker::Model;
 
+mod build;
+mod compare;
+mod convert;
 mod cuts;
 mod growth;
+mod join;
 mod make;
 #[cfg(test)]
 mod tests;
 mod views;
+mod write;
 
 /// Where the bytes of a handle lie.
 #[derive(Drop)]
@@ -20,13 +25,19 @@ enum Repr<'b, B: Backend> {
     Allocated(Allocated<B>),
 }
 
+/// The same in a struct, from which a `&mut` can be lent.
+#[derive(Drop)]
+struct Bare<'b, B: Backend> {
+    repr: Repr<'b, B>,
+}
+
 /// A string of bytes that is cheap to clone and to cut.
 ///
 /// Up to [`INLINE_CAPACITY`] bytes lie in the handle itself, a borrowed value lends its bytes, and longer ones lie with an owner,
 /// which on [`Rc`](hip_raw::Rc) many handles share.
 #[derive(Drop)]
 pub struct HipByt<'b, B: Backend> {
-    repr: Repr<'b, B>,
+    bare: Bare<'b, B>,
 }
 
 impl<'b, B: Backend> Model for HipByt<'b, B> {
@@ -36,5 +47,26 @@ impl<'b, B: Backend> Model for HipByt<'b, B> {
 
     ghost use Rattle.hip_bytes.specs.Repr.{handle_of};
 
-    ghost view = { λ h. handle_of h.repr };
+    ghost view = { λ h. handle_of h.bare.repr };
+}
+
+impl<'b, B: Backend> HipByt<'b, B> {
+    ghost use Rattle.std.specs.Prelude.{◌≡◌};
+    ghost use Rattle.hip_bytes.specs.Repr.{handle_of};
+
+    #[inline]
+    fn of(repr: Repr<'b, B>) -> Self
+        ensures { result ≡ handle_of repr.entry }
+    {
+        HipByt { bare: Bare { repr } }
+    }
+
+    #[inline]
+    pub(crate) fn from_inline(inline: Inline<INLINE_CAPACITY>) -> Self
+        ensures items { result.items ≡ inline }
+        ensures kind { result.kind ≡ Kind.Inline }
+        ensures capacity { result.capacity ≡ INLINE_CAPACITY }
+    {
+        HipByt::of(Repr::Inline(inline))
+    }
 }

@@ -13,11 +13,14 @@
 //! gives), `Cost` (what it copies, and where it may want memory), `Range`, `Slice` and `SliceError` (ranges and their faults).
 #![tactic(auto)]
 
+mod gathering;
+mod grow_fault;
 mod hip_byt;
 mod kind;
 mod range;
 mod slice_error;
 
+pub use grow_fault::GrowFault;
 pub use hip_byt::HipByt;
 pub use hip_raw::{Backend, Meter, Rc, Unique};
 pub use kind::{INLINE_CAPACITY, Kind};

@@ -183,7 +183,7 @@ impl<B: Backend> Allocated<B> {
     }
 
     /// [`Allocated::push_slice`], counted.
-    #[inline]
+    #[inline(always)]
     pub fn push_slice_metered(
         &mut self,
         alloc: Global,

@@ -232,7 +232,7 @@ pub(crate) fn cut<B: Backend>(owner: &mut B, len: usize)
 }
 
 // Cuts the vector to `keep` bytes and puts the addition behind them. Room is taken first, so a refusal changes nothing.
-#[inline]
+#[inline(always)]
 pub(crate) fn append_to(
     vec: &mut Vec<u8>,
     keep: usize,

@@ -5,18 +5,16 @@ ghost use Rattle.hip_raw.specs.Meter.{RisesAtMost, count_from};
 
 use crate::meter::{Meter, fill_counted};
 use cells::Cells;
-use length::Length;
 use std::alloc::AllocError;
 use std::marker::Model;
 
 mod cells;
-mod length;
 
 /// At most `N` bytes, which lie in the value itself.
 #[derive(Drop)]
 pub struct Inline<const N: usize> {
     cells: Cells<u8, N>,
-    len: Length,
+    len: usize,
 }
 
 impl<const N: usize> Model for Inline<N> {
@@ -37,10 +35,7 @@ impl<const N: usize> Inline<N> {
     pub fn empty() -> Self
         ensures { result ≡ [] }
     {
-        Inline {
-            cells: Cells { items: [0; N] },
-            len: Length::new(0),
-        }
+        Self::zeroed(0)
     }
 
     /// So many zeros.
@@ -51,7 +46,7 @@ impl<const N: usize> Inline<N> {
     {
         Inline {
             cells: Cells { items: [0; N] },
-            len: Length::new(len),
+            len,
         }
     }
 
@@ -106,7 +101,7 @@ impl<const N: usize> Inline<N> {
         ensures len { result ≡ length self.now }
         ensures within { result ≤ N }
     {
-        self.len.get()
+        self.len
     }
 
     /// Whether there is no byte.
@@ -114,7 +109,7 @@ impl<const N: usize> Inline<N> {
     pub fn is_empty(&self) -> bool
         ensures { result ≡ (length self.now == 0) }
     {
-        self.len.get() == 0
+        self.len == 0
     }
 
     /// How many bytes it can hold, which is `N`.
@@ -134,7 +129,7 @@ impl<const N: usize> Inline<N> {
         ensures items { result.now ≡ self.now }
         ensures within { length self.now ≤ N }
     {
-        &self.cells.items[..self.len.get()]
+        &self.cells.items[..self.len]
     }
 
     /// The bytes, for writing.
@@ -143,8 +138,7 @@ impl<const N: usize> Inline<N> {
         ensures* writes_back { sem 𝓛 (LendsBytes N.row self.entry result) }
         ensures items { result.now ≡ self.old }
     {
-        let len = self.len.get();
-        self.cells.front_mut(len)
+        self.cells.front_mut(self.len)
     }
 
     /// Appends these bytes, for which there is room.
@@ -163,11 +157,11 @@ impl<const N: usize> Inline<N> {
         ensures items { self.new ≡ self.old ++ addition.now }
         ensures counted { RisesAtMost meter.old meter.new (length addition.now) }
     {
-        let start = self.len.get();
+        let start = self.len;
         let end = start + addition.len();
         let room = &mut self.cells.items[..];
         fill_counted(&mut room[start..end], addition, meter);
-        self.len = Length::new(end);
+        self.len = end;
     }
 
     /// Keeps the first `len` bytes, or all where there are fewer. It copies nothing.
@@ -175,8 +169,8 @@ impl<const N: usize> Inline<N> {
     pub fn truncate(&mut self, len: usize)
         ensures { self.new ≡ take len self.old }
     {
-        if len < self.len.get() {
-            self.len = Length::new(len);
+        if len < self.len {
+            self.len = len;
         }
     }
 
@@ -187,12 +181,12 @@ impl<const N: usize> Inline<N> {
         ensures counted { RisesAtMost meter.old meter.new (length self.now) }
         ensures exact { meter.new ≡ count_from meter.old (length self.now) }
     {
-        meter.count(self.len.get());
+        meter.count(self.len);
         Inline {
             cells: Cells {
                 items: self.cells.items,
             },
-            len: Length::new(self.len.get()),
+            len: self.len,
         }
     }
 }

@@ -31,6 +31,8 @@ pub use appended::Appended;
 pub use backend::{Backend, Room};
 pub use borrowed::Borrowed;
 pub use inline::Inline;
-pub use meter::{Meter, copy_counted, copy_with_capacity, extend_counted, fill_counted};
+pub use meter::{
+    Meter, copy_counted, copy_with_capacity, extend_counted, extend_within, fill_counted,
+};
 pub use rc::Rc;
 pub use unique::Unique;

@@ -92,6 +92,18 @@ pub fn extend_counted(
     Ok(())
 }
 
+/// Appends these bytes to a vector that has room for them.
+#[inline]
+pub fn extend_within(vec: &mut Vec<u8>, addition: &[u8], meter: &mut Meter)
+    requires { vec_len vec.old + length addition.now ≤ vec_capacity vec.old }
+    ensures items { vec.new.items ≡ vec.old.items ++ addition.now }
+    ensures capacity { vec_capacity vec.old ≤ vec_capacity vec.new }
+    ensures counted { RisesAtMost meter.old meter.new (length addition.now) }
+    ensures exact { meter.new ≡ count_from meter.old (length addition.now) }
+{
+    extend_counted(vec, addition, meter).unwrap();
+}
+
 /// A new vector of these bytes.
 #[inline]
 pub fn copy_counted(alloc: Global, bytes: &[u8], meter: &mut Meter) -> Result<Vec<u8>, AllocError>

@@ -74,7 +74,7 @@ impl Backend for Rc {
         rc::Rc::get_mut(&mut self.vec)
     }
 
-    #[inline]
+    #[inline(always)]
     fn append(
         &mut self,
         _alloc: Global,

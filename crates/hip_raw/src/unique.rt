@@ -67,7 +67,7 @@ impl Backend for Unique {
         Some(&mut self.vec)
     }
 
-    #[inline]
+    #[inline(always)]
     fn append(
         &mut self,
         _alloc: Global,

@@ -36,7 +36,7 @@ impl<'b, B: Backend> HipByt<'b, B> {
         ensures memory { OnErr result (self.now.kind ≡ Kind.Allocated) }
         ensures counted { RisesAtMost meter.old meter.new (clone_cost B.SHARES self.now.kind (length self.now.items)) }
     {
-        let repr = match &self.repr {
+        let repr = match &self.bare.repr {
             Repr::Inline(inline) => Repr::Inline(inline.clone_metered(meter)),
             Repr::Borrowed(borrowed) => Repr::Borrowed(*borrowed),
             Repr::Allocated(allocated) => {
@@ -44,7 +44,7 @@ impl<'b, B: Backend> HipByt<'b, B> {
                 Repr::Allocated(allocated.slice_unchecked_metered(alloc, range, meter)?)
             }
         };
-        Ok(HipByt { repr })
+        Ok(HipByt::of(repr))
     }
 
     /// The part from `start` up to `end`.
@@ -62,7 +62,7 @@ impl<'b, B: Backend> HipByt<'b, B> {
         ensures memory { OnErr result (CutNeedsMemory self.now.kind (end - start)) }
         ensures counted { RisesAtMost meter.old meter.new (cut_cost B.SHARES self.now.kind (end - start)) }
     {
-        let repr = match &self.repr {
+        let repr = match &self.bare.repr {
             Repr::Inline(inline) => {
                 let bytes = &inline.as_slice()[start..end];
                 Repr::Inline(Inline::new_unchecked_metered(bytes, meter))
@@ -78,7 +78,7 @@ impl<'b, B: Backend> HipByt<'b, B> {
                 Repr::Allocated(allocated.slice_unchecked_metered(alloc, start..end, meter)?)
             }
         };
-        Ok(HipByt { repr })
+        Ok(HipByt::of(repr))
     }
 
     /// The part in this range, or why there is none. A short part of an owner's bytes lies in the new handle itself; a longer one

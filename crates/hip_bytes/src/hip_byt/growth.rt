@@ -1,13 +1,13 @@
 //! Pushes, and cuts in place.
-ghost use Rattle.std.specs.Prelude.{◌≡◌, ◌≤◌, ◌<◌, ◌+◌, ◌-◌, ◌↔◌, ◌∷◌, [], ◌++◌, length, take, IfOk, IfSome, IfNone, IsSome, OnOk, OnErr, OnSome};
+ghost use Rattle.std.specs.Prelude.{◌≡◌, ◌≤◌, ◌<◌, ◌+◌, ◌-◌, ◌↔◌, ◌∷◌, [], ◌++◌, length, take, max, min, IfOk, IfSome, IfNone, IsSome, OnOk, OnErr, OnSome};
 ghost use Rattle.std.specs.Option.{option_to_list};
 ghost use Rattle.hip_raw.specs.Meter.{RisesAtMost, times_copied};
-ghost use Rattle.hip_bytes.specs.Cost.{PushNeedsMemory, shortened_cost};
+ghost use Rattle.hip_bytes.specs.Cost.{CutNeedsMemory, PushNeedsMemory, shortened_cost, shrink_cost};
 ghost use Rattle.hip_bytes.specs.Repr.{handle_of};
 ghost use Rattle.hip_bytes.specs.Kinds.{by_length, cut_kind, kept_capacity, PushedKind, HasCapacity};
 
 use super::{HipByt, Repr};
-use crate::kind::INLINE_CAPACITY;
+use crate::kind::{INLINE_CAPACITY, Kind};
 use hip_raw::{Allocated, Appended, Backend, Inline, Meter, fill_counted};
 use std::alloc::{AllocError, Global};
 
@@ -70,7 +70,7 @@ impl<'b, B: Backend> HipByt<'b, B> {
         ensures counted { RisesAtMost meter.old meter.new (times_copied B.SHARES (length self.old.items + length addition.now)) }
         ensures err { OnErr result (self.new ≡ self.old) }
     {
-        match &mut self.repr {
+        match &mut self.bare.repr {
             Repr::Inline(inline) if addition.len() <= INLINE_CAPACITY - inline.len() => {
                 inline.push_slice_unchecked_metered(addition, meter);
                 return Ok(());
@@ -84,7 +84,7 @@ impl<'b, B: Backend> HipByt<'b, B> {
             }
             _ => {}
         }
-        self.repr = joined(alloc, self.as_slice(), addition, meter)?;
+        self.bare.repr = joined(alloc, self.as_slice(), addition, meter)?;
         Ok(())
     }
 
@@ -138,14 +138,14 @@ impl<'b, B: Backend> HipByt<'b, B> {
         ensures unchanged { length self.old.items ≤ len → self.new ≡ self.old }
         ensures counted { RisesAtMost meter.old meter.new (shortened_cost self.old.kind) }
     {
-        match &mut self.repr {
+        match &mut self.bare.repr {
             Repr::Inline(inline) => inline.truncate(len),
             Repr::Borrowed(borrowed) => borrowed.truncate(len),
             Repr::Allocated(allocated) if len >= allocated.len() => {}
             Repr::Allocated(allocated) if len > INLINE_CAPACITY => allocated.truncate(len),
             Repr::Allocated(allocated) => {
                 let inline = Inline::new_unchecked_metered(&allocated.as_slice()[..len], meter);
-                self.repr = Repr::Inline(inline);
+                self.bare.repr = Repr::Inline(inline);
             }
         }
     }
@@ -201,5 +201,58 @@ impl<'b, B: Backend> HipByt<'b, B> {
         let (last, len) = (*last, rest.len());
         self.truncate_metered(len, meter);
         Some(last)
+    }
+
+    /// Gives room back: to the handle itself where `least` and the bytes fit it, else to no less than both. Bytes that lie in the handle
+    /// itself or with another value stay as they are.
+    pub fn shrink_to(&mut self, alloc: Global, least: usize) -> Result<(), AllocError>
+        ensures items { self.new.items ≡ self.old.items }
+        ensures kind { OnOk result (self.new.kind ≡ cut_kind self.old.kind (max least (length self.old.items))) }
+        ensures capacity { OnOk result (HasCapacity self.new.kind (length self.new.items) self.new.capacity) }
+        ensures kept { OnOk result (self.new.kind ≡ Kind.Allocated → min self.old.capacity (max least (length self.old.items)) ≤ self.new.capacity) }
+        ensures shrunk { self.new.kind ≡ Kind.Allocated → self.new.capacity ≤ self.old.capacity }
+        ensures memory { OnErr result (CutNeedsMemory self.old.kind (max least (length self.old.items))) }
+        ensures err { OnErr result (self.new ≡ self.old) }
+    {
+        self.shrink_to_metered(alloc, least, &mut Meter::new())
+    }
+
+    /// [`HipByt::shrink_to`], counted.
+    pub fn shrink_to_metered(
+        &mut self,
+        alloc: Global,
+        least: usize,
+        meter: &mut Meter,
+    ) -> Result<(), AllocError>
+        ensures items { self.new.items ≡ self.old.items }
+        ensures kind { OnOk result (self.new.kind ≡ cut_kind self.old.kind (max least (length self.old.items))) }
+        ensures capacity { OnOk result (HasCapacity self.new.kind (length self.new.items) self.new.capacity) }
+        ensures kept { OnOk result (self.new.kind ≡ Kind.Allocated → min self.old.capacity (max least (length self.old.items)) ≤ self.new.capacity) }
+        ensures shrunk { self.new.kind ≡ Kind.Allocated → self.new.capacity ≤ self.old.capacity }
+        ensures memory { OnErr result (CutNeedsMemory self.old.kind (max least (length self.old.items))) }
+        ensures counted { RisesAtMost meter.old meter.new (shrink_cost B.SHARES self.old.kind (length self.old.items)) }
+        ensures err { OnErr result (self.new ≡ self.old) }
+    {
+        match &mut self.bare.repr {
+            Repr::Inline(_) | Repr::Borrowed(_) => Ok(()),
+            Repr::Allocated(allocated) if least.max(allocated.len()) <= INLINE_CAPACITY => {
+                let inline = Inline::new_unchecked_metered(allocated.as_slice(), meter);
+                self.bare.repr = Repr::Inline(inline);
+                Ok(())
+            }
+            Repr::Allocated(allocated) => allocated.shrink_to_metered(alloc, least, meter),
+        }
+    }
+
+    /// [`HipByt::shrink_to`] as far as it goes.
+    pub fn shrink_to_fit(&mut self, alloc: Global) -> Result<(), AllocError>
+        ensures items { self.new.items ≡ self.old.items }
+        ensures kind { OnOk result (self.new.kind ≡ cut_kind self.old.kind (length self.old.items)) }
+        ensures capacity { OnOk result (HasCapacity self.new.kind (length self.new.items) self.new.capacity) }
+        ensures shrunk { self.new.kind ≡ Kind.Allocated → self.new.capacity ≤ self.old.capacity }
+        ensures memory { OnErr result (CutNeedsMemory self.old.kind (length self.old.items)) }
+        ensures err { OnErr result (self.new ≡ self.old) }
+    {
+        self.shrink_to(alloc, 0)
     }
 }

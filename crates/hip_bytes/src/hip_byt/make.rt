@@ -18,9 +18,7 @@ impl<'b, B: Backend> HipByt<'b, B> {
         ensures kind { result.kind ≡ Kind.Inline }
         ensures capacity { result.capacity ≡ INLINE_CAPACITY }
     {
-        HipByt {
-            repr: Repr::Inline(Inline::empty()),
-        }
+        HipByt::of(Repr::Inline(Inline::empty()))
     }
 
     /// These bytes, in the handle itself. [`HipByt::try_inline`] tests for the length.
@@ -43,9 +41,7 @@ impl<'b, B: Backend> HipByt<'b, B> {
         ensures capacity { result.capacity ≡ INLINE_CAPACITY }
         ensures counted { RisesAtMost meter.old meter.new (length bytes.now) }
     {
-        HipByt {
-            repr: Repr::Inline(Inline::new_unchecked_metered(bytes, meter)),
-        }
+        HipByt::of(Repr::Inline(Inline::new_unchecked_metered(bytes, meter)))
     }
 
     /// These bytes in the handle itself, or `None` where they are too many for it.
@@ -90,9 +86,7 @@ impl<'b, B: Backend> HipByt<'b, B> {
         }
         let vec = Vec::with_capacity(alloc, capacity)?;
         match Allocated::new(alloc, vec) {
-            Ok(allocated) => Ok(HipByt {
-                repr: Repr::Allocated(allocated),
-            }),
+            Ok(allocated) => Ok(HipByt::of(Repr::Allocated(allocated))),
             Err(_) => Err(AllocError),
         }
     }
@@ -104,9 +98,7 @@ impl<'b, B: Backend> HipByt<'b, B> {
         ensures kind { result.kind ≡ Kind.Borrowed }
         ensures capacity { result.capacity ≡ length bytes.entry.now }
     {
-        HipByt {
-            repr: Repr::Borrowed(Borrowed::new(bytes)),
-        }
+        HipByt::of(Repr::Borrowed(Borrowed::new(bytes)))
     }
 
     /// These bytes, which live as long as the program. None is copied.
@@ -146,9 +138,7 @@ impl<'b, B: Backend> HipByt<'b, B> {
         if bytes.len() <= INLINE_CAPACITY {
             return Ok(Self::inline_metered(bytes, meter));
         }
-        Ok(HipByt {
-            repr: Repr::Allocated(Allocated::from_slice_metered(alloc, bytes, meter)?),
-        })
+        Ok(HipByt::of(Repr::Allocated(Allocated::from_slice_metered(alloc, bytes, meter)?)))
     }
 
     /// The bytes of a vector, which is taken over where they are too many for the handle itself. A refused vector is handed back.
@@ -176,9 +166,7 @@ impl<'b, B: Backend> HipByt<'b, B> {
         if vec.len() <= INLINE_CAPACITY {
             return Ok(Self::inline_metered(vec.as_slice(), meter));
         }
-        Ok(HipByt {
-            repr: Repr::Allocated(Allocated::new_metered(alloc, vec, meter)?),
-        })
+        Ok(HipByt::of(Repr::Allocated(Allocated::new_metered(alloc, vec, meter)?)))
     }
 }
 

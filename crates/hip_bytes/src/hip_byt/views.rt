@@ -14,7 +14,7 @@ impl<'b, B: Backend> HipByt<'b, B> {
         ensures len { result ≡ length self.now.items }
         ensures bound { length self.now.items < 2 ^ 64 }
     {
-        match &self.repr {
+        match &self.bare.repr {
             Repr::Inline(inline) => inline.len(),
             Repr::Borrowed(borrowed) => borrowed.len(),
             Repr::Allocated(allocated) => allocated.len(),
@@ -34,7 +34,7 @@ impl<'b, B: Backend> HipByt<'b, B> {
     pub fn as_slice(&self) -> &[u8]
         ensures items { result.now ≡ self.now.items }
     {
-        match &self.repr {
+        match &self.bare.repr {
             Repr::Inline(inline) => inline.as_slice(),
             Repr::Borrowed(borrowed) => borrowed.as_slice(),
             Repr::Allocated(allocated) => allocated.as_slice(),
@@ -46,7 +46,7 @@ impl<'b, B: Backend> HipByt<'b, B> {
     pub fn kind(&self) -> Kind
         ensures { result ≡ self.now.kind }
     {
-        match &self.repr {
+        match &self.bare.repr {
             Repr::Inline(_) => Kind::Inline,
             Repr::Borrowed(_) => Kind::Borrowed,
             Repr::Allocated(_) => Kind::Allocated,
@@ -58,7 +58,7 @@ impl<'b, B: Backend> HipByt<'b, B> {
     pub fn is_inline(&self) -> bool
         ensures { IsTrue result ↔ (self.now.kind ≡ Kind.Inline) }
     {
-        matches!(&self.repr, Repr::Inline(_))
+        matches!(&self.bare.repr, Repr::Inline(_))
     }
 
     /// Whether the bytes lie with another value, which lends them.
@@ -66,7 +66,7 @@ impl<'b, B: Backend> HipByt<'b, B> {
     pub fn is_borrowed(&self) -> bool
         ensures { IsTrue result ↔ (self.now.kind ≡ Kind.Borrowed) }
     {
-        matches!(&self.repr, Repr::Borrowed(_))
+        matches!(&self.bare.repr, Repr::Borrowed(_))
     }
 
     /// Whether the bytes lie with an owner.
@@ -74,7 +74,7 @@ impl<'b, B: Backend> HipByt<'b, B> {
     pub fn is_allocated(&self) -> bool
         ensures { IsTrue result ↔ (self.now.kind ≡ Kind.Allocated) }
     {
-        matches!(&self.repr, Repr::Allocated(_))
+        matches!(&self.bare.repr, Repr::Allocated(_))
     }
 
     /// Whether bytes that lie with an owner are too many for the handle itself. It holds of each other handle.
@@ -99,7 +99,7 @@ impl<'b, B: Backend> HipByt<'b, B> {
         ensures capacity { result ≡ self.now.capacity }
         ensures kind { HasCapacity self.now.kind (length self.now.items) self.now.capacity }
     {
-        match &self.repr {
+        match &self.bare.repr {
             Repr::Inline(inline) => inline.capacity(),
             Repr::Borrowed(borrowed) => borrowed.len(),
             Repr::Allocated(allocated) => allocated.capacity(),
@@ -112,7 +112,7 @@ impl<'b, B: Backend> HipByt<'b, B> {
         ensures borrowed { IsSome result ↔ (self.now.kind ≡ Kind.Borrowed) }
         ensures items { IfSome result (λ bytes. bytes.now ≡ self.now.items) }
     {
-        match &self.repr {
+        match &self.bare.repr {
             Repr::Borrowed(borrowed) => Some(borrowed.as_slice()),
             _ => None,
         }

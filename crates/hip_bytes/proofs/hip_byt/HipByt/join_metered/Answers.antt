@@ -1,0 +1,29 @@
+use Rattle.std.proofs.Common.{◌≡◌, ◌∙◌, ◌+◌, ◌≤◌, ◌++◌, ◌∷◌, ◌&&◌, [], nat_le, length, length-append, Err, ap, arith}
+use Rattle.std.proofs.iter.Next.{Yields-more}
+use Rattle.hip_bytes.specs.declared.grow_fault.GrowFault.TheVariants.{TooLong}
+use Rattle.hip_bytes.proofs.Joins.{length-joined-snoc, joined-more, gap_before-snoc, fits_before, spilled_once}
+use Rattle.hip_bytes.specs.declared.kind.TheConstants.{INLINE_CAPACITY}
+use Rattle.hip_bytes.proofs.hip_byt.HipByt.join_metered.Goals as goal
+
+pub returns-in-Err-clause-too_long : goal.returns-in-Err-clause-too_long
+returns-in-Err-clause-too_long g c = λ e.
+    let fault : c.in-Err.fault ≡ TooLong = cc in
+    let long = c.in-Err.ensures.too_long (ap Err fault) in
+    let length_is = length-joined-snoc c.args.sep.now c.loop-piece.yielded c.in-Some.piece c.loop-piece.made.items c.loop-piece.gap.now c.loop-piece.invariant.items c.loop-piece.invariant.gap in
+    let steps = Yields-more g.I.IntoIter.Iterator.next_gives c.into_iter-piece-iterator.result c.loop-piece.yielded c.loop-piece.piece-iterator c.in-Some.piece c.next.new.self c.loop-piece.yielded_by c.in-Some.ensures.steps in
+    (c.into_iter-piece-iterator.result, c.loop-piece.yielded ++ c.in-Some.piece ∷ [], c.next.new.self, c.into_iter-piece-iterator.ensures.into_iter_gives, steps, omega (arith, length_is, long))
+
+pub loop-piece-preserved : goal.loop-piece-preserved
+loop-piece-preserved g c =
+  let more = c.in_default.ensures in
+  let length_is = ap length more.items ∙ length-append (c.loop-piece.made.items ++ c.loop-piece.gap.now) c.in-Some.piece.now ∙ ap (λ n. n + length c.in-Some.piece.now) (length-append c.loop-piece.made.items c.loop-piece.gap.now) in
+  let grown : length c.loop-piece.made.items ≤ length c.add_behind.new.self.items = omega arith in
+  record {
+    items = more.items ∙ joined-more c.args.sep.now c.loop-piece.yielded c.in-Some.piece c.loop-piece.made.items c.loop-piece.gap.now c.loop-piece.invariant.items c.loop-piece.invariant.gap;
+    gap = gap_before-snoc c.args.sep.now c.loop-piece.yielded c.in-Some.piece;
+    place = more.place ∙ ap (λ b. b && nat_le (length c.add_behind.new.self.items) INLINE_CAPACITY) c.loop-piece.invariant.place ∙ fits_before _ _ INLINE_CAPACITY grown;
+    counted = record {
+      never_falls = omega (arith, more.counted.never_falls);
+      at_most = omega (arith, more.counted.at_most, spilled_once c.loop-piece.made.in_handle c.add_behind.new.self.in_handle (nat_le (length c.add_behind.new.self.items) INLINE_CAPACITY) more.place);
+    };
+  }

@@ -1,0 +1,19 @@
+-- What a list that is being made of others is. No public clause cites this module.
+use Rattle.std.specs.Prelude.{◌≡◌, ℕ, Bool, true, false, List, if◌then◌else◌, vec_capacity, ◌&&◌, not}
+use Rattle.hip_bytes.specs.declared.gathering.Place.{Place}
+use Rattle.hip_bytes.specs.declared.gathering.Place.TheVariants.{Handle, Vector}
+use Rattle.hip_bytes.specs.declared.kind.TheConstants.{INLINE_CAPACITY}
+
+-- the bytes so far, for how many there is room, and whether they lie in the handle itself
+pub record Gathered : Type 0 where
+  pub items : List ℕ
+  pub room : ℕ
+  pub in_handle : Bool
+
+abbrev pub gathered_in : Place → Gathered
+gathered_in (Handle inline) = record { items = inline; room = INLINE_CAPACITY; in_handle = true }
+gathered_in (Vector vec) = record { items = vec.items; room = vec_capacity vec; in_handle = false }
+
+-- bytes that moved from the handle into a vector were copied once more
+abbrev pub spill_cost : Bool → Bool → ℕ
+spill_cost before after = if before && not after then INLINE_CAPACITY else 0

@@ -1,0 +1,42 @@
+-- Lists made of others (Rust's `[u8]::repeat`, `[[u8]]::concat` and `[[u8]]::join`).
+use Rattle.std.specs.Prelude.{◌≡◌, ℕ, zero, suc, ◌+◌, ◌*◌, ◌<◌, Bool, List, [], ◌∷◌, if◌then◌else◌, ◌||◌, ◌==◌, MatchBool, codes, refl}
+use Rattle.std.specs.List.{join_by}
+use Rattle.std.specs.Borrow.{Bor}
+use Rattle.hip_raw.specs.Meter.{times_copied}
+use Rattle.hip_bytes.specs.Cost.{clone_cost}
+use Rattle.hip_bytes.specs.Kinds.{by_length}
+use Rattle.hip_bytes.specs.declared.kind.Kind.{Kind}
+use Rattle.hip_bytes.specs.declared.kind.Kind.TheVariants.{Allocated}
+use Rattle.hip_bytes.specs.declared.kind.TheConstants.{INLINE_CAPACITY}
+
+-- the slices one behind another, with the separator between each two
+abbrev pub joined : List ℕ → List (Bor (List ℕ)) → List ℕ
+joined sep slices = join_by (λ slice. slice.now) sep slices
+
+-- what stands before the slice at a position
+abbrev pub gap_at : ℕ → List ℕ → List ℕ
+gap_at zero sep = []
+gap_at (suc i) sep = sep
+
+-- how many bytes a join of a result of `len` bytes copies at most
+abbrev pub join_cost : Bool → ℕ → ℕ
+join_cost shares len = times_copied shares len + INLINE_CAPACITY
+
+-- a repetition that is the value itself: of nothing, or once
+abbrev pub is_plain : ℕ → ℕ → Bool
+is_plain len n = (len == 0) || (n == 1)
+
+-- the kind of `len` bytes of a kind, `n` times
+abbrev pub repeated_kind : Kind → ℕ → ℕ → Kind
+repeated_kind kind len n = if is_plain len n then kind else by_length (n * len)
+
+abbrev pub repeat_cost : Bool → Kind → ℕ → ℕ → ℕ
+repeat_cost shares kind len n = if is_plain len n then clone_cost shares kind len else times_copied shares (n * len) + INLINE_CAPACITY
+
+-- `len` bytes of a kind, `n` times, may want memory
+abbrev pub RepeatNeedsMemory : Kind → ℕ → ℕ → Type 0
+RepeatNeedsMemory kind len n = MatchBool (is_plain len n) (kind ≡ Allocated) (INLINE_CAPACITY < n * len)
+
+-- the words of a join, over slices of any address
+pub three_joined : (a b c : Bor (List ℕ)) → a.now ≡ codes "ab" → b.now ≡ [] → c.now ≡ codes "c" → joined (codes "-") (a ∷ b ∷ c ∷ []) ≡ codes "ab--c"
+three_joined a b c e f g = rw (e, f, g) refl

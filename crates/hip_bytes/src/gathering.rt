@@ -1,0 +1,165 @@
+//! A list of bytes that is being made of others.
+ghost use Rattle.std.specs.Prelude.{◌≡◌, ◌≤◌, ◌<◌, ◌+◌, ◌^◌, ◌&&◌, true, [], ◌++◌, nat_le, length, IfOk, OnOk, OnErr};
+ghost use Rattle.hip_raw.specs.Meter.{RisesAtMost, unless_shared};
+ghost use Rattle.hip_bytes.specs.Kinds.{by_length, HasCapacity};
+ghost use Rattle.hip_bytes.specs.Gathering.{spill_cost};
+ghost use Rattle.hip_bytes.specs.declared.kind.TheConstants.{INLINE_CAPACITY};
+
+use crate::grow_fault::GrowFault;
+use crate::hip_byt::HipByt;
+use crate::kind::INLINE_CAPACITY;
+use hip_raw::{Backend, Inline, Meter, extend_counted, extend_within};
+use std::alloc::{AllocError, Global};
+use std::marker::Model;
+
+/// Where the bytes lie so far.
+#[derive(Drop)]
+enum Place {
+    /// Where a handle would have them in itself.
+    Handle(Inline<INLINE_CAPACITY>),
+    /// In a vector.
+    Vector(Vec<u8>),
+}
+
+/// Bytes that become a handle by length: in the handle itself as long as they fit it.
+#[derive(Drop)]
+pub(crate) struct Gathering {
+    place: Place,
+}
+
+impl Model for Gathering {
+    ghost use Rattle.hip_bytes.specs.Gathering.{Gathered};
+
+    ghost Value = { Gathered };
+
+    ghost use Rattle.hip_bytes.specs.Gathering.{gathered_in};
+
+    ghost view = { λ g. gathered_in g.place };
+}
+
+impl Gathering {
+    /// No bytes.
+    #[inline]
+    pub(crate) fn new() -> Self
+        ensures items { result.items ≡ [] }
+        ensures room { result.room ≡ INLINE_CAPACITY }
+        ensures place { result.in_handle ≡ true }
+    {
+        Gathering {
+            place: Place::Handle(Inline::empty()),
+        }
+    }
+
+    /// No bytes, with room for so many.
+    #[inline]
+    pub(crate) fn with_room(alloc: Global, len: usize) -> Result<Self, AllocError>
+        ensures items { IfOk result (λ made. made.items ≡ []) }
+        ensures room { IfOk result (λ made. len ≤ made.room) }
+        ensures place { IfOk result (λ made. made.in_handle ≡ nat_le len INLINE_CAPACITY) }
+        ensures memory { OnErr result (INLINE_CAPACITY < len) }
+    {
+        if len <= INLINE_CAPACITY {
+            return Ok(Self::new());
+        }
+        Ok(Gathering {
+            place: Place::Vector(Vec::with_capacity(alloc, len)?),
+        })
+    }
+
+    /// Adds bytes at the end.
+    #[inline]
+    pub(crate) fn add(
+        &mut self,
+        alloc: Global,
+        bytes: &[u8],
+        meter: &mut Meter,
+    ) -> Result<(), GrowFault>
+        ensures items { OnOk result (self.new.items ≡ self.old.items ++ bytes.now) }
+        ensures room { OnOk result (self.old.room ≤ self.new.room) }
+        ensures place { OnOk result (self.new.in_handle ≡ (self.old.in_handle && nat_le (length self.old.items + length bytes.now) INLINE_CAPACITY)) }
+        ensures too_long { result ≡ Err GrowFault.TooLong → 2 ^ 64 ≤ length self.old.items + length bytes.now }
+        ensures memory { result ≡ Err GrowFault.Memory → self.old.room < length self.old.items + length bytes.now }
+        ensures counted { OnOk result (RisesAtMost meter.old meter.new (length bytes.now + spill_cost self.old.in_handle self.new.in_handle)) }
+        ensures refused { OnErr result (RisesAtMost meter.old meter.new INLINE_CAPACITY) }
+    {
+        match &mut self.place {
+            Place::Handle(inline) if bytes.len() <= INLINE_CAPACITY - inline.len() => {
+                inline.push_slice_unchecked_metered(bytes, meter);
+            }
+            Place::Handle(inline) => {
+                let Some(len) = inline.len().checked_add(bytes.len()) else {
+                    return Err(GrowFault::TooLong);
+                };
+                let mut vec = Vec::with_capacity(alloc, len)?;
+                extend_counted(&mut vec, inline.as_slice(), meter)?;
+                extend_counted(&mut vec, bytes, meter)?;
+                self.place = Place::Vector(vec);
+            }
+            Place::Vector(vec) => {
+                if vec.len().checked_add(bytes.len()).is_none() {
+                    return Err(GrowFault::TooLong);
+                }
+                extend_counted(vec, bytes, meter)?;
+            }
+        }
+        Ok(())
+    }
+
+    /// Adds bytes at the end, and what stands before them.
+    #[inline]
+    pub(crate) fn add_behind(
+        &mut self,
+        alloc: Global,
+        gap: &[u8],
+        bytes: &[u8],
+        meter: &mut Meter,
+    ) -> Result<(), GrowFault>
+        ensures items { OnOk result (self.new.items ≡ (self.old.items ++ gap.now) ++ bytes.now) }
+        ensures place { OnOk result (self.new.in_handle ≡ (self.old.in_handle && nat_le (length self.new.items) INLINE_CAPACITY)) }
+        ensures too_long { result ≡ Err GrowFault.TooLong → 2 ^ 64 ≤ length self.old.items + length gap.now + length bytes.now }
+        ensures counted { OnOk result (RisesAtMost meter.old meter.new (length gap.now + length bytes.now + spill_cost self.old.in_handle self.new.in_handle)) }
+    {
+        match self.add(alloc, gap, meter) {
+            Ok(()) => self.add(alloc, bytes, meter),
+            Err(fault) => Err(fault),
+        }
+    }
+
+    /// Adds bytes at the end, for which there is room.
+    #[inline]
+    pub(crate) fn add_within(&mut self, bytes: &[u8], meter: &mut Meter)
+        requires { length self.old.items + length bytes.now ≤ self.old.room }
+        ensures items { self.new.items ≡ self.old.items ++ bytes.now }
+        ensures room { self.old.room ≤ self.new.room }
+        ensures place { self.new.in_handle ≡ self.old.in_handle }
+        ensures counted { RisesAtMost meter.old meter.new (length bytes.now) }
+    {
+        match &mut self.place {
+            Place::Handle(inline) => inline.push_slice_unchecked_metered(bytes, meter),
+            Place::Vector(vec) => extend_within(vec, bytes, meter),
+        }
+    }
+
+    /// The handle of all bytes.
+    #[inline]
+    pub(crate) fn finish<'b, B: Backend>(
+        self,
+        alloc: Global,
+        meter: &mut Meter,
+    ) -> Result<HipByt<'b, B>, AllocError>
+        requires { self.in_handle ≡ nat_le (length self.items) INLINE_CAPACITY }
+        ensures items { IfOk result (λ handle. handle.items ≡ self.items) }
+        ensures kind { IfOk result (λ handle. handle.kind ≡ by_length (length self.items)) }
+        ensures capacity { IfOk result (λ handle. HasCapacity handle.kind (length self.items) handle.capacity) }
+        ensures memory { OnErr result (INLINE_CAPACITY < length self.items) }
+        ensures counted { RisesAtMost meter.old meter.new (unless_shared B.SHARES (length self.items)) }
+    {
+        match self.place {
+            Place::Handle(inline) => Ok(HipByt::from_inline(inline)),
+            Place::Vector(vec) => match HipByt::from_vec_metered(alloc, vec, meter) {
+                Ok(handle) => Ok(handle),
+                Err(_) => Err(AllocError),
+            },
+        }
+    }
+}

@@ -1,0 +1,197 @@
+//! Values that are made of others.
+ghost use Rattle.std.specs.Prelude.{◌≡◌, ◌↔◌, ◌≤◌, ◌<◌, ◌+◌, ◌*◌, ◌^◌, [], nat_le, length, IfOk, IfErr, OnErr};
+ghost use Rattle.std.specs.List.{repeat};
+ghost use Rattle.std.specs.Option.{SomeIff};
+ghost use Rattle.hip_raw.specs.Meter.{RisesAtMost, times_copied};
+ghost use Rattle.hip_bytes.specs.Cost.{clone_cost};
+ghost use Rattle.hip_bytes.specs.Join.{gap_at, joined, join_cost, repeated_kind, repeat_cost, RepeatNeedsMemory};
+ghost use Rattle.hip_bytes.specs.Kinds.{by_length, HasCapacity};
+ghost use Rattle.hip_bytes.specs.declared.kind.TheConstants.{INLINE_CAPACITY};
+
+use super::HipByt;
+use crate::gathering::Gathering;
+use crate::grow_fault::GrowFault;
+use crate::kind::{INLINE_CAPACITY, Kind};
+use hip_raw::{Backend, Meter};
+use std::alloc::{AllocError, Global};
+
+impl<'b, B: Backend> HipByt<'b, B> {
+    /// The bytes `n` times.
+    pub fn repeat(&self, alloc: Global, n: usize) -> Result<Self, GrowFault>
+        ensures items { IfOk result (λ handle. handle.items ≡ repeat n self.now.items) }
+        ensures kind { IfOk result (λ handle. handle.kind ≡ repeated_kind self.now.kind (length self.now.items) n) }
+        ensures capacity { IfOk result (λ handle. HasCapacity handle.kind (length handle.items) handle.capacity) }
+        ensures too_long { (result ≡ Err GrowFault.TooLong) ↔ (2 ^ 64 ≤ n * length self.now.items) }
+        ensures memory { result ≡ Err GrowFault.Memory → RepeatNeedsMemory self.now.kind (length self.now.items) n }
+    {
+        self.repeat_metered(alloc, n, &mut Meter::new())
+    }
+
+    /// [`HipByt::repeat`], counted.
+    pub fn repeat_metered(
+        &self,
+        alloc: Global,
+        n: usize,
+        meter: &mut Meter,
+    ) -> Result<Self, GrowFault>
+        ensures items { IfOk result (λ handle. handle.items ≡ repeat n self.now.items) }
+        ensures kind { IfOk result (λ handle. handle.kind ≡ repeated_kind self.now.kind (length self.now.items) n) }
+        ensures capacity { IfOk result (λ handle. HasCapacity handle.kind (length handle.items) handle.capacity) }
+        ensures too_long { (result ≡ Err GrowFault.TooLong) ↔ (2 ^ 64 ≤ n * length self.now.items) }
+        ensures memory { result ≡ Err GrowFault.Memory → RepeatNeedsMemory self.now.kind (length self.now.items) n }
+        ensures counted { RisesAtMost meter.old meter.new (repeat_cost B.SHARES self.now.kind (length self.now.items) n) }
+    {
+        if self.is_empty() {
+            return self.cloned(alloc, meter);
+        }
+        if n == 1 {
+            return self.cloned(alloc, meter);
+        }
+        let Some(len) = n.checked_mul(self.len()) else {
+            return Err(GrowFault::TooLong);
+        };
+        let made = repeated(alloc, self.as_slice(), n, len, meter)?;
+        Ok(made.finish(alloc, meter)?)
+    }
+
+    /// The slices one behind another: [`HipByt::join_slices`] with nothing between them.
+    pub fn concat_slices(alloc: Global, slices: &[&[u8]]) -> Result<Self, GrowFault>
+        ensures items { IfOk result (λ handle. handle.items ≡ joined [] slices.now) }
+        ensures kind { IfOk result (λ handle. handle.kind ≡ by_length (length (joined [] slices.now))) }
+        ensures capacity { IfOk result (λ handle. HasCapacity handle.kind (length handle.items) handle.capacity) }
+        ensures too_long { (result ≡ Err GrowFault.TooLong) ↔ (2 ^ 64 ≤ length (joined [] slices.now)) }
+        ensures memory { result ≡ Err GrowFault.Memory → INLINE_CAPACITY < length (joined [] slices.now) }
+    {
+        Self::join_slices(alloc, slices, &[])
+    }
+
+    /// [`HipByt::concat_slices`], counted.
+    pub fn concat_slices_metered(
+        alloc: Global,
+        slices: &[&[u8]],
+        meter: &mut Meter,
+    ) -> Result<Self, GrowFault>
+        ensures items { IfOk result (λ handle. handle.items ≡ joined [] slices.now) }
+        ensures kind { IfOk result (λ handle. handle.kind ≡ by_length (length (joined [] slices.now))) }
+        ensures capacity { IfOk result (λ handle. HasCapacity handle.kind (length handle.items) handle.capacity) }
+        ensures too_long { (result ≡ Err GrowFault.TooLong) ↔ (2 ^ 64 ≤ length (joined [] slices.now)) }
+        ensures memory { result ≡ Err GrowFault.Memory → INLINE_CAPACITY < length (joined [] slices.now) }
+        ensures counted { RisesAtMost meter.old meter.new (join_cost B.SHARES (length (joined [] slices.now))) }
+    {
+        Self::join_slices_metered(alloc, slices, &[], meter)
+    }
+
+    /// The slices one behind another, with the separator between each two.
+    pub fn join_slices(alloc: Global, slices: &[&[u8]], sep: &[u8]) -> Result<Self, GrowFault>
+        ensures items { IfOk result (λ handle. handle.items ≡ joined sep.now slices.now) }
+        ensures kind { IfOk result (λ handle. handle.kind ≡ by_length (length (joined sep.now slices.now))) }
+        ensures capacity { IfOk result (λ handle. HasCapacity handle.kind (length handle.items) handle.capacity) }
+        ensures too_long { (result ≡ Err GrowFault.TooLong) ↔ (2 ^ 64 ≤ length (joined sep.now slices.now)) }
+        ensures memory { result ≡ Err GrowFault.Memory → INLINE_CAPACITY < length (joined sep.now slices.now) }
+    {
+        Self::join_slices_metered(alloc, slices, sep, &mut Meter::new())
+    }
+
+    /// [`HipByt::join_slices`], counted.
+    pub fn join_slices_metered(
+        alloc: Global,
+        slices: &[&[u8]],
+        sep: &[u8],
+        meter: &mut Meter,
+    ) -> Result<Self, GrowFault>
+        ensures items { IfOk result (λ handle. handle.items ≡ joined sep.now slices.now) }
+        ensures kind { IfOk result (λ handle. handle.kind ≡ by_length (length (joined sep.now slices.now))) }
+        ensures capacity { IfOk result (λ handle. HasCapacity handle.kind (length handle.items) handle.capacity) }
+        ensures too_long { (result ≡ Err GrowFault.TooLong) ↔ (2 ^ 64 ≤ length (joined sep.now slices.now)) }
+        ensures memory { result ≡ Err GrowFault.Memory → INLINE_CAPACITY < length (joined sep.now slices.now) }
+        ensures counted { RisesAtMost meter.old meter.new (join_cost B.SHARES (length (joined sep.now slices.now))) }
+    {
+        let Some(len) = joined_len(slices, sep) else {
+            return Err(GrowFault::TooLong);
+        };
+        let made = gathered(alloc, slices, sep, len, meter)?;
+        Ok(made.finish(alloc, meter)?)
+    }
+}
+
+/// What stands before the slice at a position.
+#[inline]
+fn gap(i: usize, sep: &[u8]) -> &[u8]
+    ensures { result.now ≡ gap_at i sep.now }
+{
+    if i == 0 { &[] } else { sep }
+}
+
+/// How many bytes a join has, if that is a `usize`.
+fn joined_len(slices: &[&[u8]], sep: &[u8]) -> Option<usize>
+    ensures { SomeIff result (length (joined sep.now slices.now) < 2 ^ 64) (length (joined sep.now slices.now)) }
+{
+    let mut len = 0usize;
+    for (i, slice) in slices.iter().enumerate() {
+        len = len.checked_add(gap(i, sep).len())?.checked_add(slice.len())?;
+    }
+    Some(len)
+}
+
+/// A join, which has `len` bytes.
+fn gathered(
+    alloc: Global,
+    slices: &[&[u8]],
+    sep: &[u8],
+    len: usize,
+    meter: &mut Meter,
+) -> Result<Gathering, AllocError>
+    requires { len ≡ length (joined sep.now slices.now) }
+    ensures items { IfOk result (λ made. made.items ≡ joined sep.now slices.now) }
+    ensures place { IfOk result (λ made. made.in_handle ≡ nat_le len INLINE_CAPACITY) }
+    ensures memory { OnErr result (INLINE_CAPACITY < len) }
+    ensures counted { RisesAtMost meter.old meter.new len }
+{
+    let mut made = Gathering::with_room(alloc, len)?;
+    for (i, slice) in slices.iter().enumerate() {
+        made.add_within(gap(i, sep), meter);
+        made.add_within(slice, meter);
+    }
+    Ok(made)
+}
+
+impl<'b, B: Backend> HipByt<'b, B> {
+    /// A clone, where a refusal has to say that the length isn't at fault.
+    #[inline]
+    fn cloned(&self, alloc: Global, meter: &mut Meter) -> Result<Self, GrowFault>
+        ensures items { IfOk result (λ handle. handle.items ≡ self.now.items) }
+        ensures kind { IfOk result (λ handle. handle.kind ≡ self.now.kind) }
+        ensures capacity { IfOk result (λ handle. HasCapacity self.now.kind (length self.now.items) handle.capacity) }
+        ensures memory { IfErr result (λ fault. (fault ≡ GrowFault.Memory) × (self.now.kind ≡ Kind.Allocated)) }
+        ensures counted { RisesAtMost meter.old meter.new (clone_cost B.SHARES self.now.kind (length self.now.items)) }
+        ensures bound { length self.now.items < 2 ^ 64 }
+    {
+        let _len = self.len();
+        match self.clone_metered(alloc, meter) {
+            Ok(handle) => Ok(handle),
+            Err(AllocError) => Err(GrowFault::Memory),
+        }
+    }
+}
+
+/// The bytes `n` times, which are `len` in all.
+fn repeated(
+    alloc: Global,
+    bytes: &[u8],
+    n: usize,
+    len: usize,
+    meter: &mut Meter,
+) -> Result<Gathering, AllocError>
+    requires { len ≡ n * length bytes.now }
+    ensures items { IfOk result (λ made. made.items ≡ repeat n bytes.now) }
+    ensures len { IfOk result (λ made. length made.items ≡ len) }
+    ensures place { IfOk result (λ made. made.in_handle ≡ nat_le len INLINE_CAPACITY) }
+    ensures memory { OnErr result (INLINE_CAPACITY < len) }
+    ensures counted { RisesAtMost meter.old meter.new len }
+{
+    let mut made = Gathering::with_room(alloc, len)?;
+    for _ in 0..n {
+        made.add_within(bytes, meter);
+    }
+    Ok(made)
+}
