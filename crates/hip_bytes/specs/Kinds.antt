@@ -1,5 +1,6 @@
 -- The kind that a call gives its handle, by the kind and the length that there were, and the capacity of each kind.
-use Rattle.std.specs.Prelude.{◌≡◌, ℕ, ◌≤◌, Bool, true, false, if◌then◌else◌, nat_le, refl}
+use Rattle.std.specs.Prelude.{◌≡◌, ℕ, ◌≤◌, Bool, true, false, List, length, if◌then◌else◌, nat_le, refl}
+use Rattle.hip_bytes.specs.Handle.{Handle}
 use Rattle.hip_bytes.specs.declared.kind.Kind.{Kind}
 use Rattle.hip_bytes.specs.declared.kind.Kind.TheVariants.{Inline, Borrowed, Allocated}
 use Rattle.hip_bytes.specs.declared.kind.TheConstants.{INLINE_CAPACITY}
@@ -52,3 +53,7 @@ past_the_limit = refl
 -- a short part of borrowed bytes stays borrowed
 pub borrowed_part : cut_kind Borrowed 3 ≡ Borrowed
 borrowed_part = refl
+
+-- the handle holds these bytes, by length
+abbrev pub HoldsByLength : Handle → List ℕ → Type 0
+HoldsByLength handle items = (handle.items ≡ items) × (handle.kind ≡ by_length (length items)) × HasCapacity handle.kind (length items) handle.capacity

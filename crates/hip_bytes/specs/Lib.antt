@@ -4,6 +4,7 @@ pub mod Handle
 pub mod Join
 pub mod Kinds
 pub mod Range
+pub mod RefMut
 pub mod Repr
 pub mod Slice
 pub mod SliceError

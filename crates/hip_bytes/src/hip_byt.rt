@@ -10,8 +10,11 @@ mod compare;
 mod convert;
 mod cuts;
 mod growth;
+#[cfg(test)]
+mod growth_tests;
 mod join;
 mod make;
+mod mutate;
 #[cfg(test)]
 mod tests;
 mod views;
@@ -58,7 +61,9 @@ impl<'b, B: Backend> HipByt<'b, B> {
     fn of(repr: Repr<'b, B>) -> Self
         ensures { result ≡ handle_of repr.entry }
     {
-        HipByt { bare: Bare { repr } }
+        HipByt {
+            bare: Bare { repr },
+        }
     }
 
     #[inline]

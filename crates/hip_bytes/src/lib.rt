@@ -18,10 +18,12 @@ mod grow_fault;
 mod hip_byt;
 mod kind;
 mod range;
+mod ref_mut;
 mod slice_error;
 
 pub use grow_fault::GrowFault;
 pub use hip_byt::HipByt;
 pub use hip_raw::{Backend, Meter, Rc, Unique};
 pub use kind::{INLINE_CAPACITY, Kind};
+pub use ref_mut::{RefMut, Source};
 pub use slice_error::{SliceError, SliceErrorKind, SliceRefusal};

@@ -1,6 +1,7 @@
 //! How answers and bytes are printed.
 
 use hipstr::{Answer, Kind};
+use std::cmp::Ordering;
 use std::io;
 use std::io::Write;
 
@@ -10,6 +11,9 @@ pub(crate) fn print_answer<W: Write>(out: &mut W, answer: Answer) -> io::Result<
         Answer::Done => writeln!(out, "done"),
         Answer::Nothing => writeln!(out, "nothing"),
         Answer::Number(number) => writeln!(out, "{number}"),
+        Answer::Order(Ordering::Less) => writeln!(out, "less"),
+        Answer::Order(Ordering::Equal) => writeln!(out, "equal"),
+        Answer::Order(Ordering::Greater) => writeln!(out, "greater"),
         Answer::Byte(byte) => writeln!(out, "byte {byte}"),
         Answer::Kind(Kind::Inline) => writeln!(out, "inline"),
         Answer::Kind(Kind::Borrowed) => writeln!(out, "borrowed"),

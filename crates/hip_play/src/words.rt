@@ -49,6 +49,11 @@ impl<'l, 'b> Words<'l, 'b> {
         number(self.plain()?)
     }
 
+    /// The next word as a number that is at most 255.
+    pub(crate) fn byte(&mut self) -> Option<u8> {
+        u8::try_from(self.number()?).ok()
+    }
+
     /// The next word as a range.
     pub(crate) fn range(&mut self) -> Option<(Bound<usize>, Bound<usize>)> {
         range(self.plain()?)

@@ -3,6 +3,7 @@ pub mod Step
 pub mod Run
 pub use Rattle.hip_bytes.specs.Cost
 pub use Rattle.hip_bytes.specs.Handle
+pub use Rattle.hip_bytes.specs.Join
 pub use Rattle.hip_bytes.specs.Kinds
 pub use Rattle.hip_bytes.specs.Range
 pub use Rattle.hip_bytes.specs.Slice

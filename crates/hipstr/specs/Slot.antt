@@ -1,10 +1,10 @@
 -- The state of the list machine: one plain list for each slot, with its kind and its capacity. No slot has an owner or a position
 -- in one.
-use Rattle.std.specs.Prelude.{◌≡◌, ℕ, ◌<◌, ◌≤◌, List, [], take, length, slice_index_or, slice_set}
+use Rattle.std.specs.Prelude.{◌≡◌, ℕ, ◌<◌, ◌≤◌, List, [], take, min, length, slice_index_or, slice_set}
 use Rattle.hip_bytes.specs.Handle.{Handle}
 use Rattle.hip_bytes.specs.Kinds.{cut_kind, kept_capacity, HasCapacity}
 use Rattle.hip_bytes.specs.declared.kind.Kind.{Kind}
-use Rattle.hip_bytes.specs.declared.kind.Kind.TheVariants.{Inline}
+use Rattle.hip_bytes.specs.declared.kind.Kind.TheVariants.{Inline, Allocated}
 use Rattle.hip_bytes.specs.declared.kind.TheConstants.{INLINE_CAPACITY}
 use Rattle.hipstr.specs.declared.pool.Slot.{Slot}
 use Rattle.hipstr.specs.declared.pool.Slot.TheVariants.{Bytes}
@@ -48,3 +48,11 @@ pub record IsShortened (old new : SlotState) (len : ℕ) : Type 0 where
   pub kind : len < length old.items → new.kind ≡ cut_kind old.kind len
   pub capacity : len < length old.items → new.capacity ≡ kept_capacity old.kind len old.capacity
   pub unchanged : length old.items ≤ len → new ≡ old
+
+-- the slot gave room back, down to `room` bytes
+pub record IsShrunk (old new : SlotState) (room : ℕ) : Type 0 where
+  pub items : new.items ≡ old.items
+  pub kind : new.kind ≡ cut_kind old.kind room
+  pub capacity : HasCapacity new.kind (length new.items) new.capacity
+  pub kept : new.kind ≡ Allocated → min old.capacity room ≤ new.capacity
+  pub shrunk : new.kind ≡ Allocated → new.capacity ≤ old.capacity

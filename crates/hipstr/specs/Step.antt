@@ -1,23 +1,28 @@
 -- One step of the list machine: what a command may answer, what it leaves of the slots, and how many bytes it copies at most.
 -- `shares` says whether owners are shared.
-use Rattle.std.specs.Prelude.{◌≡◌, ℕ, ◌+◌, ◌-◌, ◌<◌, ◌≤◌, Bool, true, false, List, [], ◌∷◌, ◌++◌, length, Option, Some, None, is_none, if◌then◌else◌, nat_le, nat_lt, MatchOption, refl}
+use Rattle.std.specs.Prelude.{◌≡◌, ℕ, ◌+◌, ◌-◌, ◌*◌, ◌^◌, ◌<◌, ◌≤◌, ◌⊎◌, Bool, true, false, List, [], ◌∷◌, ◌++◌, length, map, max, Option, Some, None, is_none, if◌then◌else◌, nat_le, nat_lt, slice_set, MatchOption, refl}
+use Rattle.std.specs.Char.{to_ascii_lowercase, to_ascii_uppercase}
+use Rattle.std.specs.Cmp.Lexicographic.{slice_cmp}
+use Rattle.std.specs.List.{repeat}
 use Rattle.std.specs.Option.{option_or, option_map}
+use Rattle.std.specs.Ordering.{nat_cmp}
 use Rattle.std.specs.declared.ops.Bound.TheVariants.{Included, Unbounded}
-use Rattle.hip_bytes.specs.Cost.{clone_cost, cut_cost, shortened_cost, CutNeedsMemory, PushNeedsMemory}
-use Rattle.hip_bytes.specs.Kinds.{by_length, cut_kind, PushedKind, HasCapacity}
+use Rattle.hip_bytes.specs.Cost.{clone_cost, cut_cost, owned_cost, shortened_cost, shrink_cost, write_cost, CutNeedsMemory, OwnNeedsMemory, PushNeedsMemory, WriteNeedsMemory}
+use Rattle.hip_bytes.specs.Join.{repeat_cost, repeated_kind, RepeatNeedsMemory}
+use Rattle.hip_bytes.specs.Kinds.{by_length, cut_kind, owned_kind, PushedKind}
 use Rattle.hip_bytes.specs.Meter.{times_copied}
 use Rattle.hip_bytes.specs.Range.{slice_fault, slice_of}
 use Rattle.hip_bytes.specs.declared.kind.Kind.TheVariants.{Inline as inline_kind, Borrowed as borrowed_kind, Allocated as allocated_kind}
 use Rattle.hip_bytes.specs.declared.kind.TheConstants.{INLINE_CAPACITY}
 use Rattle.hip_bytes.specs.declared.slice_error.SliceErrorKind.{SliceErrorKind}
 use Rattle.hip_bytes.specs.declared.slice_error.SliceErrorKind.TheVariants.{StartGreaterThanEnd as start_greater, StartOutOfBounds as start_out, EndOutOfBounds as end_out}
-use Rattle.hipstr.specs.Slot.{SlotState, slot_at, empty_slot, Replaces, Holds, IsShortened}
+use Rattle.hipstr.specs.Slot.{SlotState, slot_at, empty_slot, Replaces, Holds, IsShortened, IsShrunk}
 use Rattle.hipstr.specs.declared.command.Command.{Command}
-use Rattle.hipstr.specs.declared.command.Command.TheVariants.{New, Inline, Borrow, Copy, Room, Clone, Slice, Push, Pop, Truncate, Clear, Len, Kind, Capacity}
+use Rattle.hipstr.specs.declared.command.Command.TheVariants.{New, Inline, Borrow, Copy, Room, Clone, Slice, Push, Pop, Truncate, Clear, Shrink, Upper, Lower, Set, Repeat, Mutate, Owned, Compare, Len, Kind, Capacity}
 use Rattle.hipstr.specs.declared.command.Answer.{Answer}
-use Rattle.hipstr.specs.declared.command.Answer.TheVariants.{Done, Nothing, Number, Byte, Kind as KindOf, Refused}
+use Rattle.hipstr.specs.declared.command.Answer.TheVariants.{Done, Nothing, Number, Order, Byte, Kind as KindOf, Refused}
 use Rattle.hipstr.specs.declared.command.Reason.{Reason}
-use Rattle.hipstr.specs.declared.command.Reason.TheVariants.{NoSlot, TooLong, StartGreaterThanEnd, StartOutOfBounds, EndOutOfBounds, Memory}
+use Rattle.hipstr.specs.declared.command.Reason.TheVariants.{NoSlot, TooLong, StartGreaterThanEnd, StartOutOfBounds, EndOutOfBounds, OutOfRange, Memory}
 
 -- a slot that isn't there
 abbrev pub slot_fault : List SlotState → ℕ → Option Reason
@@ -28,6 +33,10 @@ abbrev pub reason_of : SliceErrorKind → Reason
 reason_of start_greater = StartGreaterThanEnd
 reason_of start_out = StartOutOfBounds
 reason_of end_out = EndOutOfBounds
+
+-- a length that is no `usize`
+abbrev pub length_fault : ℕ → Option Reason
+length_fault len = if nat_lt len (2 ^ 64) then None else Some TooLong
 
 -- why the command is refused whatever memory there is: the first reason, or none
 abbrev pub fault_of : List SlotState → Command → Option Reason
@@ -45,24 +54,46 @@ fault_of slots (Push t bytes) = slot_fault slots t
 fault_of slots (Pop t) = slot_fault slots t
 fault_of slots (Truncate t n) = slot_fault slots t
 fault_of slots (Clear t) = slot_fault slots t
+fault_of slots (Shrink t least) = slot_fault slots t
+fault_of slots (Upper t) = slot_fault slots t
+fault_of slots (Lower t) = slot_fault slots t
+fault_of slots (Set t i byte) =
+    option_or (slot_fault slots t) (if nat_lt i (length (slot_at slots t).items) then None else Some OutOfRange)
+fault_of slots (Repeat s t n) =
+    option_or (slot_fault slots s) (option_or (slot_fault slots t) (length_fault (n * length (slot_at slots s).items)))
+fault_of slots (Mutate t bytes) = slot_fault slots t
+fault_of slots (Owned t) = slot_fault slots t
+fault_of slots (Compare s t) = option_or (slot_fault slots s) (slot_fault slots t)
 fault_of slots (Len t) = slot_fault slots t
 fault_of slots (Kind t) = slot_fault slots t
 fault_of slots (Capacity t) = slot_fault slots t
 
 -- a command without a fault may be refused for want of memory
-abbrev pub MayNeedMemory : List SlotState → Command → Type 0
-MayNeedMemory slots (Copy t bytes) = INLINE_CAPACITY < length bytes.now
-MayNeedMemory slots (Room t capacity) = INLINE_CAPACITY < capacity
-MayNeedMemory slots (Clone s t) = (slot_at slots s).kind ≡ allocated_kind
-MayNeedMemory slots (Slice s t low high) = CutNeedsMemory (slot_at slots s).kind (length (slice_of low high (slot_at slots s).items))
-MayNeedMemory slots (Push t bytes) = PushNeedsMemory (slot_at slots t).kind (length (slot_at slots t).items + length bytes.now)
+abbrev pub MayNeedMemory : Bool → List SlotState → Command → Type 0
+MayNeedMemory shares slots (Copy t bytes) = INLINE_CAPACITY < length bytes.now
+MayNeedMemory shares slots (Room t capacity) = INLINE_CAPACITY < capacity
+MayNeedMemory shares slots (Clone s t) = (slot_at slots s).kind ≡ allocated_kind
+MayNeedMemory shares slots (Slice s t low high) = CutNeedsMemory (slot_at slots s).kind (length (slice_of low high (slot_at slots s).items))
+MayNeedMemory shares slots (Push t bytes) = PushNeedsMemory (slot_at slots t).kind (length (slot_at slots t).items + length bytes.now)
+MayNeedMemory shares slots (Shrink t least) = CutNeedsMemory (slot_at slots t).kind (max least (length (slot_at slots t).items))
+MayNeedMemory shares slots (Upper t) = WriteNeedsMemory shares (slot_at slots t).kind (length (slot_at slots t).items)
+MayNeedMemory shares slots (Lower t) = WriteNeedsMemory shares (slot_at slots t).kind (length (slot_at slots t).items)
+MayNeedMemory shares slots (Set t i byte) = WriteNeedsMemory shares (slot_at slots t).kind (length (slot_at slots t).items)
+MayNeedMemory shares slots (Repeat s t n) = RepeatNeedsMemory (slot_at slots s).kind (length (slot_at slots s).items) n
+MayNeedMemory shares slots (Mutate t bytes) = Unit {0}
+MayNeedMemory shares slots (Owned t) = OwnNeedsMemory (slot_at slots t).kind (length (slot_at slots t).items)
 -- no other may
-MayNeedMemory slots command = ⊥
+MayNeedMemory shares slots command = ⊥
 
 -- A command that has no fault may give this answer and go on from the old slots to the new. Each case names the slot that it
 -- changes, its target; every other slot is as it was.
 abbrev pub Performs : Bool → List SlotState → Command → Answer → List SlotState → Type 0
-Performs shares old command (Refused Memory) new = MayNeedMemory old command × (new ≡ old)
+-- A refused Mutate leaves its target as it was, or with its old items by length, or empty: never with half of the addition.
+Performs shares old (Mutate t bytes) (Refused Memory) new =
+    let target = slot_at old t in
+    (new ≡ old) ⊎ (Replaces old new t (λ slot. Holds slot (by_length (length target.items)) target.items)
+    ⊎ Replaces old new t (λ slot. Holds slot inline_kind []))
+Performs shares old command (Refused Memory) new = MayNeedMemory shares old command × (new ≡ old)
 Performs shares old (New t) Done new = Replaces old new t (λ slot. Holds slot inline_kind [])
 Performs shares old (Inline t bytes) Done new = Replaces old new t (λ slot. Holds slot inline_kind bytes.now)
 Performs shares old (Borrow t bytes) Done new = Replaces old new t (λ slot. Holds slot borrowed_kind bytes.now)
@@ -85,6 +116,29 @@ Performs shares old (Pop t) (Byte byte) new =
 Performs shares old (Pop t) Nothing new = ((slot_at old t).items ≡ []) × (new ≡ old)
 Performs shares old (Truncate t n) Done new = Replaces old new t (λ slot. IsShortened (slot_at old t) slot n)
 Performs shares old (Clear t) Done new = Replaces old new t (λ slot. IsShortened (slot_at old t) slot 0)
+Performs shares old (Shrink t least) Done new =
+    let target = slot_at old t in
+    Replaces old new t (λ slot. IsShrunk target slot (max least (length target.items)))
+Performs shares old (Upper t) Done new =
+    let target = slot_at old t in
+    Replaces old new t (λ slot. Holds slot (owned_kind target.kind (length target.items)) (map to_ascii_uppercase target.items))
+Performs shares old (Lower t) Done new =
+    let target = slot_at old t in
+    Replaces old new t (λ slot. Holds slot (owned_kind target.kind (length target.items)) (map to_ascii_lowercase target.items))
+Performs shares old (Set t i byte) Done new =
+    let target = slot_at old t in
+    Replaces old new t (λ slot. Holds slot (owned_kind target.kind (length target.items)) (slice_set target.items i byte))
+Performs shares old (Repeat s t n) Done new =
+    let source = slot_at old s in
+    Replaces old new t (λ slot. Holds slot (repeated_kind source.kind (length source.items) n) (repeat n source.items))
+Performs shares old (Mutate t bytes) Done new =
+    let items = (slot_at old t).items ++ bytes.now in
+    Replaces old new t (λ slot. Holds slot (by_length (length items)) items)
+Performs shares old (Owned t) Done new =
+    let target = slot_at old t in
+    Replaces old new t (λ slot. Holds slot (owned_kind target.kind (length target.items)) target.items
+    × (target.kind ≡ allocated_kind → slot.capacity ≡ target.capacity))
+Performs shares old (Compare s t) (Order order) new = (order ≡ slice_cmp nat_cmp (slot_at old s).items (slot_at old t).items) × (new ≡ old)
 Performs shares old (Len t) (Number n) new = (n ≡ length (slot_at old t).items) × (new ≡ old)
 Performs shares old (Kind t) (KindOf kind) new = (kind ≡ (slot_at old t).kind) × (new ≡ old)
 Performs shares old (Capacity t) (Number n) new = (n ≡ (slot_at old t).capacity) × (new ≡ old)
@@ -106,6 +160,15 @@ copies_of shares slots (Push t bytes) = times_copied shares (length (slot_at slo
 copies_of shares slots (Pop t) = shortened_cost (slot_at slots t).kind
 copies_of shares slots (Truncate t n) = shortened_cost (slot_at slots t).kind
 copies_of shares slots (Clear t) = shortened_cost (slot_at slots t).kind
+copies_of shares slots (Shrink t least) = shrink_cost shares (slot_at slots t).kind (length (slot_at slots t).items)
+copies_of shares slots (Upper t) = write_cost shares (slot_at slots t).kind (length (slot_at slots t).items)
+copies_of shares slots (Lower t) = write_cost shares (slot_at slots t).kind (length (slot_at slots t).items)
+copies_of shares slots (Set t i byte) = write_cost shares (slot_at slots t).kind (length (slot_at slots t).items)
+copies_of shares slots (Repeat s t n) = repeat_cost shares (slot_at slots s).kind (length (slot_at slots s).items) n
+copies_of shares slots (Mutate t bytes) =
+    let len = length (slot_at slots t).items in
+    len + (if shares then INLINE_CAPACITY else len + length bytes.now)
+copies_of shares slots (Owned t) = owned_cost shares (slot_at slots t).kind (length (slot_at slots t).items)
 -- any other copies none
 copies_of shares slots command = 0
 

@@ -1,4 +1,5 @@
 use hip_bytes::{Kind, SliceErrorKind};
+use std::cmp::Ordering;
 use std::ops::Bound;
 
 /// What [`run`](crate::run) can be told to do. Slots are named by their position in the pool.
@@ -26,6 +27,22 @@ pub enum Command<'b> {
     Truncate(usize, usize),
     /// The slot lets go of its items.
     Clear(usize),
+    /// The slot gives room back, down to so many bytes.
+    Shrink(usize, usize),
+    /// The letters `a` to `z` become `A` to `Z`.
+    Upper(usize),
+    /// The letters `A` to `Z` become `a` to `z`.
+    Lower(usize),
+    /// One byte is replaced.
+    Set(usize, usize, u8),
+    /// The second slot becomes the items of the first, so many times.
+    Repeat(usize, usize, usize),
+    /// The bytes are added at the slot's end, through a vector that is lent.
+    Mutate(usize, &'b [u8]),
+    /// The slot stops borrowing.
+    Owned(usize),
+    /// The order of the bytes of two slots.
+    Compare(usize, usize),
     /// The number of the slot's bytes.
     Len(usize),
     /// Where the slot's bytes lie.
@@ -43,6 +60,8 @@ pub enum Answer {
     Nothing,
     /// The number that was asked for.
     Number(usize),
+    /// How the first stands to the second.
+    Order(Ordering),
     /// The byte that was taken off.
     Byte(u8),
     /// The kind that was asked for.
@@ -56,7 +75,7 @@ pub enum Answer {
 pub enum Reason {
     /// A slot isn't there.
     NoSlot,
-    /// The bytes are too many for a handle itself.
+    /// The bytes are too many for a handle itself, or for any list.
     TooLong,
     /// The range's start comes after its end.
     StartGreaterThanEnd,
@@ -64,6 +83,8 @@ pub enum Reason {
     StartOutOfBounds,
     /// The range's end is past the length.
     EndOutOfBounds,
+    /// The position is past the items.
+    OutOfRange,
     /// Memory ran out, or an owner couldn't be shared once more.
     Memory,
 }

@@ -8,9 +8,11 @@ use crate::pool::Pool;
 use hip_bytes::{Backend, Meter};
 use std::alloc::{AllocError, Global};
 
+mod build;
 mod change;
 mod make;
 mod tell;
+mod write;
 
 impl<'b, B: Backend> Pool<'b, B> {
     /// Performs one command.
@@ -30,6 +32,14 @@ impl<'b, B: Backend> Pool<'b, B> {
             Command::Pop(t) => self.pop(t, meter),
             Command::Truncate(t, n) => self.truncate(t, n, meter),
             Command::Clear(t) => self.clear(t, meter),
+            Command::Shrink(t, least) => self.shrink(alloc, t, least, meter),
+            Command::Upper(t) => self.make_upper(alloc, t, meter),
+            Command::Lower(t) => self.make_lower(alloc, t, meter),
+            Command::Set(t, i, byte) => self.set(alloc, t, i, byte, meter),
+            Command::Repeat(s, t, n) => self.make_repeat(alloc, s, t, n, meter),
+            Command::Mutate(t, addition) => self.mutate(alloc, t, addition, meter),
+            Command::Owned(t) => self.make_owned(alloc, t, meter),
+            Command::Compare(s, t) => self.compare(s, t),
             Command::Len(t) => self.tell_len(t),
             Command::Kind(t) => self.tell_kind(t),
             Command::Capacity(t) => self.tell_capacity(t),

@@ -40,6 +40,7 @@ impl<'b, B: Backend> HipByt<'b, B> {
         ensures too_long { (result ≡ Err GrowFault.TooLong) ↔ (2 ^ 64 ≤ n * length self.now.items) }
         ensures memory { result ≡ Err GrowFault.Memory → RepeatNeedsMemory self.now.kind (length self.now.items) n }
         ensures counted { RisesAtMost meter.old meter.new (repeat_cost B.SHARES self.now.kind (length self.now.items) n) }
+        ensures refused_counts_none { result ≡ Err GrowFault.TooLong → meter.new ≡ meter.old }
     {
         if self.is_empty() {
             return self.cloned(alloc, meter);
@@ -77,6 +78,7 @@ impl<'b, B: Backend> HipByt<'b, B> {
         ensures too_long { (result ≡ Err GrowFault.TooLong) ↔ (2 ^ 64 ≤ length (joined [] slices.now)) }
         ensures memory { result ≡ Err GrowFault.Memory → INLINE_CAPACITY < length (joined [] slices.now) }
         ensures counted { RisesAtMost meter.old meter.new (join_cost B.SHARES (length (joined [] slices.now))) }
+        ensures refused_counts_none { result ≡ Err GrowFault.TooLong → meter.new ≡ meter.old }
     {
         Self::join_slices_metered(alloc, slices, &[], meter)
     }
@@ -105,6 +107,7 @@ impl<'b, B: Backend> HipByt<'b, B> {
         ensures too_long { (result ≡ Err GrowFault.TooLong) ↔ (2 ^ 64 ≤ length (joined sep.now slices.now)) }
         ensures memory { result ≡ Err GrowFault.Memory → INLINE_CAPACITY < length (joined sep.now slices.now) }
         ensures counted { RisesAtMost meter.old meter.new (join_cost B.SHARES (length (joined sep.now slices.now))) }
+        ensures refused_counts_none { result ≡ Err GrowFault.TooLong → meter.new ≡ meter.old }
     {
         let Some(len) = joined_len(slices, sep) else {
             return Err(GrowFault::TooLong);
@@ -128,7 +131,9 @@ fn joined_len(slices: &[&[u8]], sep: &[u8]) -> Option<usize>
 {
     let mut len = 0usize;
     for (i, slice) in slices.iter().enumerate() {
-        len = len.checked_add(gap(i, sep).len())?.checked_add(slice.len())?;
+        len = len
+            .checked_add(gap(i, sep).len())?
+            .checked_add(slice.len())?;
     }
     Some(len)
 }

@@ -184,6 +184,44 @@ fn kinds(rt: HostRuntime) {
     }
 }
 
+/// What writes over a value, makes one of another, or compares two.
+#[test]
+fn growth(rt: HostRuntime) {
+    let rows = [
+        (
+            "copy 0 \"ab\"\nrepeat 0 1 0\nkind 1\nrepeat 0 1 18446744073709551615\nrepeat 0 1 3\nshow 1\n",
+            "done\ndone\ninline\nrefused TooLong\ndone\nbytes \"ababab\"\n",
+        ),
+        (
+            "copy 0 \"abc\"\ncopy 1 \"abd\"\ncompare 0 1\ncompare 1 0\ncompare 1 1\ncompare 0 16\n",
+            "done\ndone\nless\ngreater\nequal\nrefused NoSlot\n",
+        ),
+        // A write on a shared owner shows in one handle alone.
+        (
+            "copy 0 \"aaaaaaaaaaaaaaaaaaaaaaaaaa\"\nclone 0 1\nset 0 0 98\nset 0 26 98\nupper 1\nlower 1\nupper 1\nshow 0\nshow 1\nkind 0\n",
+            "done\ndone\ndone\nrefused OutOfRange\ndone\ndone\ndone\nbytes \"baaaaaaaaaaaaaaaaaaaaaaaaa\"\nbytes \"AAAAAAAAAAAAAAAAAAAAAAAAAA\"\nallocated\n",
+        ),
+        // A sole owner is written in place, and gives its room back.
+        (
+            "room 0 200\npush 0 \"aaaaaaaaaaaaaaaaaaaaaaaaaaaaaa\"\npush 0 \"aaaaaaaaaaaaaaaaaaaaaaaaaaaaaa\"\nset 0 0 98\ncopied\nshrink 0 0\nlen 0\ncapacity 0\n",
+            "done\ndone\ndone\ndone\n60\ndone\n60\n60\n",
+        ),
+        // Room for 24 bytes isn't needed by 2.
+        (
+            "room 0 200\npush 0 \"ab\"\nshrink 0 24\nkind 0\nshrink 0 23\nkind 0\nborrow 1 \"xyz\"\nupper 1\nkind 1\nborrow 2 \"xyz\"\nowned 2\nkind 2\nshow 2\n",
+            "done\ndone\ndone\nallocated\ndone\ninline\ndone\ndone\ninline\ndone\ndone\ninline\nbytes \"xyz\"\n",
+        ),
+        (
+            "copy 0 \"Hello, World!\"\nmutate 0 \"!\"\nshow 0\nkind 0\nmutate 0 \"aaaaaaaaaaaa\"\nkind 0\nlen 0\nmutate 16 \"\"\n",
+            "done\ndone\nbytes \"Hello, World!!\"\ninline\ndone\nallocated\n26\nrefused NoSlot\n",
+        ),
+    ];
+    for (script, answers) in rows {
+        compare::<Rc>(&rt, rt.alloc(), script, answers);
+        compare::<Unique>(&rt, rt.alloc(), script, answers);
+    }
+}
+
 /// A slice of 23 bytes copies them; one of 24 copies none where owners are shared.
 #[test]
 fn inline_limit(rt: HostRuntime) {
@@ -210,7 +248,10 @@ fn bad_lines(rt: HostRuntime) {
         ("new 1a\n", 1),
         ("len 18446744073709551616\n", 1),
         ("copied 0\n", 1),
-        ("shrink 0 0\n", 1),
+        ("join 0 2 \"-\" 2\n", 1),
+        ("set 0 0 256\n", 1),
+        ("set 0 0\n", 1),
+        ("compare 0\n", 1),
         ("NEW 0\n", 1),
         ("new\t0\n", 1),
         ("\n\nbad", 3),

@@ -33,4 +33,13 @@ impl<'b, B: Backend> Pool<'b, B> {
         }
         Answer::Number(self.bytes(t).capacity())
     }
+
+    pub(super) fn compare(&self, s: usize, t: usize) -> Answer
+        ensures step { Step B.SHARES self.now (Command.Compare s t) result self.now }
+    {
+        if s >= self.len() || t >= self.len() {
+            return Answer::Refused(Reason::NoSlot);
+        }
+        Answer::Order(self.bytes(s).cmp_slice(self.bytes(t).as_slice()))
+    }
 }

@@ -15,15 +15,15 @@ returns-in-Err-clause-too_long g c = λ e.
 
 pub loop-piece-preserved : goal.loop-piece-preserved
 loop-piece-preserved g c =
-  let more = c.in_default.ensures in
-  let length_is = ap length more.items ∙ length-append (c.loop-piece.made.items ++ c.loop-piece.gap.now) c.in-Some.piece.now ∙ ap (λ n. n + length c.in-Some.piece.now) (length-append c.loop-piece.made.items c.loop-piece.gap.now) in
-  let grown : length c.loop-piece.made.items ≤ length c.add_behind.new.self.items = omega arith in
-  record {
-    items = more.items ∙ joined-more c.args.sep.now c.loop-piece.yielded c.in-Some.piece c.loop-piece.made.items c.loop-piece.gap.now c.loop-piece.invariant.items c.loop-piece.invariant.gap;
-    gap = gap_before-snoc c.args.sep.now c.loop-piece.yielded c.in-Some.piece;
-    place = more.place ∙ ap (λ b. b && nat_le (length c.add_behind.new.self.items) INLINE_CAPACITY) c.loop-piece.invariant.place ∙ fits_before _ _ INLINE_CAPACITY grown;
-    counted = record {
-      never_falls = omega (arith, more.counted.never_falls);
-      at_most = omega (arith, more.counted.at_most, spilled_once c.loop-piece.made.in_handle c.add_behind.new.self.in_handle (nat_le (length c.add_behind.new.self.items) INLINE_CAPACITY) more.place);
-    };
-  }
+    let more = c.in_default.ensures in
+    let length_is = ap length more.items ∙ length-append (c.loop-piece.made.items ++ c.loop-piece.gap.now) c.in-Some.piece.now ∙ ap (λ n. n + length c.in-Some.piece.now) (length-append c.loop-piece.made.items c.loop-piece.gap.now) in
+    let grown : length c.loop-piece.made.items ≤ length c.add_behind.new.self.items = omega arith in
+    record {
+      items = more.items ∙ joined-more c.args.sep.now c.loop-piece.yielded c.in-Some.piece c.loop-piece.made.items c.loop-piece.gap.now c.loop-piece.invariant.items c.loop-piece.invariant.gap;
+      gap = gap_before-snoc c.args.sep.now c.loop-piece.yielded c.in-Some.piece;
+      place = more.place ∙ ap (λ b. b && nat_le (length c.add_behind.new.self.items) INLINE_CAPACITY) c.loop-piece.invariant.place ∙ fits_before _ _ INLINE_CAPACITY grown;
+      counted = record {
+        never_falls = omega (arith, more.counted.never_falls);
+        at_most = omega (arith, more.counted.at_most, spilled_once c.loop-piece.made.in_handle c.add_behind.new.self.in_handle (nat_le (length c.add_behind.new.self.items) INLINE_CAPACITY) more.place);
+      };
+    }

@@ -15,17 +15,21 @@ add_within-requires-in-loop-i c =
 
 pub loop-i-preserved : goal.loop-i-preserved
 loop-i-preserved c =
-  let all = joined-next c.args.sep.now c.args.slices.now c.loop-i.i _ _ _ _ _ c.loop-i-test.true c.loop-i.invariant.items c.gap.ensures c.add_within.ensures.items c.add_within-in-loop-i.ensures.items in
-  record {
-    items = all;
-    room = omega arith;
-    place = c.add_within-in-loop-i.ensures.place ∙ c.add_within.ensures.place ∙ c.loop-i.invariant.place;
-    counted = record {
-      never_falls = omega arith;
-      at_most =
-          let made = length c.loop-i.made.items in
-          let gap = length c.gap.result.now in
-          omega (arith, length-next c.args.sep.now c.args.slices.now c.loop-i.i nowhere made (made + gap) (made + gap + length (get_or c.args.slices.now c.loop-i.i nowhere).now) c.gap.result.now
-              c.loop-i-test.true (ap length c.loop-i.invariant.items) c.gap.ensures refl refl, ap length c.loop-i.invariant.items);
-    };
-  }
+    let all = joined-next c.args.sep.now c.args.slices.now c.loop-i.i _ _ _ _ _ c.loop-i-test.true c.loop-i.invariant.items c.gap.ensures c.add_within.ensures.items c.add_within-in-loop-i.ensures.items in
+    record {
+      items = all;
+      room = omega arith;
+      place = c.add_within-in-loop-i.ensures.place ∙ c.add_within.ensures.place ∙ c.loop-i.invariant.place;
+      counted = record {
+        never_falls = omega arith;
+        at_most =
+            let made = length c.loop-i.made.items in
+            let gap = length c.gap.result.now in
+            omega (
+              arith,
+              length-next c.args.sep.now c.args.slices.now c.loop-i.i nowhere made (made + gap) (made + gap + length (get_or c.args.slices.now c.loop-i.i nowhere).now) c.gap.result.now
+                  c.loop-i-test.true (ap length c.loop-i.invariant.items) c.gap.ensures refl refl,
+              ap length c.loop-i.invariant.items,
+            );
+      };
+    }

@@ -7,11 +7,11 @@ add_within-requires c = let fits = turn_fits c.loop.counter c.args.n (length c.a
 
 pub loop-preserved : goal.loop-preserved
 loop-preserved c =
-  let more = times_more c.loop.counter (length c.args.bytes.now) in
-  record {
-    items = c.add_within.ensures.items ∙ ap (λ xs. xs ++ c.args.bytes.now) c.loop.invariant.items ∙ repeat-append c.loop.counter c.args.bytes.now;
-    len = ap length c.add_within.ensures.items ∙ length-append c.loop.made.items c.args.bytes.now ∙ ap (λ n. n + length c.args.bytes.now) c.loop.invariant.len ∙ more;
-    room = omega arith;
-    place = c.add_within.ensures.place ∙ c.loop.invariant.place;
-    counted = record { never_falls = omega arith; at_most = omega arith };
-  }
+    let more = times_more c.loop.counter (length c.args.bytes.now) in
+    record {
+      items = c.add_within.ensures.items ∙ ap (λ xs. xs ++ c.args.bytes.now) c.loop.invariant.items ∙ repeat-append c.loop.counter c.args.bytes.now;
+      len = ap length c.add_within.ensures.items ∙ length-append c.loop.made.items c.args.bytes.now ∙ ap (λ n. n + length c.args.bytes.now) c.loop.invariant.len ∙ more;
+      room = omega arith;
+      place = c.add_within.ensures.place ∙ c.loop.invariant.place;
+      counted = record { never_falls = omega arith; at_most = omega arith };
+    }

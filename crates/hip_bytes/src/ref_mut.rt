@@ -1,0 +1,103 @@
+//! A value lent out as a vector.
+ghost use Rattle.std.specs.Prelude.{◌≡◌, ℕ, List, IfOk, IfErr, OnOk, OnErr};
+
+use hip_raw::Meter;
+use std::alloc::{AllocError, Global};
+use std::fmt;
+
+/// What can be lent out as a vector of its bytes.
+pub trait Source {
+    /// Its bytes.
+    ghost items: { Self → List ℕ };
+
+    /// It holds no bytes, in the handle itself.
+    ghost is_emptied: { Self → Type 0 };
+
+    /// It holds these bytes, by length.
+    ghost has_put: { Self → List ℕ → Type 0 };
+
+    /// Takes the bytes out in a vector, and leaves none. After a refusal the value is as it was.
+    fn take_vec_metered(&mut self, alloc: Global, meter: &mut Meter) -> Result<Vec<u8>, AllocError>
+        ensures items { IfOk result (λ vec. vec.items ≡ items self.old) }
+        ensures emptied { OnOk result (is_emptied self.new) }
+        ensures err { OnErr result (self.new ≡ self.old) };
+
+    /// Makes the value that of the vector. A refused vector is handed back, and the value is as it was.
+    fn put_vec_metered(
+        &mut self,
+        alloc: Global,
+        vec: Vec<u8>,
+        meter: &mut Meter,
+    ) -> Result<(), Vec<u8>>
+        ensures put { OnOk result (has_put self.new vec.items) }
+        ensures err { OnErr result (self.new ≡ self.old) }
+        ensures handed_back { IfErr result (λ back. back ≡ vec) };
+}
+
+/// A value's bytes in a vector, to be written back by [`RefMut::finish`]. While it lives the value is empty, and where it is dropped
+/// the value stays so.
+pub struct RefMut<'a, S: Source, V: Drop = Vec<u8>> {
+    source: &'a mut S,
+    vec: V,
+}
+
+impl<'a, S: Source, V: Drop> Drop for RefMut<'a, S, V> {
+    fn drop(self)
+        ensures { self.exit.0.now ≡ self.entry.source.now }
+    {
+        let RefMut { source: _, vec: _ } = self;
+    }
+}
+
+impl<'a, S: Source> RefMut<'a, S, Vec<u8>> {
+    ghost use Rattle.hip_bytes.specs.RefMut.{lent_items, lent_source};
+
+    pub(crate) fn new(source: &'a mut S, vec: Vec<u8>) -> Self
+        ensures items { lent_items result ≡ vec.items }
+        ensures source { lent_source result ≡ source.old }
+        ensures same_reference { result.source.ghost_name ≡ source.entry.ghost_name }
+    {
+        RefMut { source, vec }
+    }
+
+    /// The lent vector.
+    #[inline]
+    pub fn as_vec(&self) -> &Vec<u8>
+        ensures { result.now.items ≡ lent_items self.now }
+    {
+        &self.vec
+    }
+
+    /// The lent vector, for writing.
+    #[inline]
+    pub fn as_mut_vec(&mut self) -> &mut Vec<u8>
+        ensures items { result.now.items ≡ lent_items self.old }
+    {
+        &mut self.vec
+    }
+
+    /// Writes the vector's bytes back. A refused vector is handed back, and the value stays empty.
+    pub fn finish(self, alloc: Global) -> Result<(), Vec<u8>>
+        ensures put { OnOk result (S.has_put (self.exit.0.now) (lent_items self.entry)) }
+        ensures err { OnErr result (self.exit.0.now ≡ lent_source self.entry) }
+        ensures handed_back { IfErr result (λ back. back.items ≡ lent_items self.entry) }
+    {
+        self.finish_metered(alloc, &mut Meter::new())
+    }
+
+    /// [`RefMut::finish`], counted.
+    pub fn finish_metered(self, alloc: Global, meter: &mut Meter) -> Result<(), Vec<u8>>
+        ensures put { OnOk result (S.has_put (self.exit.0.now) (lent_items self.entry)) }
+        ensures err { OnErr result (self.exit.0.now ≡ lent_source self.entry) }
+        ensures handed_back { IfErr result (λ back. back.items ≡ lent_items self.entry) }
+    {
+        let RefMut { source, vec } = self;
+        source.put_vec_metered(alloc, vec, meter)
+    }
+}
+
+impl<'a, S: Source> fmt::Debug for RefMut<'a, S, Vec<u8>> {
+    fn fmt<W: fmt::Write>(&self, f: &mut fmt::Formatter<W>) -> fmt::Result {
+        fmt::Debug::fmt(&self.vec, f)
+    }
+}

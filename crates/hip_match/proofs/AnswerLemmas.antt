@@ -1,0 +1,29 @@
+-- What a set of characters occurs at is told by its answers at characters.
+use Rattle.std.proofs.Common.{◌≡◌, ℕ, ◌<◌, ◌≤◌, Bool, true, false, ◌&&◌, Option, Some, None, List, ap, sym, ◌∙◌, if◌then◌else◌, arith, ⊎_elim}
+use Rattle.std.proofs.Math.Path.{fun_ext}
+use Rattle.std.proofs.Math.Utf8.{scalar, scalar_cases}
+use Rattle.std.proofs.lemmas.Bool.{cases_Bool}
+use Rattle.std.specs.Char.{IsScalar}
+use Rattle.std.specs.Option.{option_and_then}
+use Rattle.hip_match.specs.Characters.{char_at, char_ends, end_if}
+use Rattle.hip_match.specs.Answers.{answer_at, answers_of, answer_at-of}
+
+pub scalar_below : (c : ℕ) → IsScalar c → c < 1114112
+scalar_below c is = ⊎_elim (λ (low : c < 55296). omega arith) (λ (high : (57344 ≤ c) × (c < 1114112)). high.1) (scalar_cases c is)
+
+module _ (p q : ℕ → Bool) (same : (c : ℕ) → IsScalar c → p c ≡ q c) where
+  same_end : (c : ℕ × ℕ) → end_if p c ≡ end_if q c
+  same_end c =
+      ⊎_elim (λ (is : scalar c.0 ≡ true). ap (λ b. if scalar c.0 && b then Some c.1 else None) (same c.0 is))
+      (λ (no : scalar c.0 ≡ false). ap (λ s. if s && p c.0 then Some c.1 else None) no ∙ sym (ap (λ s. if s && q c.0 then Some c.1 else None) no))
+      (cases_Bool (scalar c.0))
+
+  pub same_ends : char_ends p ≡ char_ends q
+  same_ends = ap {B = List ℕ → ℕ → Option ℕ} (λ (f : ℕ × ℕ → Option ℕ) text i. option_and_then f (char_at text i)) (fun_ext same_end)
+
+-- a list of all answers gives them
+pub answered : (passes : ℕ → Bool) (answers : List Bool) → answers ≡ answers_of passes → (c : ℕ) → IsScalar c → answer_at answers c ≡ passes c
+answered passes answers are c is = ap (λ l. answer_at l c) are ∙ answer_at-of passes c (scalar_below c is)
+
+pub answered_ends : (passes : ℕ → Bool) (answers : List Bool) → answers ≡ answers_of passes → char_ends (λ c. answer_at answers c) ≡ char_ends passes
+answered_ends passes answers are = same_ends (λ c. answer_at answers c) passes (answered passes answers are)

@@ -1,0 +1,181 @@
+-- Where memchr finds the bytes of a text, the text occurs.
+use Rattle.std.proofs.Common.{◌≡◌, ℕ, ◌+◌, ◌-◌, ◌<◌, ◌≤◌, false, List, Option, Some, None, length, take, drop, slice_index, sym, ap, subst, ◌∙◌, arith, ⊎_elim, length-drop, length-take-le, get_or-drop, get_or-take, take_all}
+use Rattle.std.specs.Prelude.{◌==◌}
+use Rattle.std.proofs.lemmas.Bool.{cases_lt, eqb-true, eq-eqb, false≢true}
+use Rattle.std.proofs.lemmas.List.{nil_from_length}
+use Rattle.std.specs.Str.{IsUtf8, IsCharBoundary}
+use Rattle.memchr.specs.Find.{OccursAt, FindsNeedle, FindsLastNeedle, IsFirstByte, IsLastByte, Passes, is_byte}
+use Rattle.memchr.proofs.lemmas.MatchLemmas.{OccursAt-part, OccursAt-from_part}
+use Rattle.hip_match.specs.Occurrence.{StartsFirst, EndsLast, start_of}
+use Rattle.hip_match.specs.Texts.{text_ends}
+use Rattle.hip_match.specs.TextLaws.{text_ends-some, text_ends-is, text_ends-one_start, Stands-boundaries}
+use Rattle.hip_match.proofs.OccurrenceLemmas.{option_cases}
+use Rattle.hip_match.proofs.RightmostLemmas.{start_among-found, start_among-none}
+
+-- ---- a needle of one byte
+
+OneByte-occurs : (hay needle : List ℕ) (k : ℕ) → length needle ≡ 1 → k < length hay → Passes (is_byte (slice_index needle 0)) hay k → OccursAt hay needle k
+OneByte-occurs hay needle k one lt passes =
+    record {
+      fits = omega arith;
+      reads = λ j low. let zero : j ≡ 0 = omega arith in let same : k + j ≡ k = omega arith in
+          ap (λ n. slice_index hay n) same ∙ eqb-true _ _ passes ∙ ap (λ n. slice_index needle n) (sym zero);
+    }
+
+OneByte-passes : (hay needle : List ℕ) (k : ℕ) → length needle ≡ 1 → OccursAt hay needle k → Passes (is_byte (slice_index needle 0)) hay k
+OneByte-passes hay needle k one occurs =
+    let same : k ≡ k + 0 = omega arith in
+    eq-eqb _ _ (ap (λ n. slice_index hay n) same ∙ occurs.reads 0 (omega arith))
+
+pub FindsNeedle-byte : (hay needle : List ℕ) (r : Option ℕ) → length needle ≡ 1 → IsFirstByte (is_byte (slice_index needle 0)) hay r → FindsNeedle hay needle 0 r
+FindsNeedle-byte hay needle None one h = λ k lo hi occurs. let fits : k + length needle ≤ length hay = occurs.fits in h k lo (omega arith) (OneByte-passes hay needle k one occurs)
+FindsNeedle-byte hay needle (Some k) one h =
+    let high : k < length hay = h.0.high in (
+      record { low = h.0.low; high = omega arith; before = λ j lo hi occurs. h.0.before j lo hi (OneByte-passes hay needle j one occurs) },
+      OneByte-occurs hay needle k one high h.1,
+    )
+
+pub FindsLastNeedle-byte : (hay needle : List ℕ) (r : Option ℕ) → length needle ≡ 1 → IsLastByte (is_byte (slice_index needle 0)) hay r → FindsLastNeedle hay needle r
+FindsLastNeedle-byte hay needle None one h = λ k lo hi occurs. let fits : k + length needle ≤ length hay = occurs.fits in h k lo (omega arith) (OneByte-passes hay needle k one occurs)
+FindsLastNeedle-byte hay needle (Some k) one h =
+    let high : k < length hay = h.0.high in (
+      record { low = h.0.low; high = omega arith; after = λ j lo hi occurs. let fits : j + length needle ≤ length hay = occurs.fits in h.0.after j lo (omega arith) (OneByte-passes hay needle j one occurs) },
+      OneByte-occurs hay needle k one high h.1,
+    )
+
+-- ---- occurrences in a part of the text
+
+module _ (t p : List ℕ) where
+  pub OccursAt-drop : (from k : ℕ) → from ≤ length t → OccursAt (drop from t) p k → OccursAt t p (from + k)
+  OccursAt-drop from k le h =
+      record {
+        fits = omega (arith, h.fits, length-drop from t);
+        reads = λ j lt. let same : from + k + j ≡ from + (k + j) = omega arith in ap (λ n. slice_index t n) same ∙ sym (get_or-drop from t (k + j) 0) ∙ h.reads j lt;
+      }
+
+  pub OccursAt-in_drop : (from k : ℕ) → from ≤ k → OccursAt t p k → OccursAt (drop from t) p (k - from)
+  OccursAt-in_drop from k le h =
+      record {
+        fits = omega (arith, h.fits, length-drop from t);
+        reads = λ j lt. let same : from + (k - from + j) ≡ k + j = omega arith in get_or-drop from t (k - from + j) 0 ∙ ap (λ n. slice_index t n) same ∙ h.reads j lt;
+      }
+
+  pub OccursAt-take : (to k : ℕ) → to ≤ length t → OccursAt (take to t) p k → OccursAt t p k × (k + length p ≤ to)
+  OccursAt-take to k le h =
+      let fits : k + length p ≤ to = omega (arith, h.fits, length-take-le to t le) in
+      (record { fits = omega arith; reads = λ j lt. sym (get_or-take to t (k + j) 0 (omega arith)) ∙ h.reads j lt }, fits)
+
+  pub OccursAt-in_take : (to k : ℕ) → to ≤ length t → k + length p ≤ to → OccursAt t p k → OccursAt (take to t) p k
+  OccursAt-in_take to k le fits h =
+      record { fits = omega (arith, length-take-le to t le); reads = λ j lt. get_or-take to t (k + j) 0 (omega arith) ∙ h.reads j lt }
+
+  pub text_ends-occurs : (a b : ℕ) → text_ends p t a ≡ Some b → OccursAt t p a × (b ≡ a + length p)
+  text_ends-occurs a b is =
+      let parts = text_ends-is p t a b is in
+      (OccursAt-from_part t p a parts.1.0 parts.2, parts.3)
+
+  module _ (own : IsUtf8 p) (utf8 : IsUtf8 t) where
+    pub occurs-text_ends : (a : ℕ) → 0 < length p → OccursAt t p a → text_ends p t a ≡ Some (a + length p)
+    occurs-text_ends a some h =
+        let part = OccursAt-part t p a h in
+        let cuts = Stands-boundaries p t a own utf8 some h.fits part in
+        text_ends-some p t a cuts.0 cuts.1 part
+
+    -- the search from the front
+    pub find_text-none : (from : ℕ) → from ≤ length t → FindsNeedle (drop from t) p 0 None → (k : ℕ) → from ≤ k → text_ends p t k ≡ None
+    find_text-none from le none k lo =
+        option_cases (text_ends p t k) (λ empty. empty)
+        (λ b is.
+        let occurs = (text_ends-occurs k b is).0 in
+        absurd (none (k - from) (omega arith) (omega (arith, occurs.fits, length-drop from t)) (OccursAt-in_drop from k lo occurs)))
+
+    pub find_text-some : (from k : ℕ) → from ≤ length t → 0 < length p → FindsNeedle (drop from t) p 0 (Some k) → StartsFirst (text_ends p t) from (from + k, from + k + length p)
+    find_text-some from k le some h =
+        record {
+          after = omega arith;
+          occurs = occurs-text_ends (from + k) some (OccursAt-drop from k le h.1);
+          first = λ j lo hi. option_cases (text_ends p t j) (λ empty. empty)
+              (λ b is. absurd (h.0.before (j - from) (omega arith) (omega arith) (OccursAt-in_drop from j lo (text_ends-occurs j b is).0)));
+        }
+
+    -- an empty text occurs at once
+    empty_text : (a : ℕ) → length p ≡ 0 → IsCharBoundary t a → text_ends p t a ≡ Some a
+    empty_text a empty cut =
+        let same : a + length p ≡ a = omega arith in
+        let P : ℕ → Type 0 = IsCharBoundary t in
+        text_ends-some p t a cut (subst P (sym same) cut) (ap (λ n. take n (drop a t)) empty ∙ sym (nil_from_length p empty)) ∙ ap (λ k. Some k) same
+
+    pub find_empty : (from : ℕ) → length p ≡ 0 → IsCharBoundary t from → StartsFirst (text_ends p t) from (from, from)
+    find_empty from empty cut = record { after = omega arith; occurs = empty_text from empty cut; first = λ j lo hi. absurd (omega arith) }
+
+    pub rfind_empty : (to : ℕ) → length p ≡ 0 → IsCharBoundary t to → EndsLast (text_ends p t) to (to, to)
+    rfind_empty to empty cut = record { before = omega arith; occurs = empty_text to empty cut; last = λ a b is lt. lt }
+
+    -- at one place
+    pub text_at-yes : (a : ℕ) → IsCharBoundary t a → OccursAt (drop a t) p 0 → text_ends p t a ≡ Some (a + length p)
+    text_at-yes a cut h =
+        let same : a + 0 ≡ a = omega arith in
+        let P : ℕ → Type 0 = OccursAt t p in
+        let occurs = subst P same (OccursAt-drop a 0 cut.0 h) in
+        ⊎_elim (λ (some : 0 < length p). occurs-text_ends a some occurs)
+        (λ (le : length p ≤ 0). let zero : length p ≡ 0 = omega arith in let end : a ≡ a + length p = omega arith in empty_text a zero cut ∙ ap (λ k. Some k) end)
+        (cases_lt 0 (length p))
+
+    pub text_at-no : (a : ℕ) → ¬ OccursAt (drop a t) p 0 → text_ends p t a ≡ None
+    text_at-no a off =
+        option_cases (text_ends p t a) (λ empty. empty)
+        (λ b is.
+        let same : a - a ≡ 0 = omega arith in
+        let P : ℕ → Type 0 = OccursAt (drop a t) p in
+        absurd (off (subst P same (OccursAt-in_drop a a (omega arith) (text_ends-occurs a b is).0))))
+
+    -- the search from the back
+    pub rfind_text-none : (to : ℕ) → to ≤ length t → FindsLastNeedle (take to t) p None → (a b : ℕ) → text_ends p t a ≡ Some b → to < b
+    rfind_text-none to le none a b is =
+        let found = text_ends-occurs a b is in
+        ⊎_elim (λ (past : to < b). past)
+        (λ (within : b ≤ to). absurd (none a (omega arith) (omega (arith, found.1, length-take-le to t le)) (OccursAt-in_take to a le (omega (arith, found.1)) found.0)))
+        (cases_lt to b)
+
+    pub rfind_text-some : (to k : ℕ) → to ≤ length t → 0 < length p → FindsLastNeedle (take to t) p (Some k) → EndsLast (text_ends p t) to (k, k + length p)
+    rfind_text-some to k le some h =
+        let found = OccursAt-take to k le h.1 in
+        record {
+          before = found.1;
+          occurs = occurs-text_ends k some found.0;
+          last = λ a b is lt.
+              let other = text_ends-occurs a b is in
+              ⊎_elim (λ (past : to < b). past)
+              (λ (within : b ≤ to). absurd (h.0.after a (omega (arith, other.1)) (omega (arith, other.1, length-take-le to t le)) (OccursAt-in_take to a le (omega (arith, other.1)) other.0)))
+              (cases_lt to b);
+        }
+
+    pub text_before-yes : (to : ℕ) → IsCharBoundary t to → length p ≤ length (take to t) → OccursAt (take to t) p (length (take to t) - length p) → start_of (text_ends p t) to ≡ Some (to - length p)
+    text_before-yes to cut short h =
+        let size = length-take-le to t cut.0 in
+        let found = OccursAt-take to _ cut.0 h in
+        let at : length (take to t) - length p ≡ to - length p = omega (arith, size) in
+        let P : ℕ → Type 0 = OccursAt t p in
+        let occurs = subst P at found.0 in
+        let end : to - length p + length p ≡ to = omega (arith, size) in
+        let here : text_ends p t (to - length p) ≡ Some to =
+        ⊎_elim (λ (some : 0 < length p). occurs-text_ends (to - length p) some occurs ∙ ap (λ k. Some k) end)
+        (λ (le : length p ≤ 0). let zero : length p ≡ 0 = omega arith in let same : to - length p ≡ to = omega arith in ap (text_ends p t) same ∙ empty_text to zero cut)
+        (cases_lt 0 (length p)) in
+        start_among-found (text_ends p t) 0 (to + 1) to (to - length p) (λ b c first second. text_ends-one_start p t b c to utf8 first second) (omega arith) (omega arith) here
+
+    pub text_before-no : (to : ℕ) → IsCharBoundary t to → ¬ ((length p ≤ length (take to t)) × OccursAt (take to t) p (length (take to t) - length p)) → start_of (text_ends p t) to ≡ None
+    text_before-no to cut off =
+        start_among-none (text_ends p t) 0 (to + 1) to (λ a lo hi is.
+        let found = text_ends-occurs a to is in
+        let size = length-take-le to t cut.0 in
+        let at : a ≡ length (take to t) - length p = omega (arith, size, found.1) in
+        let P : ℕ → Type 0 = OccursAt (take to t) p in
+        off (omega (arith, size, found.1), subst P at (OccursAt-in_take to a cut.0 (omega (arith, found.1)) found.0)))
+
+-- what a slice of a rest or of a front is
+pub rest_slice : (t : List ℕ) (from : ℕ) → take (length t - from) (drop from t) ≡ drop from t
+rest_slice t from = take_all _ _ (omega (arith, length-drop from t))
+
+pub positive : (n : ℕ) → (n == 0) ≡ false → 0 < n
+positive n h = ⊎_elim (λ (lt : 0 < n). lt) (λ (le : n ≤ 0). absurd (false≢true (sym h ∙ eq-eqb n 0 (omega arith)))) (cases_lt 0 n)

@@ -1,0 +1,25 @@
+use Rattle.std.proofs.Common.{length, arith}
+use Rattle.std.proofs.lemmas.Str.{IsCharBoundary-start, IsCharBoundary-end}
+use Rattle.hip_match.proofs.LeftmostLemmas.{leftmost_between-InOrder}
+use Rattle.hip_match.proofs.matches.Matches.new.Goals as goal
+
+pub returns-clause-ready : goal.returns-clause-ready
+returns-clause-ready g c =
+    record {
+      search = c.requires;
+      window = record {
+        utf8 = c.utf8.text;
+        start = IsCharBoundary-start _ c.utf8.text;
+        end = IsCharBoundary-end _;
+        ordered = omega arith;
+      };
+      whole = λ a b is lt. (g.met.P.Pattern.spans _ _ _ _ c.utf8.text is).end.0;
+    }
+
+pub returns-clause-between : goal.returns-clause-between
+returns-clause-between g c =
+    record {
+      start = IsCharBoundary-start _ c.utf8.text;
+      end = IsCharBoundary-end _;
+      in_order = leftmost_between-InOrder _ 0 (length c.args.text.now) (λ k m is. (g.met.P.Pattern.spans _ _ _ _ c.utf8.text is).ordered) (omega arith);
+    }

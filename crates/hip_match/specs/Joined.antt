@@ -1,0 +1,17 @@
+-- Pieces of a text, put together again: Rust's `[str]::join` and `[str]::concat`.
+use Rattle.std.specs.Prelude.{ℕ, List, [], ◌∷◌, ◌++◌, map, slice_range}
+
+-- the bytes of the text in each range
+abbrev pub parts : List ℕ → List (ℕ × ℕ) → List (List ℕ)
+parts text ranges = map (λ r. slice_range text r.0 r.1) ranges
+
+-- the lists, one after another
+abbrev pub together : List (List ℕ) → List ℕ
+together [] = []
+together (x ∷ xs) = x ++ together xs
+
+-- the lists, with a separator between each two
+abbrev pub joined : List ℕ → List (List ℕ) → List ℕ
+joined sep [] = []
+joined sep (x ∷ []) = x
+joined sep (x ∷ y ∷ ys) = x ++ (sep ++ joined sep (y ∷ ys))

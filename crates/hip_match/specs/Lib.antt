@@ -1,0 +1,15 @@
+pub mod Occurrence
+pub mod Characters
+pub mod Texts
+pub mod CharLaws
+pub mod TextLaws
+pub mod Leftmost
+pub mod Rightmost
+pub mod Pieces
+pub mod Runs
+pub mod Trims
+pub mod Draw
+pub mod Joined
+pub mod Answers
+pub mod Ready
+pub mod Rows

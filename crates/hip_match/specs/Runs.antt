@@ -1,0 +1,36 @@
+-- The runs between white space, and the lines of a text, as Rust's documentation of `str` tells them. The text has n bytes.
+use Rattle.std.specs.Prelude.{ℕ, ◌-◌, ◌==◌, nat_lt, Bool, ◌&&◌, List, [], ◌∷◌, map, length, slice_index, if◌then◌else◌}
+use Rattle.std.specs.Char.{is_whitespace, is_ascii_whitespace}
+use Rattle.hip_match.specs.Characters.{char_ends}
+use Rattle.hip_match.specs.Pieces.{split, split_inclusive}
+
+-- the ranges that hold something
+abbrev pub nonempty : List (ℕ × ℕ) → List (ℕ × ℕ)
+nonempty [] = []
+nonempty (r ∷ rs) = if nat_lt r.0 r.1 then r ∷ nonempty rs else nonempty rs
+
+-- the longest nonempty runs of characters outside of a set: what lies between the characters that belong to it
+abbrev pub runs_outside : (ℕ → Bool) → List ℕ → List (ℕ × ℕ)
+runs_outside belongs text = nonempty (split (char_ends belongs text) (length text))
+
+-- the methods of `str`
+abbrev pub split_whitespace : List ℕ → List (ℕ × ℕ)
+split_whitespace text = runs_outside is_whitespace text
+
+abbrev pub split_ascii_whitespace : List ℕ → List (ℕ × ℕ)
+split_ascii_whitespace text = runs_outside is_ascii_whitespace text
+
+-- whether the range holds something and ends with the byte
+abbrev pub ends_with : List ℕ → ℕ → ℕ × ℕ → Bool
+ends_with text byte r = nat_lt r.0 r.1 && slice_index text (r.1 - 1) == byte
+
+-- the range without a carriage return at its end, which is 13
+abbrev pub without_return : List ℕ → ℕ × ℕ → ℕ × ℕ
+without_return text r = if ends_with text 13 r then (r.0, r.1 - 1) else r
+
+-- the range without a line feed at its end, which is 10, and then without one carriage return
+abbrev pub line_of : List ℕ → ℕ × ℕ → ℕ × ℕ
+line_of text r = if ends_with text 10 r then without_return text (r.0, r.1 - 1) else r
+
+abbrev pub lines : List ℕ → List (ℕ × ℕ)
+lines text = map (line_of text) (split_inclusive (char_ends (λ c. c == 10) text) (length text))

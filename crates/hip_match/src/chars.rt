@@ -1,0 +1,112 @@
+//! The characters of a text, by position, and sets of characters.
+ghost use Rattle.std.specs.Prelude.{◌≡◌, ◌≤◌, ◌<◌, ℕ, Bool, Option, Some, List, length, IfSome, MatchOption};
+ghost use Rattle.std.specs.Str.{IsCharBoundary};
+ghost use Rattle.hip_match.specs.Occurrence.{IsNextMatch, IsLastMatch, NoneStarts, start_of};
+ghost use Rattle.hip_match.specs.Characters.{char_at, char_ends, IsCharBefore};
+
+use crate::boundaries::boundary_before;
+
+// The character that starts at `at`, and where it ends.
+#[inline]
+pub(crate) fn char_from(text: &str, at: usize) -> Option<(char, usize)>
+    requires { IsCharBoundary text.now at }
+    ensures { result ≡ char_at text.now at }
+{
+    let bytes = text.as_bytes();
+    if at == bytes.len() {
+        return None;
+    }
+    let first = bytes[at];
+    if first < 0x80 {
+        return Some((first as char, at + 1));
+    }
+    let c = text[at..].chars().next()?;
+    Some((c, at + c.len_utf8()))
+}
+
+// The character that ends at `to`, and where it starts.
+#[inline]
+pub(crate) fn char_before(text: &str, to: usize) -> Option<(char, usize)>
+    requires { IsCharBoundary text.now to }
+    ensures { MatchOption result (to ≡ 0) (IsCharBefore text.now to) }
+{
+    if to == 0 {
+        return None;
+    }
+    let last = text.as_bytes()[to - 1];
+    if last < 0x80 {
+        return Some((last as char, to - 1));
+    }
+    let at = boundary_before(text, to);
+    let (c, _) = char_from(text, at)?;
+    Some((c, at))
+}
+
+/// A set of characters. It occurs in a text at each character that belongs.
+pub(crate) trait CharSet {
+    /// What a test asks of the set.
+    ghost can_test: { Self → Type 0 } = { λ _. Unit {0} };
+
+    /// Whether a character belongs.
+    ghost belongs: { Self → ℕ → Bool };
+
+    fn has(&self, c: char) -> bool
+        requires { can_test self.now }
+        ensures { result ≡ belongs self.now c };
+}
+
+// The first character at or after `from` that belongs.
+#[inline]
+pub(crate) fn first_of<S: CharSet>(set: &S, text: &str, from: usize) -> Option<(usize, usize)>
+    requires can { S.can_test set.now }
+    requires boundary { IsCharBoundary text.now from }
+    ensures { IsNextMatch (char_ends (S.belongs set.now) text.now) from result }
+{
+    let mut at = from;
+    while let Some((c, end)) = char_from(text, at) {
+        if set.has(c) {
+            return Some((at, end));
+        }
+        at = end;
+    }
+    None
+}
+
+// Where the character at `at` ends, if it belongs.
+#[inline]
+pub(crate) fn end_of<S: CharSet>(set: &S, text: &str, at: usize) -> Option<usize>
+    requires can { S.can_test set.now }
+    requires boundary { IsCharBoundary text.now at }
+    ensures { result ≡ char_ends (S.belongs set.now) text.now at }
+{
+    let (c, end) = char_from(text, at)?;
+    if set.has(c) { Some(end) } else { None }
+}
+
+// The last character at or before `to` that belongs.
+#[inline]
+pub(crate) fn last_of<S: CharSet>(set: &S, text: &str, to: usize) -> Option<(usize, usize)>
+    requires can { S.can_test set.now }
+    requires boundary { IsCharBoundary text.now to }
+    ensures { IsLastMatch (char_ends (S.belongs set.now) text.now) to result }
+{
+    let mut end = to;
+    while let Some((c, at)) = char_before(text, end) {
+        if set.has(c) {
+            return Some((at, end));
+        }
+        end = at;
+    }
+    None
+}
+
+// Where the character before `to` starts, if it belongs.
+#[inline]
+pub(crate) fn start_before<S: CharSet>(set: &S, text: &str, to: usize) -> Option<usize>
+    requires can { S.can_test set.now }
+    requires boundary { IsCharBoundary text.now to }
+    ensures { result ≡ start_of (char_ends (S.belongs set.now) text.now) to }
+{
+    let (c, at) = char_before(text, to)?;
+    if set.has(c) { Some(at) } else { None }
+}

@@ -1,0 +1,39 @@
+//! Laws of the definitions that the contracts of this crate cite. Each function does nothing; its contract is the law.
+ghost use Rattle.std.specs.Prelude.{◌≡◌, ◌+◌, ℕ, List, length, reverse, ◌==◌, encode_utf8};
+ghost use Rattle.hip_match.specs.Characters.{char_ends};
+ghost use Rattle.hip_match.specs.Joined.{joined, parts, together};
+ghost use Rattle.hip_match.specs.Leftmost.{IsLeftmost, leftmost};
+ghost use Rattle.hip_match.specs.Pieces.{split, split_inclusive};
+ghost use Rattle.hip_match.specs.Rightmost.{IsRightmost, rightmost};
+ghost use Rattle.hip_match.specs.Texts.{text_ends};
+
+use crate::pattern::{OneChar, Pattern, ReversePattern};
+
+/// Just one list is leftmost: each is an occurrence, in order and none overlapping, and no other occurrence begins outside of them.
+pub fn just_one_list_is_leftmost<P: Pattern>(pattern: &P, text: &str)
+    ensures is { IsLeftmost (P.ends pattern.now text.now) 0 (leftmost (P.ends pattern.now text.now) (length text.now)) }
+    ensures only { (l : List (ℕ × ℕ)) → IsLeftmost (P.ends pattern.now text.now) 0 l → l ≡ leftmost (P.ends pattern.now text.now) (length text.now) }
+{}
+
+/// Just one list is rightmost: the same from the end, with starts and ends exchanged.
+pub fn just_one_list_is_rightmost<P: ReversePattern>(pattern: &P, text: &str)
+    ensures is { IsRightmost (P.ends pattern.now text.now) (length text.now + 1) (rightmost (P.ends pattern.now text.now) (length text.now)) }
+    ensures only { (l : List (ℕ × ℕ)) → IsRightmost (P.ends pattern.now text.now) (length text.now + 1) l → l ≡ rightmost (P.ends pattern.now text.now) (length text.now) }
+{}
+
+/// For a pattern of one character the rightmost list is the leftmost one reversed.
+pub fn one_char_reverses<P: OneChar>(pattern: &P, text: &str)
+    ensures { rightmost (P.ends pattern.now text.now) (length text.now) ≡ reverse (leftmost (P.ends pattern.now text.now) (length text.now)) }
+{}
+
+/// The pieces of a split by a text, joined with it, give the source; the pieces that end with it give the source as they are.
+pub fn join_undoes_split(text: &str, separator: &str)
+    ensures split { joined separator.now (parts text.now (split (text_ends separator.now text.now) (length text.now))) ≡ text.now }
+    ensures inclusive { together (parts text.now (split_inclusive (text_ends separator.now text.now) (length text.now))) ≡ text.now }
+{}
+
+/// The same of a character.
+pub fn join_undoes_split_by_char(text: &str, separator: char)
+    ensures split { joined (encode_utf8 separator) (parts text.now (split (char_ends (λ c. c == separator) text.now) (length text.now))) ≡ text.now }
+    ensures inclusive { together (parts text.now (split_inclusive (char_ends (λ c. c == separator) text.now) (length text.now))) ≡ text.now }
+{}

@@ -1,0 +1,71 @@
+//! The lines of a text.
+ghost use Rattle.std.specs.Prelude.{◌≡◌, ℕ, List, map};
+ghost use Rattle.hip_match.specs.Occurrence.{IsCut};
+ghost use Rattle.hip_match.specs.Runs.{line_of, lines};
+
+use crate::ranges::{Ranges, RangesBack};
+use crate::split::SplitInclusive;
+
+/// The lines of a text, each ended by a line feed or by the text's end. The line feed is left out, and so is one carriage return before it.
+#[derive(Clone, Drop)]
+pub struct Lines<'h> {
+    text: &'h str,
+    parts: SplitInclusive<'h, char>,
+}
+
+impl<'h> Lines<'h> {
+    /// The lines of `text`.
+    #[inline]
+    pub fn new(text: &'h str) -> Self
+        ensures ready { ⟦<Lines<'h> as Ranges>⟧.ready result }
+        ensures text { ⟦<Lines<'h> as Ranges>⟧.text result ≡ text.now }
+        ensures rest { ⟦<Lines<'h> as Ranges>⟧.rest result ≡ lines text.now }
+    {
+        Lines {
+            text,
+            parts: SplitInclusive::new(text, '\n'),
+        }
+    }
+}
+
+// A part without its line feed and one carriage return before that.
+#[inline]
+fn without_line_end(text: &str, part: (usize, usize)) -> (usize, usize)
+    requires { IsCut text.now part }
+    ensures value { result ≡ line_of text.now part }
+    ensures cut { IsCut text.now result }
+{
+    let bytes = text.as_bytes();
+    let (start, end) = part;
+    if start == end || bytes[end - 1] != b'\n' {
+        return part;
+    }
+    let feed = end - 1;
+    if start == feed || bytes[feed - 1] != b'\r' {
+        return (start, feed);
+    }
+    (start, feed - 1)
+}
+
+impl<'h> Ranges for Lines<'h> {
+    ghost ready = { λ s. ⟦<SplitInclusive<'h, char> as Ranges>⟧.ready s.parts
+        × (⟦<SplitInclusive<'h, char> as Ranges>⟧.text s.parts ≡ s.text.now) };
+
+    ghost text = { λ s. s.text.now };
+
+    ghost rest = { λ s. map (line_of s.text.now) (⟦<SplitInclusive<'h, char> as Ranges>⟧.rest s.parts) };
+
+    #[inline]
+    fn next(&mut self) -> Option<(usize, usize)> {
+        let part = self.parts.next()?;
+        Some(without_line_end(self.text, part))
+    }
+}
+
+impl<'h> RangesBack for Lines<'h> {
+    #[inline]
+    fn next_back(&mut self) -> Option<(usize, usize)> {
+        let part = self.parts.next_back()?;
+        Some(without_line_end(self.text, part))
+    }
+}

@@ -1,0 +1,165 @@
+//! The occurrences of a pattern, leftmost first.
+ghost use Rattle.std.specs.Prelude.{◌≡◌, ℕ, ◌<◌, ◌≤◌, List, [], Option, Some, IfSome, length, if◌then◌else◌};
+ghost use Rattle.std.specs.Str.{IsUtf8, IsCharBoundary};
+ghost use Rattle.std.specs.Iterator.{YieldsLast};
+ghost use Rattle.hip_match.specs.Occurrence.{IsCut};
+ghost use Rattle.hip_match.specs.Leftmost.{leftmost, leftmost_between};
+ghost use Rattle.hip_match.specs.Ready.{IsFrontWindow, IsBetween, TakesLastCut};
+
+use crate::boundaries::boundary_after;
+use crate::pattern::{OneChar, Pattern};
+use crate::ranges::{Ranges, RangesBack};
+
+/// The occurrences of a pattern in a text, leftmost first, no two overlapping.
+#[derive(Clone, Drop)]
+pub struct Matches<'h, P> {
+    text: &'h str,
+    pattern: P,
+    from: usize,
+    to: usize,
+    done: bool,
+}
+
+impl<'h, P: Pattern> Matches<'h, P> {
+    /// The occurrences of `pattern` in `text`.
+    #[inline]
+    pub fn new(text: &'h str, pattern: P) -> Self
+        requires { P.can_search pattern }
+        ensures ready { ⟦<Matches<'h, P> as Ranges>⟧.ready result }
+        ensures text { ⟦<Matches<'h, P> as Ranges>⟧.text result ≡ text.now }
+        ensures rest { ⟦<Matches<'h, P> as Ranges>⟧.rest result ≡ leftmost (P.ends pattern text.now) (length text.now) }
+        ensures between { IsBetween text.now 0 (⟦<Matches<'h, P> as Ranges>⟧.rest result) (length text.now) }
+    {
+        Matches {
+            text,
+            pattern,
+            from: 0,
+            to: text.len(),
+            done: false,
+        }
+    }
+}
+
+impl<'h, P: Pattern> Ranges for Matches<'h, P> {
+    ghost ready = { λ s. IsFrontWindow (P.can_search s.pattern) s.text.now (P.ends s.pattern s.text.now) s.from s.to };
+
+    ghost text = { λ s. s.text.now };
+
+    ghost rest = { λ s. if s.done then [] else leftmost_between (P.ends s.pattern s.text.now) s.from s.to };
+
+    #[inline]
+    fn next(&mut self) -> Option<(usize, usize)> {
+        if self.done {
+            return None;
+        }
+        match self.pattern.next_match(self.text, self.from) {
+            Some((start, end)) if end <= self.to => {
+                if start < end {
+                    self.from = end;
+                } else if end < self.to {
+                    self.from = boundary_after(self.text, end);
+                } else {
+                    self.done = true;
+                }
+                Some((start, end))
+            }
+            _ => {
+                self.done = true;
+                None
+            }
+        }
+    }
+}
+
+impl<'h, P: OneChar> Matches<'h, P> {
+    // What `next_back` does, and that no match is empty.
+    #[inline]
+    pub(crate) fn next_back_match(&mut self) -> Option<(usize, usize)>
+        requires { ⟦<Matches<'h, P> as Ranges>⟧.ready self.old }
+        ensures last { YieldsLast (⟦<Matches<'h, P> as Ranges>⟧.rest) self.old result self.new }
+        ensures cut { IfSome result (IsCut (⟦<Matches<'h, P> as Ranges>⟧.text self.old)) }
+        ensures text { ⟦<Matches<'h, P> as Ranges>⟧.text self.new ≡ ⟦<Matches<'h, P> as Ranges>⟧.text self.old }
+        ensures ready { ⟦<Matches<'h, P> as Ranges>⟧.ready self.new }
+        ensures holds { IfSome result (λ r. r.0 < r.1) }
+    {
+        if self.done {
+            return None;
+        }
+        match self.pattern.last_match(self.text, self.to) {
+            Some((start, end)) if self.from <= start => {
+                self.to = start;
+                Some((start, end))
+            }
+            _ => {
+                self.done = true;
+                None
+            }
+        }
+    }
+}
+
+impl<'h, P: OneChar> Matches<'h, P> {
+    // The last match that ends before `end`. One that ends there is passed.
+    #[inline]
+    pub(crate) fn last_before(&mut self, end: usize) -> Option<(usize, usize)>
+        requires { ⟦<Matches<'h, P> as Ranges>⟧.ready self.old }
+        ensures taken { TakesLastCut (⟦<Matches<'h, P> as Ranges>⟧.rest self.old) (⟦<Matches<'h, P> as Ranges>⟧.rest self.new) end result }
+        ensures cut { IfSome result (IsCut (⟦<Matches<'h, P> as Ranges>⟧.text self.old)) }
+        ensures text { ⟦<Matches<'h, P> as Ranges>⟧.text self.new ≡ ⟦<Matches<'h, P> as Ranges>⟧.text self.old }
+        ensures ready { ⟦<Matches<'h, P> as Ranges>⟧.ready self.new }
+    {
+        let last = self.next_back_match()?;
+        if last.1 < end {
+            return Some(last);
+        }
+        self.next_back_match()
+    }
+}
+
+impl<'h, P: OneChar> RangesBack for Matches<'h, P> {
+    #[inline]
+    fn next_back(&mut self) -> Option<(usize, usize)> {
+        self.next_back_match()
+    }
+}
+
+/// The ranges of the occurrences of a pattern in a text, leftmost first: those of [`Matches`].
+#[derive(Clone, Drop)]
+pub struct MatchIndices<'h, P> {
+    matches: Matches<'h, P>,
+}
+
+impl<'h, P: Pattern> MatchIndices<'h, P> {
+    /// The ranges of the occurrences of `pattern` in `text`.
+    #[inline]
+    pub fn new(text: &'h str, pattern: P) -> Self
+        requires { P.can_search pattern }
+        ensures ready { ⟦<MatchIndices<'h, P> as Ranges>⟧.ready result }
+        ensures text { ⟦<MatchIndices<'h, P> as Ranges>⟧.text result ≡ text.now }
+        ensures rest { ⟦<MatchIndices<'h, P> as Ranges>⟧.rest result ≡ leftmost (P.ends pattern text.now) (length text.now) }
+    {
+        MatchIndices {
+            matches: Matches::new(text, pattern),
+        }
+    }
+}
+
+impl<'h, P: Pattern> Ranges for MatchIndices<'h, P> {
+    ghost ready = { λ s. ⟦<Matches<'h, P> as Ranges>⟧.ready s.matches };
+
+    ghost text = { λ s. ⟦<Matches<'h, P> as Ranges>⟧.text s.matches };
+
+    ghost rest = { λ s. ⟦<Matches<'h, P> as Ranges>⟧.rest s.matches };
+
+    #[inline]
+    fn next(&mut self) -> Option<(usize, usize)> {
+        self.matches.next()
+    }
+}
+
+impl<'h, P: OneChar> RangesBack for MatchIndices<'h, P> {
+    #[inline]
+    fn next_back(&mut self) -> Option<(usize, usize)> {
+        self.matches.next_back()
+    }
+}

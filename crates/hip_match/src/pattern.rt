@@ -1,0 +1,70 @@
+//! What can be looked for in a text.
+ghost use Rattle.std.specs.Prelude.{◌≡◌, ℕ, ◌≤◌, List, Option, Some, IfSome};
+ghost use Rattle.std.specs.Option.{is_some};
+ghost use Rattle.std.specs.Str.{IsUtf8, IsCharBoundary};
+ghost use Rattle.hip_match.specs.Occurrence.{IsNextMatch, IsLastMatch, IsCut, IsOneChar, start_of};
+
+/// What can be looked for in a text from its front.
+///
+/// A pattern occurs at most once from a given start. The positions are byte positions at character boundaries.
+pub trait Pattern: Drop {
+    /// What a search asks of the pattern: nothing but for a [`CharPred`](crate::predicate::CharPred), whose closure has to be callable.
+    ghost can_search: { Self → Type 0 } = { λ _. Unit {0} };
+
+    /// The end of the occurrence that starts at a place of a text, if one does.
+    ghost ends: { Self → List ℕ → ℕ → Option ℕ };
+
+    /// The occurrence that starts first at or after `from`, as its start and end.
+    fn next_match(&self, text: &str, from: usize) -> Option<(usize, usize)>
+        requires can { can_search self.now }
+        requires boundary { IsCharBoundary text.now from }
+        ensures { IsNextMatch (ends self.now text.now) from result };
+
+    /// The end of the occurrence that starts at `at`.
+    fn match_at(&self, text: &str, at: usize) -> Option<usize>
+        requires can { can_search self.now }
+        requires boundary { IsCharBoundary text.now at }
+        ensures { result ≡ ends self.now text.now at };
+
+    /// An occurrence lies between boundaries.
+    ghost spans: { (p : Self) (t : List ℕ) (a b : ℕ) → IsUtf8 t → ends p t a ≡ Some b → IsCut t (a, b) };
+}
+
+/// A pattern that can be looked for from a text's end too. It occurs at most once to a given end.
+pub trait ReversePattern: Pattern {
+    /// The occurrence that ends last at or before `to`, as its start and end.
+    fn last_match(&self, text: &str, to: usize) -> Option<(usize, usize)>
+        requires can { Self.can_search self.now }
+        requires boundary { IsCharBoundary text.now to }
+        ensures { IsLastMatch (Self.ends self.now text.now) to result };
+
+    /// The start of the occurrence that ends at `to`.
+    fn match_before(&self, text: &str, to: usize) -> Option<usize>
+        requires can { Self.can_search self.now }
+        requires boundary { IsCharBoundary text.now to }
+        ensures { result ≡ start_of (Self.ends self.now text.now) to };
+
+    /// No two occurrences end at one place.
+    ghost one_start: { (p : Self) (t : List ℕ) (a b c : ℕ) → IsUtf8 t → Self.ends p t a ≡ Some c → Self.ends p t b ≡ Some c → a ≡ b };
+}
+
+/// A pattern that may be trimmed from both ends of a text at once.
+pub trait DoubleEndedPattern: ReversePattern {
+    /// Whether an occurrence starts at `at`.
+    fn starts_at(&self, text: &str, at: usize) -> bool
+        requires can { Self.can_search self.now }
+        requires boundary { IsCharBoundary text.now at }
+        ensures { result ≡ is_some (Self.ends self.now text.now at) };
+}
+
+/// A pattern each of whose occurrences is one character, so that the rightmost matches are the leftmost ones reversed.
+pub trait OneChar: ReversePattern {
+    /// Whether an occurrence ends at `to`.
+    fn ends_at(&self, text: &str, to: usize) -> bool
+        requires can { Self.can_search self.now }
+        requires boundary { IsCharBoundary text.now to }
+        ensures { result ≡ is_some (start_of (Self.ends self.now text.now) to) };
+
+    /// Each occurrence is one character.
+    ghost one_char: { (p : Self) (t : List ℕ) (a b : ℕ) → IsUtf8 t → Self.ends p t a ≡ Some b → IsOneChar t (a, b) };
+}

@@ -1,0 +1,35 @@
+//! What each iterator of this crate is: a list of ranges at boundaries of one text.
+ghost use Rattle.std.specs.Prelude.{◌≡◌, ℕ, List, Option, IfSome};
+ghost use Rattle.std.specs.Iterator.{YieldsFirst, YieldsLast};
+ghost use Rattle.hip_match.specs.Occurrence.{IsCut};
+
+/// A list of ranges of a text, given from the front.
+pub trait Ranges {
+    /// Holds of what a constructor made, and stays so.
+    ghost ready: { Self → Type 0 };
+
+    /// The bytes of the text that the ranges are ranges of.
+    ghost text: { Self → List ℕ };
+
+    /// The ranges that are still to come.
+    ghost rest: { Self → List (ℕ × ℕ) };
+
+    /// The first of the ranges that are left.
+    fn next(&mut self) -> Option<(usize, usize)>
+        requires { ready self.old }
+        ensures first { YieldsFirst rest self.old result self.new }
+        ensures cut { IfSome result (IsCut (text self.old)) }
+        ensures text { text self.new ≡ text self.old }
+        ensures ready { ready self.new };
+}
+
+/// A list of ranges that is given from both ends.
+pub trait RangesBack: Ranges {
+    /// The last of the ranges that are left.
+    fn next_back(&mut self) -> Option<(usize, usize)>
+        requires { Self.ready self.old }
+        ensures last { YieldsLast Self.rest self.old result self.new }
+        ensures cut { IfSome result (IsCut (Self.text self.old)) }
+        ensures text { Self.text self.new ≡ Self.text self.old }
+        ensures ready { Self.ready self.new };
+}

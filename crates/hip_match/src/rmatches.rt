@@ -1,0 +1,130 @@
+//! The occurrences of a pattern, rightmost first.
+ghost use Rattle.std.specs.Prelude.{◌≡◌, ℕ, ◌<◌, ◌≤◌, List, [], Option, Some, IfSome, length, if◌then◌else◌};
+ghost use Rattle.std.specs.Str.{IsUtf8, IsCharBoundary};
+ghost use Rattle.hip_match.specs.Rightmost.{rightmost, rightmost_between};
+ghost use Rattle.hip_match.specs.Ready.{IsBackWindow, IsBetweenBack};
+
+use crate::boundaries::boundary_before;
+use crate::pattern::{OneChar, ReversePattern};
+use crate::ranges::{Ranges, RangesBack};
+
+/// The occurrences of a pattern in a text, rightmost first, no two overlapping.
+#[derive(Clone, Drop)]
+pub struct RMatches<'h, P> {
+    text: &'h str,
+    pattern: P,
+    from: usize,
+    to: usize,
+    done: bool,
+}
+
+impl<'h, P: ReversePattern> RMatches<'h, P> {
+    /// The occurrences of `pattern` in `text`.
+    #[inline]
+    pub fn new(text: &'h str, pattern: P) -> Self
+        requires { P.can_search pattern }
+        ensures ready { ⟦<RMatches<'h, P> as Ranges>⟧.ready result }
+        ensures text { ⟦<RMatches<'h, P> as Ranges>⟧.text result ≡ text.now }
+        ensures rest { ⟦<RMatches<'h, P> as Ranges>⟧.rest result ≡ rightmost (P.ends pattern text.now) (length text.now) }
+        ensures between { IsBetweenBack text.now 0 (⟦<RMatches<'h, P> as Ranges>⟧.rest result) (length text.now) }
+    {
+        RMatches {
+            text,
+            pattern,
+            from: 0,
+            to: text.len(),
+            done: false,
+        }
+    }
+}
+
+impl<'h, P: ReversePattern> Ranges for RMatches<'h, P> {
+    ghost ready = { λ s. IsBackWindow (P.can_search s.pattern) s.text.now (P.ends s.pattern s.text.now) s.from s.to };
+
+    ghost text = { λ s. s.text.now };
+
+    ghost rest = { λ s. if s.done then [] else rightmost_between (P.ends s.pattern s.text.now) s.from s.to };
+
+    #[inline]
+    fn next(&mut self) -> Option<(usize, usize)> {
+        if self.done {
+            return None;
+        }
+        match self.pattern.last_match(self.text, self.to) {
+            Some((start, end)) if self.from <= start => {
+                if start < end {
+                    self.to = start;
+                } else if self.from < start {
+                    self.to = boundary_before(self.text, start);
+                } else {
+                    self.done = true;
+                }
+                Some((start, end))
+            }
+            _ => {
+                self.done = true;
+                None
+            }
+        }
+    }
+}
+
+impl<'h, P: OneChar> RangesBack for RMatches<'h, P> {
+    #[inline]
+    fn next_back(&mut self) -> Option<(usize, usize)> {
+        if self.done {
+            return None;
+        }
+        match self.pattern.next_match(self.text, self.from) {
+            Some((start, end)) if end <= self.to => {
+                self.from = end;
+                Some((start, end))
+            }
+            _ => {
+                self.done = true;
+                None
+            }
+        }
+    }
+}
+
+/// The ranges of the rightmost occurrences of a pattern in a text, last first: those of [`RMatches`].
+#[derive(Clone, Drop)]
+pub struct RMatchIndices<'h, P> {
+    matches: RMatches<'h, P>,
+}
+
+impl<'h, P: ReversePattern> RMatchIndices<'h, P> {
+    /// The ranges of the rightmost occurrences of `pattern` in `text`.
+    #[inline]
+    pub fn new(text: &'h str, pattern: P) -> Self
+        requires { P.can_search pattern }
+        ensures ready { ⟦<RMatchIndices<'h, P> as Ranges>⟧.ready result }
+        ensures text { ⟦<RMatchIndices<'h, P> as Ranges>⟧.text result ≡ text.now }
+        ensures rest { ⟦<RMatchIndices<'h, P> as Ranges>⟧.rest result ≡ rightmost (P.ends pattern text.now) (length text.now) }
+    {
+        RMatchIndices {
+            matches: RMatches::new(text, pattern),
+        }
+    }
+}
+
+impl<'h, P: ReversePattern> Ranges for RMatchIndices<'h, P> {
+    ghost ready = { λ s. ⟦<RMatches<'h, P> as Ranges>⟧.ready s.matches };
+
+    ghost text = { λ s. ⟦<RMatches<'h, P> as Ranges>⟧.text s.matches };
+
+    ghost rest = { λ s. ⟦<RMatches<'h, P> as Ranges>⟧.rest s.matches };
+
+    #[inline]
+    fn next(&mut self) -> Option<(usize, usize)> {
+        self.matches.next()
+    }
+}
+
+impl<'h, P: OneChar> RangesBack for RMatchIndices<'h, P> {
+    #[inline]
+    fn next_back(&mut self) -> Option<(usize, usize)> {
+        self.matches.next_back()
+    }
+}

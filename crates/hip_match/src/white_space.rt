@@ -1,0 +1,244 @@
+//! The runs of a text between white space.
+ghost use Rattle.std.specs.Prelude.{◌≡◌, ℕ, Bool, Option, List, length};
+ghost use Rattle.std.specs.Char.{is_whitespace, is_ascii_whitespace};
+ghost use Rattle.std.specs.Str.{IsCharBoundary};
+ghost use Rattle.hip_match.specs.Characters.{char_ends};
+ghost use Rattle.hip_match.specs.CharLaws.{char_ends-spans, char_ends-one_start, char_ends-one_char};
+ghost use Rattle.hip_match.specs.Pieces.{split};
+ghost use Rattle.hip_match.specs.Runs.{nonempty, split_whitespace, split_ascii_whitespace};
+
+use crate::chars::{CharSet, end_of, first_of, last_of, start_before};
+use crate::pattern::{DoubleEndedPattern, OneChar, Pattern, ReversePattern};
+use crate::ranges::{Ranges, RangesBack};
+use crate::split::Split;
+
+// The characters of white space, by Unicode's `White_Space`.
+#[derive(Clone, Copy)]
+pub(crate) struct WhiteSpace;
+
+impl CharSet for WhiteSpace {
+    ghost belongs = { λ _. is_whitespace };
+
+    #[inline]
+    fn has(&self, c: char) -> bool {
+        c.is_whitespace()
+    }
+}
+
+impl Pattern for WhiteSpace {
+    ghost ends = { λ _. char_ends is_whitespace };
+
+    #[inline]
+    fn next_match(&self, text: &str, from: usize) -> Option<(usize, usize)> {
+        first_of(self, text, from)
+    }
+
+    #[inline]
+    fn match_at(&self, text: &str, at: usize) -> Option<usize> {
+        end_of(self, text, at)
+    }
+
+    ghost spans = { λ _. char_ends-spans is_whitespace };
+}
+
+impl ReversePattern for WhiteSpace {
+    #[inline]
+    fn last_match(&self, text: &str, to: usize) -> Option<(usize, usize)> {
+        last_of(self, text, to)
+    }
+
+    #[inline]
+    fn match_before(&self, text: &str, to: usize) -> Option<usize> {
+        start_before(self, text, to)
+    }
+
+    ghost one_start = { λ _. char_ends-one_start is_whitespace };
+}
+
+impl DoubleEndedPattern for WhiteSpace {
+    #[inline]
+    fn starts_at(&self, text: &str, at: usize) -> bool {
+        self.match_at(text, at).is_some()
+    }
+}
+
+impl OneChar for WhiteSpace {
+    #[inline]
+    fn ends_at(&self, text: &str, to: usize) -> bool {
+        self.match_before(text, to).is_some()
+    }
+
+    ghost one_char = { λ _. char_ends-one_char is_whitespace };
+}
+
+// The characters of ASCII white space: space, tab, line feed, form feed, carriage return.
+#[derive(Clone, Copy)]
+pub(crate) struct AsciiWhiteSpace;
+
+impl CharSet for AsciiWhiteSpace {
+    ghost belongs = { λ _. is_ascii_whitespace };
+
+    #[inline]
+    fn has(&self, c: char) -> bool {
+        c.is_ascii_whitespace()
+    }
+}
+
+impl Pattern for AsciiWhiteSpace {
+    ghost ends = { λ _. char_ends is_ascii_whitespace };
+
+    #[inline]
+    fn next_match(&self, text: &str, from: usize) -> Option<(usize, usize)> {
+        first_of(self, text, from)
+    }
+
+    #[inline]
+    fn match_at(&self, text: &str, at: usize) -> Option<usize> {
+        end_of(self, text, at)
+    }
+
+    ghost spans = { λ _. char_ends-spans is_ascii_whitespace };
+}
+
+impl ReversePattern for AsciiWhiteSpace {
+    #[inline]
+    fn last_match(&self, text: &str, to: usize) -> Option<(usize, usize)> {
+        last_of(self, text, to)
+    }
+
+    #[inline]
+    fn match_before(&self, text: &str, to: usize) -> Option<usize> {
+        start_before(self, text, to)
+    }
+
+    ghost one_start = { λ _. char_ends-one_start is_ascii_whitespace };
+}
+
+impl OneChar for AsciiWhiteSpace {
+    #[inline]
+    fn ends_at(&self, text: &str, to: usize) -> bool {
+        self.match_before(text, to).is_some()
+    }
+
+    ghost one_char = { λ _. char_ends-one_char is_ascii_whitespace };
+}
+
+// The ranges that are not empty.
+#[derive(Clone, Drop)]
+struct Runs<R> {
+    ranges: R,
+}
+
+impl<R: Ranges> Ranges for Runs<R> {
+    ghost ready = { λ s. R.ready s.ranges };
+
+    ghost text = { λ s. R.text s.ranges };
+
+    ghost rest = { λ s. nonempty (R.rest s.ranges) };
+
+    #[inline]
+    fn next(&mut self) -> Option<(usize, usize)> {
+        while let Some((start, end)) = self.ranges.next() {
+            if start < end {
+                return Some((start, end));
+            }
+        }
+        None
+    }
+}
+
+impl<R: RangesBack> RangesBack for Runs<R> {
+    #[inline]
+    fn next_back(&mut self) -> Option<(usize, usize)> {
+        while let Some((start, end)) = self.ranges.next_back() {
+            if start < end {
+                return Some((start, end));
+            }
+        }
+        None
+    }
+}
+
+/// The longest runs of a text without white space, by Unicode's `White_Space`.
+#[derive(Clone, Drop)]
+pub struct SplitWhitespace<'h> {
+    runs: Runs<Split<'h, WhiteSpace>>,
+}
+
+impl<'h> SplitWhitespace<'h> {
+    /// The runs of `text` between white space.
+    #[inline]
+    pub fn new(text: &'h str) -> Self
+        ensures ready { ⟦<SplitWhitespace<'h> as Ranges>⟧.ready result }
+        ensures text { ⟦<SplitWhitespace<'h> as Ranges>⟧.text result ≡ text.now }
+        ensures rest { ⟦<SplitWhitespace<'h> as Ranges>⟧.rest result ≡ split_whitespace text.now }
+    {
+        SplitWhitespace {
+            runs: Runs {
+                ranges: Split::new(text, WhiteSpace),
+            },
+        }
+    }
+}
+
+impl<'h> Ranges for SplitWhitespace<'h> {
+    ghost ready = { λ s. ⟦<Runs<Split<'h, WhiteSpace>> as Ranges>⟧.ready s.runs };
+
+    ghost text = { λ s. ⟦<Runs<Split<'h, WhiteSpace>> as Ranges>⟧.text s.runs };
+
+    ghost rest = { λ s. ⟦<Runs<Split<'h, WhiteSpace>> as Ranges>⟧.rest s.runs };
+
+    #[inline]
+    fn next(&mut self) -> Option<(usize, usize)> {
+        self.runs.next()
+    }
+}
+
+impl<'h> RangesBack for SplitWhitespace<'h> {
+    #[inline]
+    fn next_back(&mut self) -> Option<(usize, usize)> {
+        self.runs.next_back()
+    }
+}
+
+/// The longest runs of a text without ASCII white space, to which U+000B doesn't belong.
+#[derive(Clone, Drop)]
+pub struct SplitAsciiWhitespace<'h> {
+    runs: Runs<Split<'h, AsciiWhiteSpace>>,
+}
+
+impl<'h> SplitAsciiWhitespace<'h> {
+    /// The runs of `text` between ASCII white space.
+    #[inline]
+    pub fn new(text: &'h str) -> Self
+        ensures ready { ⟦<SplitAsciiWhitespace<'h> as Ranges>⟧.ready result }
+        ensures text { ⟦<SplitAsciiWhitespace<'h> as Ranges>⟧.text result ≡ text.now }
+        ensures rest { ⟦<SplitAsciiWhitespace<'h> as Ranges>⟧.rest result ≡ split_ascii_whitespace text.now }
+    {
+        SplitAsciiWhitespace {
+            runs: Runs {
+                ranges: Split::new(text, AsciiWhiteSpace),
+            },
+        }
+    }
+}
+
+impl<'h> Ranges for SplitAsciiWhitespace<'h> {
+    ghost ready = { λ s. ⟦<Runs<Split<'h, AsciiWhiteSpace>> as Ranges>⟧.ready s.runs };
+
+    ghost text = { λ s. ⟦<Runs<Split<'h, AsciiWhiteSpace>> as Ranges>⟧.text s.runs };
+
+    ghost rest = { λ s. ⟦<Runs<Split<'h, AsciiWhiteSpace>> as Ranges>⟧.rest s.runs };
+
+    #[inline]
+    fn next(&mut self) -> Option<(usize, usize)> {
+        self.runs.next()
+    }
+}
+
+impl<'h> RangesBack for SplitAsciiWhitespace<'h> {
+    #[inline]
+    fn next_back(&mut self) -> Option<(usize, usize)> {
+        self.runs.next_back()
+    }
+}
