@@ -1,5 +1,5 @@
 -- What a list that is being made of others is. No public clause cites this module.
-use Rattle.std.specs.Prelude.{◌≡◌, ℕ, Bool, true, false, List, if◌then◌else◌, vec_capacity, ◌&&◌, not}
+use Rattle.std.specs.Prelude.{ℕ, Bool, true, false, List, if◌then◌else◌, vec_capacity, ◌&&◌, not}
 use Rattle.hip_bytes.specs.declared.gathering.Place.{Place}
 use Rattle.hip_bytes.specs.declared.gathering.Place.TheVariants.{Handle, Vector}
 use Rattle.hip_bytes.specs.declared.kind.TheConstants.{INLINE_CAPACITY}

@@ -145,6 +145,38 @@ fn mutations<B: Backend>(rt: &impl Abort, alloc: Global) -> Result<(), Fail> {
     Ok(())
 }
 
+/// Adds `!` through the vector that is lent, and says how many bytes that has then.
+fn adds_a_mark_on_rc(handle: &mut HipByt<Rc>, alloc: Global) -> usize {
+    let Ok(mut guard) = handle.mutate(alloc) else {
+        return 0;
+    };
+    let _added = guard.as_mut_vec().push(b'!');
+    let len = guard.as_vec().len();
+    let _ended = guard.finish(alloc);
+    len
+}
+
+/// Adds `!` through the vector that is lent, and says how many bytes that has then.
+fn adds_a_mark_on_unique(handle: &mut HipByt<Unique>, alloc: Global) -> usize {
+    let Ok(mut guard) = handle.mutate(alloc) else {
+        return 0;
+    };
+    let _added = guard.as_mut_vec().push(b'!');
+    let len = guard.as_vec().len();
+    let _ended = guard.finish(alloc);
+    len
+}
+
+fn lends_a_vector(rt: &impl Abort, alloc: Global) -> Result<(), Fail> {
+    let mut handle = HipByt::<Rc>::from_slice(alloc, b"Hello, World!")?;
+    assert_eq!(rt; adds_a_mark_on_rc(&mut handle, alloc), 14);
+    assert!(rt; handle.eq_slice(b"Hello, World!!") && handle.is_inline());
+    let mut handle = HipByt::<Unique>::from_slice(alloc, b"Hello, World!")?;
+    assert_eq!(rt; adds_a_mark_on_unique(&mut handle, alloc), 14);
+    assert!(rt; handle.eq_slice(b"Hello, World!!") && handle.is_inline());
+    Ok(())
+}
+
 fn repetitions<B: Backend>(rt: &impl Abort, alloc: Global) -> Result<(), Fail> {
     let handle = HipByt::<B>::from_slice(alloc, b"ab")?;
     let none = handle.repeat(alloc, 0)?;
@@ -231,6 +263,7 @@ fn all<B: Backend>(rt: &impl Abort, alloc: Global) -> Result<(), Fail> {
 
 #[test]
 fn growth_on_rc(rt: HostRuntime) -> Result<(), Fail> {
+    lends_a_vector(&rt, rt.alloc())?;
     all::<Rc>(&rt, rt.alloc())
 }
 

@@ -1,4 +1,4 @@
-use Rattle.std.proofs.Common.{◌≡◌, ◌∙◌, ◌≤◌, ◌+◌, length, get_or, ap, refl, length-append, arith}
+use Rattle.std.proofs.Common.{◌≡◌, ◌∙◌, ◌+◌, length, get_or, ap, refl, length-append, arith}
 use Rattle.hip_bytes.proofs.Joins.{joined-next, length-next, gap_fits, slice_fits, nowhere}
 use Rattle.hip_bytes.proofs.hip_byt.build.gathered.Goals as goal
 

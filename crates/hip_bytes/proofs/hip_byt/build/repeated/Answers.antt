@@ -1,4 +1,4 @@
-use Rattle.std.proofs.Common.{◌≡◌, ◌∙◌, ◌+◌, ◌*◌, ◌≤◌, length, ap, ◌++◌, length-append, arith}
+use Rattle.std.proofs.Common.{◌∙◌, ◌+◌, length, ap, ◌++◌, length-append, arith}
 use Rattle.hip_bytes.proofs.Repeats.{repeat-append, times_more, turn_fits}
 use Rattle.hip_bytes.proofs.hip_byt.build.repeated.Goals as goal
 
