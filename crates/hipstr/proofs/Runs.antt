@@ -1,5 +1,5 @@
 -- Lemmas on runs of the list machine.
-use Rattle.std.proofs.Common.{◌≡◌, ◌∙◌, ℕ, ◌+◌, ◌<◌, Bool, List, [], ◌∷◌, ◌++◌, length, take, get_or, refl, sym, ap, subst, arith}
+use Rattle.std.proofs.Common.{◌≡◌, ◌∙◌, ℕ, ◌+◌, ◌<◌, Bool, List, [], ◌∷◌, ◌++◌, length, take, get_or, refl, ap, subst, arith}
 use Rattle.std.proofs.lemmas.List.{take_more}
 use Rattle.hipstr.specs.Slot.{SlotState}
 use Rattle.hipstr.specs.Step.{Step, cost_of}

@@ -1,9 +1,9 @@
 -- Lemmas on single steps of the list machine.
-use Rattle.std.proofs.Common.{◌≡◌, ◌∙◌, ℕ, ◌<◌, ◌≤◌, Bool, List, length, take, Option, Some, None, slice_set, if◌then◌else◌, MatchOption, ap, subst, sym}
+use Rattle.std.proofs.Common.{◌≡◌, ℕ, ◌<◌, ◌≤◌, Bool, List, length, take, Option, Some, None, if◌then◌else◌, MatchOption, ap, subst, sym}
 use Rattle.std.proofs.lemmas.Bool.{lt-ltb}
 use Rattle.hip_bytes.specs.Handle.{Handle}
 use Rattle.hip_bytes.specs.Kinds.{cut_kind, kept_capacity}
-use Rattle.hipstr.specs.Slot.{SlotState, bytes_slot, slot_at, Replaces, IsShortened}
+use Rattle.hipstr.specs.Slot.{SlotState, bytes_slot, IsShortened}
 use Rattle.hipstr.specs.Step.{Step, Performs, fault_of, slot_fault}
 use Rattle.hipstr.specs.declared.command.Command.{Command}
 use Rattle.hipstr.specs.declared.command.Answer.{Answer}

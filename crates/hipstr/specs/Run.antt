@@ -1,14 +1,9 @@
 -- Runs of the list machine: one step after another, with their cost.
-use Rattle.std.specs.Prelude.{◌≡◌, ℕ, ◌+◌, Bool, true, List, [], ◌∷◌, codes, refl}
-use Rattle.std.specs.declared.ops.Bound.TheVariants.{Included, Unbounded}
-use Rattle.hip_bytes.specs.declared.kind.Kind.TheVariants.{Inline as inline_kind}
+use Rattle.std.specs.Prelude.{◌≡◌, ℕ, ◌+◌, Bool, List, [], ◌∷◌}
 use Rattle.hipstr.specs.Slot.{SlotState}
 use Rattle.hipstr.specs.Step.{Step, cost_of}
 use Rattle.hipstr.specs.declared.command.Command.{Command}
-use Rattle.hipstr.specs.declared.command.Command.TheVariants.{New, Slice, Truncate, Len}
 use Rattle.hipstr.specs.declared.command.Answer.{Answer}
-use Rattle.hipstr.specs.declared.command.Answer.TheVariants.{Done, Number, Refused}
-use Rattle.hipstr.specs.declared.command.Reason.TheVariants.{NoSlot}
 
 -- the machine may give these answers to these commands, and go on from the old slots to the new; `total` is the sum of the costs of
 -- the commands, each in the slots that it met

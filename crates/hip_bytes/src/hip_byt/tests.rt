@@ -148,11 +148,33 @@ fn slices<B: Backend>(rt: &impl Abort, alloc: Global) -> Result<(), Fail> {
     Ok(())
 }
 
-fn refused_slices<B: Backend>(rt: &impl Abort, alloc: Global) -> Result<(), Fail> {
+/// Two bounds that are no range of three bytes, and what the error tells of them.
+type Refused = (
+    Bound<usize>,
+    Bound<usize>,
+    SliceErrorKind,
+    usize,
+    usize,
+    &'static str,
+);
+
+fn is_refused<B: Backend>(rt: &impl Abort, alloc: Global, row: Refused) -> Result<(), Fail> {
+    let (low, high, kind, start, end, text) = row;
     let handle = HipByt::<B>::from_slice(alloc, b"abc")?;
+    let Err(SliceRefusal::Slice(error)) = handle.try_slice_bounds(alloc, low, high) else {
+        return Err(Fail::from("no range of three bytes"));
+    };
+    assert_eq!(rt; error.kind(), kind);
+    assert_eq!(rt; (error.start(), error.end()), (start, end));
+    assert_eq!(rt; error.range(), start..end);
+    assert_eq!(rt; error.source().as_slice(), b"abc".as_slice());
+    assert_eq!(rt; format!(in alloc; "{error}")?.as_str(), text);
+    Ok(())
+}
+
+fn refused_starts<B: Backend>(rt: &impl Abort, alloc: Global) -> Result<(), Fail> {
     let max = usize::MAX;
     let start_out = SliceErrorKind::StartOutOfBounds;
-    let end_out = SliceErrorKind::EndOutOfBounds;
     let rows = [
         (
             Bound::Included(4),
@@ -170,6 +192,33 @@ fn refused_slices<B: Backend>(rt: &impl Abort, alloc: Global) -> Result<(), Fail
             2,
             "range start index 4 out of bounds for slice of length 3",
         ),
+        (
+            Bound::Included(max),
+            Bound::Included(max),
+            start_out,
+            max,
+            max,
+            "range start index 18446744073709551615 out of bounds for slice of length 3",
+        ),
+        (
+            Bound::Excluded(max),
+            Bound::Unbounded,
+            start_out,
+            max,
+            3,
+            "range start index 18446744073709551615 out of bounds for slice of length 3",
+        ),
+    ];
+    for row in rows {
+        is_refused::<B>(rt, alloc, row)?;
+    }
+    Ok(())
+}
+
+fn refused_ends<B: Backend>(rt: &impl Abort, alloc: Global) -> Result<(), Fail> {
+    let max = usize::MAX;
+    let end_out = SliceErrorKind::EndOutOfBounds;
+    let rows = [
         (
             Bound::Included(0),
             Bound::Excluded(4),
@@ -203,22 +252,6 @@ fn refused_slices<B: Backend>(rt: &impl Abort, alloc: Global) -> Result<(), Fail
             "range starts at 3 but ends at 2",
         ),
         (
-            Bound::Included(max),
-            Bound::Included(max),
-            start_out,
-            max,
-            max,
-            "range start index 18446744073709551615 out of bounds for slice of length 3",
-        ),
-        (
-            Bound::Excluded(max),
-            Bound::Unbounded,
-            start_out,
-            max,
-            3,
-            "range start index 18446744073709551615 out of bounds for slice of length 3",
-        ),
-        (
             Bound::Unbounded,
             Bound::Included(max),
             end_out,
@@ -227,16 +260,16 @@ fn refused_slices<B: Backend>(rt: &impl Abort, alloc: Global) -> Result<(), Fail
             "range end index 18446744073709551615 out of bounds for slice of length 3",
         ),
     ];
-    for (low, high, kind, start, end, text) in rows {
-        let Err(SliceRefusal::Slice(error)) = handle.try_slice_bounds(alloc, low, high) else {
-            return Err(Fail::from("no range of three bytes"));
-        };
-        assert_eq!(rt; error.kind(), kind);
-        assert_eq!(rt; (error.start(), error.end()), (start, end));
-        assert_eq!(rt; error.range(), start..end);
-        assert_eq!(rt; error.source().as_slice(), b"abc".as_slice());
-        assert_eq!(rt; format!(in alloc; "{error}")?.as_str(), text);
+    for row in rows {
+        is_refused::<B>(rt, alloc, row)?;
     }
+    Ok(())
+}
+
+fn refused_slices<B: Backend>(rt: &impl Abort, alloc: Global) -> Result<(), Fail> {
+    refused_starts::<B>(rt, alloc)?;
+    refused_ends::<B>(rt, alloc)?;
+    let handle = HipByt::<B>::from_slice(alloc, b"abc")?;
     let Err(SliceRefusal::Slice(error)) = handle.try_slice(alloc, 0..4) else {
         return Err(Fail::from("no range of three bytes"));
     };

@@ -5,6 +5,30 @@ use std::ops::Bound;
 use std::process::Abort;
 use std::test::Fail;
 
+const WANTED: [Answer; 21] = [
+    Answer::Done,
+    Answer::Done,
+    Answer::Refused(Reason::StartOutOfBounds),
+    Answer::Refused(Reason::EndOutOfBounds),
+    Answer::Refused(Reason::NoSlot),
+    Answer::Refused(Reason::NoSlot),
+    Answer::Done,
+    Answer::Done,
+    Answer::Done,
+    Answer::Done,
+    Answer::Number(5),
+    Answer::Number(4),
+    Answer::Done,
+    Answer::Byte(98),
+    Answer::Kind(Kind::Inline),
+    Answer::Done,
+    Answer::Nothing,
+    Answer::Done,
+    Answer::Kind(Kind::Allocated),
+    Answer::Done,
+    Answer::Number(3),
+];
+
 fn runs<B: Backend>(rt: &impl Abort, alloc: Global) -> Result<(), Fail> {
     let mut pool = Pool::<B>::new(alloc, 3)?;
     let mut meter = Meter::new();
@@ -34,30 +58,7 @@ fn runs<B: Backend>(rt: &impl Abort, alloc: Global) -> Result<(), Fail> {
         Command::Capacity(0),
     ];
     let answers = run(alloc, &mut pool, &commands, &mut meter)?;
-    let wanted = [
-        Answer::Done,
-        Answer::Done,
-        Answer::Refused(Reason::StartOutOfBounds),
-        Answer::Refused(Reason::EndOutOfBounds),
-        Answer::Refused(Reason::NoSlot),
-        Answer::Refused(Reason::NoSlot),
-        Answer::Done,
-        Answer::Done,
-        Answer::Done,
-        Answer::Done,
-        Answer::Number(5),
-        Answer::Number(4),
-        Answer::Done,
-        Answer::Byte(98),
-        Answer::Kind(Kind::Inline),
-        Answer::Done,
-        Answer::Nothing,
-        Answer::Done,
-        Answer::Kind(Kind::Allocated),
-        Answer::Done,
-        Answer::Number(3),
-    ];
-    assert_eq!(rt; answers.as_slice(), wanted.as_slice());
+    assert_eq!(rt; answers.as_slice(), WANTED.as_slice());
     let slots: [(usize, &[u8]); 3] = [(0, b"abc"), (1, b"John!"), (2, b"John")];
     for (i, bytes) in slots {
         let slot = pool.slot(i).ok_or("no slot")?;
