@@ -1,20 +1,20 @@
 -- How many bytes a call copies at most, and where it may want memory, by the kind and the length that there are.
 -- `shares` says whether owners are shared.
-use Rattle.std.specs.Prelude.{◌≡◌, ℕ, ◌<◌, Bool, true, false, if◌then◌else◌, nat_le, refl}
+use Rattle.std.specs.Prelude.{◌≡◌, ℕ, ◌<◌, min, Bool, true, false, if◌then◌else◌, nat_le, refl}
 use Rattle.hip_raw.specs.Meter.{unless_shared, times_copied}
 use Rattle.hip_bytes.specs.declared.kind.Kind.{Kind}
 use Rattle.hip_bytes.specs.declared.kind.Kind.TheVariants.{Inline, Borrowed, Allocated}
 use Rattle.hip_bytes.specs.declared.kind.TheConstants.{INLINE_CAPACITY}
 
--- a clone of `len` bytes
+-- a clone of `len` bytes, of which the handle itself holds no more than it has room for
 abbrev pub clone_cost : Bool → Kind → ℕ → ℕ
-clone_cost shares Inline len = len
+clone_cost shares Inline len = min len INLINE_CAPACITY
 clone_cost shares Borrowed len = 0
 clone_cost shares Allocated len = unless_shared shares len
 
 -- a part of `len` bytes: none from borrowed, and on a shared owner none past what a handle holds in itself
 abbrev pub cut_cost : Bool → Kind → ℕ → ℕ
-cut_cost shares Inline len = len
+cut_cost shares Inline len = min len INLINE_CAPACITY
 cut_cost shares Borrowed len = 0
 cut_cost shares Allocated len = if nat_le len INLINE_CAPACITY then len else unless_shared shares len
 

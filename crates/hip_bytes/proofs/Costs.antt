@@ -1,0 +1,17 @@
+-- What the costs come to where owners are shared: a clone and a part copy no more bytes than a handle holds in itself, whatever the
+-- kind and the length.
+use Rattle.std.proofs.Common.{ℕ, ◌≤◌, true, arith}
+use Rattle.hip_bytes.specs.Cost.{clone_cost, cut_cost}
+use Rattle.hip_bytes.specs.declared.kind.Kind.{Kind}
+use Rattle.hip_bytes.specs.declared.kind.Kind.TheVariants.{Inline, Borrowed, Allocated}
+use Rattle.hip_bytes.specs.declared.kind.TheConstants.{INLINE_CAPACITY}
+
+pub shared_clone_is_little : (kind : Kind) (len : ℕ) → clone_cost true kind len ≤ INLINE_CAPACITY
+shared_clone_is_little Inline len = omega arith
+shared_clone_is_little Borrowed len = omega arith
+shared_clone_is_little Allocated len = omega arith
+
+pub shared_part_is_little : (kind : Kind) (len : ℕ) → cut_cost true kind len ≤ INLINE_CAPACITY
+shared_part_is_little Inline len = omega arith
+shared_part_is_little Borrowed len = omega arith
+shared_part_is_little Allocated len = search arith
