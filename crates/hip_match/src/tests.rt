@@ -435,6 +435,30 @@ fn clones_go_on_alike(rt: HostRuntime) -> Result<(), Fail> {
     Ok(())
 }
 
+#[test]
+fn a_clone_of_each_iterator(rt: HostRuntime) -> Result<(), Fail> {
+    let text = "a,b,";
+    let commas = [",", ","];
+    gives(&rt, text, Matches::new(text, ',').clone()?, &commas);
+    gives(&rt, text, MatchIndices::new(text, ',').clone()?, &commas);
+    gives(&rt, text, RMatches::new(text, ',').clone()?, &commas);
+    gives(&rt, text, RMatchIndices::new(text, ',').clone()?, &commas);
+    let ended = ["a,", "b,"];
+    gives(&rt, text, SplitInclusive::new(text, ',').clone()?, &ended);
+    let pieces = ["a", "b"];
+    gives(&rt, text, SplitTerminator::new(text, ',').clone()?, &pieces);
+    gives(&rt, text, SplitN::new(text, 2, ',').clone()?, &["a", "b,"]);
+    let backwards = ["", "b", "a"];
+    gives(&rt, text, RSplit::new(text, ',').clone()?, &backwards);
+    gives(&rt, text, RSplitN::new(text, 9, ',').clone()?, &backwards);
+    let ended_back = RSplitTerminator::new(text, ',').clone()?;
+    gives(&rt, text, ended_back, &["b", "a"]);
+    gives(&rt, text, Lines::new(text).clone()?, &[text]);
+    gives(&rt, text, SplitWhitespace::new(text).clone()?, &[text]);
+    gives(&rt, text, SplitAsciiWhitespace::new(text).clone()?, &[text]);
+    Ok(())
+}
+
 // What the script draws of the pieces between digits.
 fn between_digits(text: &str, script: &[End], drawn: &mut [(usize, usize)]) -> usize
     requires { length script.now ≤ length drawn.old }
