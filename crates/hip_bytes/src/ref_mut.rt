@@ -6,7 +6,7 @@ use std::alloc::{AllocError, Global};
 use std::fmt;
 
 /// What can be lent out as a vector of its bytes.
-pub trait Source {
+pub trait Source: Drop {
     /// Its bytes.
     ghost items: { Self → List ℕ };
 
@@ -36,17 +36,10 @@ pub trait Source {
 
 /// A value's bytes in a vector, to be written back by [`RefMut::finish`]. While it lives the value is empty, and where it is dropped
 /// the value stays so.
+#[derive(Drop)]
 pub struct RefMut<'a, S: Source, V: Drop = Vec<u8>> {
     source: &'a mut S,
     vec: V,
-}
-
-impl<'a, S: Source, V: Drop> Drop for RefMut<'a, S, V> {
-    fn drop(self)
-        ensures { self.exit.0.now ≡ self.entry.source.now }
-    {
-        let RefMut { source: _, vec: _ } = self;
-    }
 }
 
 impl<'a, S: Source> RefMut<'a, S, Vec<u8>> {

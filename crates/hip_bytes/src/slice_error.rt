@@ -1,5 +1,9 @@
 //! Why a range wasn't sliced.
-ghost use Rattle.std.specs.Prelude.{◌≡◌, length, Some};
+ghost use Rattle.std.specs.Prelude.{◌≡◌, ◌&&◌, length, nat_eq, Some};
+ghost use Rattle.std.specs.Cmp.{partial_equiv_from_equiv, and_per, on_per, and_equiv, on_equiv, nat_eq_equiv};
+ghost use Rattle.hip_bytes.specs.contracts.slice_error.SliceErrorKindPartialEq.TheImpl.Laws.{laws-law as kind_per};
+ghost use Rattle.hip_bytes.specs.contracts.slice_error.SliceErrorKindEq.TheImpl.Laws.{laws-law as kind_equiv};
+ghost use Rattle.std.specs.Cmp.Lexicographic.{pointwise, nat_list_eq_equiv};
 ghost use Rattle.hip_bytes.specs.SliceError.{error_kind, error_start, error_end, error_source, slice_error_text};
 
 use crate::hip_byt::HipByt;
@@ -101,6 +105,26 @@ impl<'a, 'b, B: Backend> Clone for SliceError<'a, 'b, B> {
 }
 
 impl<'a, 'b, B: Backend> Copy for SliceError<'a, 'b, B> {}
+
+impl<'a, 'b, B: Backend> PartialEq for SliceError<'a, 'b, B> {
+    ghost eq = { λ a b. ⟦<SliceErrorKind as PartialEq>⟧.eq (error_kind a) (error_kind b) && (nat_eq (error_start a) (error_start b)
+        && (nat_eq (error_end a) (error_end b) && pointwise nat_eq (error_source a).items (error_source b).items)) };
+
+    ghost laws = { and_per (on_per error_kind kind_per) (and_per (on_per error_start (partial_equiv_from_equiv nat_eq_equiv))
+        (and_per (on_per error_end (partial_equiv_from_equiv nat_eq_equiv)) (on_per (λ error. (error_source error).items) (partial_equiv_from_equiv nat_list_eq_equiv)))) };
+
+    fn eq(&self, other: &Self) -> bool {
+        self.kind == other.kind
+            && self.start == other.start
+            && self.end == other.end
+            && self.source == other.source
+    }
+}
+
+impl<'a, 'b, B: Backend> Eq for SliceError<'a, 'b, B> {
+    ghost laws = { and_equiv (on_equiv error_kind kind_equiv) (and_equiv (on_equiv error_start nat_eq_equiv)
+        (and_equiv (on_equiv error_end nat_eq_equiv) (on_equiv (λ error. (error_source error).items) nat_list_eq_equiv))) };
+}
 
 impl<'a, 'b, B: Backend> fmt::Display for SliceError<'a, 'b, B> {
     ghost output = { λ error. Some (slice_error_text (error_kind error) (error_start error) (error_end error) (length (error_source error).items)) };

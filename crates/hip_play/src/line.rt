@@ -55,6 +55,10 @@ fn read_command<'b>(verb: &[u8], words: &mut Words<'_, 'b>) -> Option<Command<'b
         b"lower" => Command::Lower(words.number()?),
         b"set" => Command::Set(words.number()?, words.number()?, words.byte()?),
         b"repeat" => Command::Repeat(words.number()?, words.number()?, words.number()?),
+        b"join" => {
+            let (first, count) = (words.number()?, words.number()?);
+            Command::Join(first, count, words.literal()?, words.number()?)
+        }
         b"mutate" => Command::Mutate(words.number()?, words.literal()?),
         b"owned" => Command::Owned(words.number()?),
         b"compare" => Command::Compare(words.number()?, words.number()?),

@@ -1,14 +1,14 @@
 -- One step of the list machine: what a command may answer, what it leaves of the slots, and how many bytes it copies at most.
 -- `shares` says whether owners are shared.
-use Rattle.std.specs.Prelude.{◌≡◌, ℕ, ◌+◌, ◌-◌, ◌*◌, ◌^◌, ◌<◌, ◌≤◌, ◌⊎◌, Bool, List, [], ◌∷◌, ◌++◌, length, map, max, Option, Some, None, is_none, if◌then◌else◌, nat_le, nat_lt, slice_set, MatchOption, refl}
+use Rattle.std.specs.Prelude.{◌≡◌, ℕ, ◌+◌, ◌-◌, ◌*◌, ◌^◌, ◌<◌, ◌≤◌, ◌⊎◌, Bool, List, [], ◌∷◌, ◌++◌, length, map, take, drop, max, Option, Some, None, is_none, if◌then◌else◌, nat_le, nat_lt, slice_set, MatchOption, refl}
 use Rattle.std.specs.Char.{to_ascii_lowercase, to_ascii_uppercase}
 use Rattle.std.specs.Cmp.Lexicographic.{slice_cmp}
-use Rattle.std.specs.List.{repeat}
+use Rattle.std.specs.List.{join_by, repeat}
 use Rattle.std.specs.Option.{option_or, option_map}
 use Rattle.std.specs.Ordering.{nat_cmp}
 use Rattle.std.specs.declared.ops.Bound.TheVariants.{Included, Unbounded}
 use Rattle.hip_bytes.specs.Cost.{clone_cost, cut_cost, owned_cost, shortened_cost, shrink_cost, write_cost, CutNeedsMemory, OwnNeedsMemory, PushNeedsMemory, WriteNeedsMemory}
-use Rattle.hip_bytes.specs.Join.{repeat_cost, repeated_kind, RepeatNeedsMemory}
+use Rattle.hip_bytes.specs.Join.{join_cost, repeat_cost, repeated_kind, RepeatNeedsMemory}
 use Rattle.hip_bytes.specs.Kinds.{by_length, cut_kind, owned_kind, PushedKind}
 use Rattle.hip_bytes.specs.Meter.{times_copied}
 use Rattle.hip_bytes.specs.Range.{slice_fault, slice_of}
@@ -18,7 +18,7 @@ use Rattle.hip_bytes.specs.declared.slice_error.SliceErrorKind.{SliceErrorKind}
 use Rattle.hip_bytes.specs.declared.slice_error.SliceErrorKind.TheVariants.{StartGreaterThanEnd as start_greater, StartOutOfBounds as start_out, EndOutOfBounds as end_out}
 use Rattle.hipstr.specs.Slot.{SlotState, slot_at, empty_slot, Replaces, Holds, IsShortened, IsShrunk}
 use Rattle.hipstr.specs.declared.command.Command.{Command}
-use Rattle.hipstr.specs.declared.command.Command.TheVariants.{New, Inline, Borrow, Copy, Room, Clone, Slice, Push, Pop, Truncate, Clear, Shrink, Upper, Lower, Set, Repeat, Mutate, Owned, Compare, Len, Kind, Capacity}
+use Rattle.hipstr.specs.declared.command.Command.TheVariants.{New, Inline, Borrow, Copy, Room, Clone, Slice, Push, Pop, Truncate, Clear, Shrink, Upper, Lower, Set, Repeat, Join, Mutate, Owned, Compare, Len, Kind, Capacity}
 use Rattle.hipstr.specs.declared.command.Answer.{Answer}
 use Rattle.hipstr.specs.declared.command.Answer.TheVariants.{Done, Nothing, Number, Order, Byte, Kind as KindOf, Refused}
 use Rattle.hipstr.specs.declared.command.Reason.{Reason}
@@ -37,6 +37,18 @@ reason_of end_out = EndOutOfBounds
 -- a length that is no `usize`
 abbrev pub length_fault : ℕ → Option Reason
 length_fault len = if nat_lt len (2 ^ 64) then None else Some TooLong
+
+-- slots that aren't all there
+abbrev pub slots_fault : List SlotState → ℕ → ℕ → Option Reason
+slots_fault slots first count = if nat_le (first + count) (length slots) then None else Some NoSlot
+
+-- the items of a slot
+abbrev pub items_of : SlotState → List ℕ
+items_of slot = slot.items
+
+-- the items of `count` slots from `first` on, with the separator between each two
+abbrev pub joined_slots : List SlotState → ℕ → ℕ → List ℕ → List ℕ
+joined_slots slots first count sep = join_by items_of sep (take count (drop first slots))
 
 -- why the command is refused whatever memory there is: the first reason, or none
 abbrev pub fault_of : List SlotState → Command → Option Reason
@@ -61,6 +73,9 @@ fault_of slots (Set t i byte) =
     option_or (slot_fault slots t) (if nat_lt i (length (slot_at slots t).items) then None else Some OutOfRange)
 fault_of slots (Repeat s t n) =
     option_or (slot_fault slots s) (option_or (slot_fault slots t) (length_fault (n * length (slot_at slots s).items)))
+fault_of slots (Join first count sep t) =
+    option_or (slots_fault slots first count) (option_or (slot_fault slots t)
+    (length_fault (length (joined_slots slots first count sep.now))))
 fault_of slots (Mutate t bytes) = slot_fault slots t
 fault_of slots (Owned t) = slot_fault slots t
 fault_of slots (Compare s t) = option_or (slot_fault slots s) (slot_fault slots t)
@@ -80,6 +95,7 @@ MayNeedMemory shares slots (Upper t) = WriteNeedsMemory shares (slot_at slots t)
 MayNeedMemory shares slots (Lower t) = WriteNeedsMemory shares (slot_at slots t).kind (length (slot_at slots t).items)
 MayNeedMemory shares slots (Set t i byte) = WriteNeedsMemory shares (slot_at slots t).kind (length (slot_at slots t).items)
 MayNeedMemory shares slots (Repeat s t n) = RepeatNeedsMemory (slot_at slots s).kind (length (slot_at slots s).items) n
+MayNeedMemory shares slots (Join first count sep t) = Unit {0}
 MayNeedMemory shares slots (Mutate t bytes) = Unit {0}
 MayNeedMemory shares slots (Owned t) = OwnNeedsMemory (slot_at slots t).kind (length (slot_at slots t).items)
 -- no other may
@@ -131,6 +147,9 @@ Performs shares old (Set t i byte) Done new =
 Performs shares old (Repeat s t n) Done new =
     let source = slot_at old s in
     Replaces old new t (λ slot. Holds slot (repeated_kind source.kind (length source.items) n) (repeat n source.items))
+Performs shares old (Join first count sep t) Done new =
+    let items = joined_slots old first count sep.now in
+    Replaces old new t (λ slot. Holds slot (by_length (length items)) items)
 Performs shares old (Mutate t bytes) Done new =
     let items = (slot_at old t).items ++ bytes.now in
     Replaces old new t (λ slot. Holds slot (by_length (length items)) items)
@@ -165,6 +184,7 @@ copies_of shares slots (Upper t) = write_cost shares (slot_at slots t).kind (len
 copies_of shares slots (Lower t) = write_cost shares (slot_at slots t).kind (length (slot_at slots t).items)
 copies_of shares slots (Set t i byte) = write_cost shares (slot_at slots t).kind (length (slot_at slots t).items)
 copies_of shares slots (Repeat s t n) = repeat_cost shares (slot_at slots s).kind (length (slot_at slots s).items) n
+copies_of shares slots (Join first count sep t) = join_cost shares (length (joined_slots slots first count sep.now))
 copies_of shares slots (Mutate t bytes) =
     let len = length (slot_at slots t).items in
     len + (if shares then INLINE_CAPACITY else len + length bytes.now)

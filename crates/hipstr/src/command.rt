@@ -37,6 +37,8 @@ pub enum Command<'b> {
     Set(usize, usize, u8),
     /// The second slot becomes the items of the first, so many times.
     Repeat(usize, usize, usize),
+    /// The last slot becomes the items of so many slots from the first on, with these bytes between each two.
+    Join(usize, usize, &'b [u8], usize),
     /// The bytes are added at the slot's end, through a vector that is lent.
     Mutate(usize, &'b [u8]),
     /// The slot stops borrowing.

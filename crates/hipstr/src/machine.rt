@@ -10,6 +10,7 @@ use std::alloc::{AllocError, Global};
 
 mod build;
 mod change;
+mod join;
 mod make;
 mod tell;
 mod write;
@@ -37,6 +38,9 @@ impl<'b, B: Backend> Pool<'b, B> {
             Command::Lower(t) => self.make_lower(alloc, t, meter),
             Command::Set(t, i, byte) => self.set(alloc, t, i, byte, meter),
             Command::Repeat(s, t, n) => self.make_repeat(alloc, s, t, n, meter),
+            Command::Join(first, count, sep, t) => {
+                self.make_join(alloc, first, count, sep, t, meter)
+            }
             Command::Mutate(t, addition) => self.mutate(alloc, t, addition, meter),
             Command::Owned(t) => self.make_owned(alloc, t, meter),
             Command::Compare(s, t) => self.compare(s, t),

@@ -59,7 +59,7 @@ fn conversions<B: Backend>(rt: &impl Abort, alloc: Global) -> Result<(), Fail> {
 }
 
 /// A vector is handed out where no other handle shares the owner; else the value comes back.
-fn handed_back<B: Backend>(rt: &impl Abort, alloc: Global) -> Result<(), Fail> {
+fn into_vec_handed_back<B: Backend>(rt: &impl Abort, alloc: Global) -> Result<(), Fail> {
     let whole = HipByt::<B>::from_slice(alloc, LETTERS)?;
     let clone = whole.clone(alloc)?;
     let shared = match clone.into_vec(alloc) {
@@ -145,35 +145,41 @@ fn mutations<B: Backend>(rt: &impl Abort, alloc: Global) -> Result<(), Fail> {
     Ok(())
 }
 
-/// Adds `!` through the vector that is lent, and says how many bytes that has then.
-fn adds_a_mark_on_rc(handle: &mut HipByt<Rc>, alloc: Global) -> usize {
-    let Ok(mut guard) = handle.mutate(alloc) else {
-        return 0;
-    };
-    let _added = guard.as_mut_vec().push(b'!');
+/// Adds the byte through the vector that is lent, and says how many bytes that has then.
+fn adds<B: Backend>(
+    handle: &mut HipByt<B>,
+    alloc: Global,
+    byte: u8,
+) -> Result<usize, Fail> {
+    let mut guard = handle.mutate(alloc)?;
+    guard.as_mut_vec().push(byte)?;
     let len = guard.as_vec().len();
-    let _ended = guard.finish(alloc);
-    len
+    guard.finish(alloc).or(Err("no memory"))?;
+    Ok(len)
 }
 
-/// Adds `!` through the vector that is lent, and says how many bytes that has then.
-fn adds_a_mark_on_unique(handle: &mut HipByt<Unique>, alloc: Global) -> usize {
-    let Ok(mut guard) = handle.mutate(alloc) else {
-        return 0;
-    };
-    let _added = guard.as_mut_vec().push(b'!');
-    let len = guard.as_vec().len();
-    let _ended = guard.finish(alloc);
-    len
+/// Adds a byte to the vector that is lent, and never writes it back.
+fn lets_go<B: Backend>(handle: &mut HipByt<B>, alloc: Global) -> Result<(), Fail> {
+    let mut guard = handle.mutate(alloc)?;
+    guard.as_mut_vec().push(b'!')?;
+    Ok(())
 }
 
-fn lends_a_vector(rt: &impl Abort, alloc: Global) -> Result<(), Fail> {
-    let mut handle = HipByt::<Rc>::from_slice(alloc, b"Hello, World!")?;
-    assert_eq!(rt; adds_a_mark_on_rc(&mut handle, alloc), 14);
+fn lends_a_vector<B: Backend>(rt: &impl Abort, alloc: Global) -> Result<(), Fail> {
+    let mut handle = HipByt::<B>::from_slice(alloc, b"Hello, World!")?;
+    assert_eq!(rt; adds(&mut handle, alloc, b'!')?, 14);
     assert!(rt; handle.eq_slice(b"Hello, World!!") && handle.is_inline());
-    let mut handle = HipByt::<Unique>::from_slice(alloc, b"Hello, World!")?;
-    assert_eq!(rt; adds_a_mark_on_unique(&mut handle, alloc), 14);
-    assert!(rt; handle.eq_slice(b"Hello, World!!") && handle.is_inline());
+    let many = [b'a'; 42];
+    let mut handle = HipByt::<B>::from_slice(alloc, &many)?;
+    let clone = handle.clone(alloc)?;
+    assert_eq!(rt; adds(&mut handle, alloc, b'b')?, 43);
+    let mut more = [b'a'; 43];
+    more[42] = b'b';
+    assert!(rt; handle.eq_slice(&more));
+    assert!(rt; clone.eq_slice(&many));
+    lets_go(&mut handle, alloc)?;
+    assert!(rt; handle.is_empty() && handle.is_inline());
+    assert!(rt; clone.eq_slice(&many));
     Ok(())
 }
 
@@ -252,9 +258,10 @@ fn comparisons<B: Backend>(rt: &impl Abort, alloc: Global) -> Result<(), Fail> {
 
 fn all<B: Backend>(rt: &impl Abort, alloc: Global) -> Result<(), Fail> {
     conversions::<B>(rt, alloc)?;
-    handed_back::<B>(rt, alloc)?;
+    into_vec_handed_back::<B>(rt, alloc)?;
     writes::<B>(rt, alloc)?;
     mutations::<B>(rt, alloc)?;
+    lends_a_vector::<B>(rt, alloc)?;
     repetitions::<B>(rt, alloc)?;
     joins::<B>(rt, alloc)?;
     shrinks::<B>(rt, alloc)?;
@@ -263,7 +270,6 @@ fn all<B: Backend>(rt: &impl Abort, alloc: Global) -> Result<(), Fail> {
 
 #[test]
 fn growth_on_rc(rt: HostRuntime) -> Result<(), Fail> {
-    lends_a_vector(&rt, rt.alloc())?;
     all::<Rc>(&rt, rt.alloc())
 }
 

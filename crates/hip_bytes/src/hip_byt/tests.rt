@@ -172,6 +172,34 @@ fn is_refused<B: Backend>(rt: &impl Abort, alloc: Global, row: Refused) -> Resul
     Ok(())
 }
 
+/// Whether two values refuse two ranges by equal errors.
+fn refuse_alike<B: Backend>(
+    alloc: Global,
+    first: &HipByt<B>,
+    start: usize,
+    second: &HipByt<B>,
+    other_start: usize,
+) -> bool {
+    let Err(SliceRefusal::Slice(error)) = first.try_slice(alloc, start..) else {
+        return false;
+    };
+    let Err(SliceRefusal::Slice(other)) = second.try_slice(alloc, other_start..) else {
+        return false;
+    };
+    error == other
+}
+
+/// Errors are equal by what was tried and by the bytes, wherever these lie.
+fn equal_refusals<B: Backend>(rt: &impl Abort, alloc: Global) -> Result<(), Fail> {
+    let copied = HipByt::<B>::from_slice(alloc, b"abc")?;
+    let lent = HipByt::<B>::borrowed(b"abc");
+    let another = HipByt::<B>::borrowed(b"abd");
+    assert!(rt; refuse_alike(alloc, &copied, 4, &lent, 4));
+    assert!(rt; !refuse_alike(alloc, &copied, 4, &lent, 5));
+    assert!(rt; !refuse_alike(alloc, &lent, 4, &another, 4));
+    Ok(())
+}
+
 fn refused_starts<B: Backend>(rt: &impl Abort, alloc: Global) -> Result<(), Fail> {
     let max = usize::MAX;
     let start_out = SliceErrorKind::StartOutOfBounds;
@@ -267,6 +295,7 @@ fn refused_ends<B: Backend>(rt: &impl Abort, alloc: Global) -> Result<(), Fail> 
 }
 
 fn refused_slices<B: Backend>(rt: &impl Abort, alloc: Global) -> Result<(), Fail> {
+    equal_refusals::<B>(rt, alloc)?;
     refused_starts::<B>(rt, alloc)?;
     refused_ends::<B>(rt, alloc)?;
     let handle = HipByt::<B>::from_slice(alloc, b"abc")?;

@@ -1,5 +1,5 @@
 //! Views.
-ghost use Rattle.std.specs.Prelude.{◌≡◌, ◌<◌, ◌^◌, ◌==◌, ◌↔◌, length, IsTrue, IsSome, IsOk, IfSome, IfOk, IfErr};
+ghost use Rattle.std.specs.Prelude.{◌≡◌, ◌<◌, ◌≤◌, ◌^◌, ◌==◌, ◌↔◌, length, IsTrue, IsSome, IsOk, IfSome, IfOk, IfErr};
 ghost use Rattle.hip_bytes.specs.Kinds.{HasCapacity};
 
 use super::{HipByt, Repr};
@@ -13,6 +13,7 @@ impl<'b, B: Backend> HipByt<'b, B> {
     pub fn len(&self) -> usize
         ensures len { result ≡ length self.now.items }
         ensures bound { length self.now.items < 2 ^ 64 }
+        ensures fits_inline { self.now.kind ≡ Kind.Inline → length self.now.items ≤ INLINE_CAPACITY }
     {
         match &self.bare.repr {
             Repr::Inline(inline) => inline.len(),
