@@ -27,7 +27,7 @@ fn equal<B: Backend>(alloc: Global, input: &[u8], len: usize, rounds: u64) -> Op
     let mut sum = 0u64;
     for round in 0..rounds {
         let (first, second) = pairs.get((round % 8) as usize)?;
-        sum = sum.wrapping_add(u64::from(first == second));
+        sum = sum.wrapping_add(u64::from(*first == *second));
     }
     Some(sum)
 }
