@@ -67,7 +67,7 @@ impl Gathering {
     }
 
     /// Adds bytes at the end.
-    #[inline]
+    #[inline(always)]
     pub(crate) fn add(
         &mut self,
         alloc: Global,
@@ -106,7 +106,7 @@ impl Gathering {
     }
 
     /// Adds bytes at the end, and what stands before them.
-    #[inline]
+    #[inline(always)]
     pub(crate) fn add_behind(
         &mut self,
         alloc: Global,
@@ -126,7 +126,7 @@ impl Gathering {
     }
 
     /// Adds bytes at the end, for which there is room.
-    #[inline]
+    #[inline(always)]
     pub(crate) fn add_within(&mut self, bytes: &[u8], meter: &mut Meter)
         requires { length self.old.items + length bytes.now ≤ self.old.room }
         ensures items { self.new.items ≡ self.old.items ++ bytes.now }

@@ -151,7 +151,7 @@ impl<const N: usize> Inline<N> {
     }
 
     /// [`Inline::push_slice_unchecked`], counted.
-    #[inline]
+    #[inline(always)]
     pub fn push_slice_unchecked_metered(&mut self, addition: &[u8], meter: &mut Meter)
         requires { length self.old + length addition.now ≤ N }
         ensures items { self.new ≡ self.old ++ addition.now }

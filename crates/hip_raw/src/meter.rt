@@ -38,7 +38,7 @@ impl Meter {
         self.copied
     }
 
-    #[inline]
+    #[inline(always)]
     pub(crate) fn count(&mut self, bytes: usize)
         ensures counted { RisesAtMost self.old self.new bytes }
         ensures exact { self.new ≡ count_from self.old bytes }
@@ -57,7 +57,7 @@ impl Default for Meter {
 }
 
 /// Copies `from` over `to` and counts its bytes. It is the one function of the product that copies bytes.
-#[inline]
+#[inline(always)]
 pub fn fill_counted(to: &mut [u8], from: &[u8], meter: &mut Meter)
     requires { length to.old ≡ length from.now }
     ensures items { to.new ≡ from.now }
@@ -69,7 +69,7 @@ pub fn fill_counted(to: &mut [u8], from: &[u8], meter: &mut Meter)
 }
 
 /// Appends these bytes to a vector. The new room is made of zeros and then filled. A refused vector stays as it was.
-#[inline]
+#[inline(always)]
 pub fn extend_counted(
     vec: &mut Vec<u8>,
     addition: &[u8],
@@ -93,7 +93,7 @@ pub fn extend_counted(
 }
 
 /// Appends these bytes to a vector that has room for them.
-#[inline]
+#[inline(always)]
 pub fn extend_within(vec: &mut Vec<u8>, addition: &[u8], meter: &mut Meter)
     requires { vec_len vec.old + length addition.now ≤ vec_capacity vec.old }
     ensures items { vec.new.items ≡ vec.old.items ++ addition.now }
@@ -105,7 +105,7 @@ pub fn extend_within(vec: &mut Vec<u8>, addition: &[u8], meter: &mut Meter)
 }
 
 /// A new vector of these bytes.
-#[inline]
+#[inline(always)]
 pub fn copy_counted(alloc: Global, bytes: &[u8], meter: &mut Meter) -> Result<Vec<u8>, AllocError>
     ensures items { IfOk result (λ vec. vec.items ≡ bytes.now) }
     ensures counted { RisesAtMost meter.old meter.new (length bytes.now) }
@@ -116,7 +116,7 @@ pub fn copy_counted(alloc: Global, bytes: &[u8], meter: &mut Meter) -> Result<Ve
 }
 
 /// A new vector of these bytes with room for `capacity`.
-#[inline]
+#[inline(always)]
 pub fn copy_with_capacity(
     alloc: Global,
     bytes: &[u8],

@@ -12,6 +12,8 @@ use hip_raw::{Allocated, Appended, Backend, Inline, Meter, fill_counted};
 use std::alloc::{AllocError, Global};
 
 /// A handle of the bytes of two slices, one behind the other, by length.
+#[cold]
+#[inline(never)]
 fn joined<'b, B: Backend>(
     alloc: Global,
     front: &[u8],
@@ -44,7 +46,7 @@ fn joined<'b, B: Backend>(
 
 impl<'b, B: Backend> HipByt<'b, B> {
     /// Adds bytes at the end: in place where they fit the handle itself or its owner is not shared, else in a copy.
-    #[inline]
+    #[inline(always)]
     pub fn push_slice(&mut self, alloc: Global, addition: &[u8]) -> Result<(), AllocError>
         ensures items { OnOk result (self.new.items ≡ self.old.items ++ addition.now) }
         ensures kind { OnOk result (PushedKind B.SHARES self.old.kind (length self.new.items) self.new.kind) }
@@ -56,7 +58,7 @@ impl<'b, B: Backend> HipByt<'b, B> {
     }
 
     /// [`HipByt::push_slice`], counted.
-    #[inline]
+    #[inline(always)]
     pub fn push_slice_metered(
         &mut self,
         alloc: Global,
@@ -89,7 +91,7 @@ impl<'b, B: Backend> HipByt<'b, B> {
     }
 
     /// Adds a byte at the end.
-    #[inline]
+    #[inline(always)]
     pub fn push(&mut self, alloc: Global, byte: u8) -> Result<(), AllocError>
         ensures items { OnOk result (self.new.items ≡ self.old.items ++ byte ∷ []) }
         ensures kind { OnOk result (PushedKind B.SHARES self.old.kind (length self.new.items) self.new.kind) }
@@ -101,7 +103,7 @@ impl<'b, B: Backend> HipByt<'b, B> {
     }
 
     /// [`HipByt::push`], counted.
-    #[inline]
+    #[inline(always)]
     pub fn push_metered(
         &mut self,
         alloc: Global,
