@@ -22,17 +22,19 @@ mod borrowed;
 mod inline;
 mod meter;
 mod rc;
+mod room;
 #[cfg(test)]
 mod tests;
 mod unique;
 
 pub use allocated::Allocated;
 pub use appended::Appended;
-pub use backend::{Backend, Room};
+pub use backend::Backend;
 pub use borrowed::Borrowed;
 pub use inline::Inline;
 pub use meter::{
     Meter, copy_counted, copy_with_capacity, extend_counted, extend_within, fill_counted,
 };
 pub use rc::Rc;
+pub use room::Room;
 pub use unique::Unique;
