@@ -1,12 +1,31 @@
--- What a set of characters occurs at is told by its answers at characters.
-use Rattle.std.proofs.Common.{◌≡◌, ℕ, ◌<◌, ◌≤◌, Bool, true, false, ◌&&◌, Option, Some, None, List, ap, sym, ◌∙◌, if◌then◌else◌, arith, ⊎_elim}
+-- A predicate's answers at all characters as one list, which tells where the set of those that pass occurs.
+use Rattle.std.proofs.Common.{◌≡◌, ℕ, zero, suc, ◌+◌, ◌<◌, ◌≤◌, Bool, [], ◌∷◌, true, false, ◌&&◌, Option, Some, None, List, ap, sym, ◌∙◌, if◌then◌else◌, arith, ⊎_elim}
 use Rattle.std.proofs.Math.Path.{fun_ext}
 use Rattle.std.proofs.Math.Utf8.{scalar, scalar_cases}
 use Rattle.std.proofs.lemmas.Bool.{cases_Bool}
 use Rattle.std.specs.Char.{IsScalar}
 use Rattle.std.specs.Option.{option_and_then}
 use Rattle.hip_match.specs.Characters.{char_at, char_ends, end_if}
-use Rattle.hip_match.specs.Answers.{answer_at, answers_of, answer_at-of}
+use Rattle.hip_match.specs.Answers.{answer_at}
+
+-- the answers at the n numbers from i on
+unfoldable pub answers_from : (ℕ → Bool) → ℕ → ℕ → List Bool
+answers_from passes i zero = []
+answers_from passes i (suc n) = passes i ∷ answers_from passes (i + 1) n
+
+-- the answers at all characters
+unfoldable pub answers_of : (ℕ → Bool) → List Bool
+answers_of passes = answers_from passes 0 1114112
+
+answer_at-from : (passes : ℕ → Bool) (i n c : ℕ) → c < n → answer_at (answers_from passes i n) c ≡ passes (i + c)
+unfolding answers_from
+answer_at-from passes i zero c lt = absurd (omega arith)
+answer_at-from passes i (suc n) zero lt = let same : i ≡ i + 0 = omega arith in ap passes same
+answer_at-from passes i (suc n) (suc c) lt = let same : i + 1 + c ≡ i + suc c = omega arith in answer_at-from passes (i + 1) n c (omega arith) ∙ ap passes same
+
+answer_at-of : (passes : ℕ → Bool) (c : ℕ) → c < 1114112 → answer_at (answers_of passes) c ≡ passes c
+unfolding answers_of
+answer_at-of passes c lt = let same : 0 + c ≡ c = omega arith in answer_at-from passes 0 1114112 c lt ∙ ap passes same
 
 pub scalar_below : (c : ℕ) → IsScalar c → c < 1114112
 scalar_below c is = ⊎_elim (λ (low : c < 55296). omega arith) (λ (high : (57344 ≤ c) × (c < 1114112)). high.1) (scalar_cases c is)

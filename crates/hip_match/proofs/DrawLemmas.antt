@@ -2,7 +2,7 @@
 use Rattle.std.proofs.Common.{◌≡◌, ℕ, List, [], ◌∷◌, ◌++◌, Option, Some, None, refl, ap, ◌∙◌}
 use Rattle.std.specs.Prelude.{MatchOption}
 use Rattle.hip_match.specs.declared.draw.End.{End}
-use Rattle.hip_match.specs.declared.draw.End.TheVariants.{Front, Back}
+use Rattle.hip_match.specs.declared.draw.End.TheVariants.{Back}
 use Rattle.hip_match.specs.Draw.{last_of, but_last, draw, left_by, TakesEnd}
 
 last_of-append : (y : ℕ × ℕ) (l : List (ℕ × ℕ)) (x : ℕ × ℕ) → last_of y (l ++ x ∷ []) ≡ x
@@ -19,10 +19,6 @@ back (y ∷ l) x es = (
   ap (λ z. z ∷ draw (but_last y (l ++ x ∷ [])) es) (last_of-append y l x) ∙ ap (λ r. x ∷ draw r es) (but_last-append y l x),
   ap (λ r. left_by r es) (but_last-append y l x),
 )
-
-pub TakesEnd-front : (old new : List (ℕ × ℕ)) (r : Option (ℕ × ℕ)) → MatchOption r ((old ≡ []) × (new ≡ [])) (λ x. old ≡ x ∷ new) → TakesEnd Front old new r
-TakesEnd-front old new None h = h
-TakesEnd-front old new (Some x) h = λ es. (ap (λ l. draw l (Front ∷ es)) h, ap (λ l. left_by l (Front ∷ es)) h)
 
 pub TakesEnd-back : (old new : List (ℕ × ℕ)) (r : Option (ℕ × ℕ)) → MatchOption r ((old ≡ []) × (new ≡ [])) (λ x. old ≡ new ++ x ∷ []) → TakesEnd Back old new r
 TakesEnd-back old new None h = h

@@ -124,18 +124,6 @@ pub IsBetweenBack-moved : (t u : List ℕ) (i j : ℕ) (l : List (ℕ × ℕ)) �
 IsBetweenBack-moved t u i j l same h = let P : List ℕ → Type 0 = λ v. IsBetweenBack v i l j in subst P (sym same) h
 
 -- a first empty piece, left out
-pub rterminator-next : (beginning : Bool) (old mid new : List (ℕ × ℕ)) (x : ℕ × ℕ) (r : Option (ℕ × ℕ)) → beginning ≡ true
-    → old ≡ x ∷ mid → x.0 ≡ x.1
-    → MatchOption r ((mid ≡ []) × (new ≡ [])) (λ y. mid ≡ y ∷ new)
-    → MatchOption r (((if beginning then without_empty_first old else old) ≡ []) × (new ≡ [])) (λ y. (if beginning then without_empty_first old else old) ≡ y ∷ new)
-rterminator-next beginning old mid new x r is h empty later =
-    let same = cond-true beginning (without_empty_first old) old is ∙ ap without_empty_first h ∙ cond-true _ mid (x ∷ mid) (eq-eqb x.0 x.1 empty) in
-    let P : List (ℕ × ℕ) → Type 0 = λ l. MatchOption r ((l ≡ []) × (new ≡ [])) (λ y. l ≡ y ∷ new) in
-    subst P (sym same) later
-
-pub without_empty_first-kept : (x : ℕ × ℕ) (l : List (ℕ × ℕ)) → x.0 < x.1 → without_empty_first (x ∷ l) ≡ x ∷ l
-without_empty_first-kept x l full = cond-false _ _ _ (ne_eqb x.0 x.1 (omega arith))
-
 append_if : (b : Bool) (xs ys zs : List (ℕ × ℕ)) → (if b then xs ++ zs else ys ++ zs) ≡ (if b then xs else ys) ++ zs
 append_if true xs ys zs = refl
 append_if false xs ys zs = refl
@@ -174,9 +162,6 @@ ended-append_end (x ∷ l) i n m h full same = ap (λ r. (i, x.1) ∷ r) (ended-
 
 ended-none : (old new : List (ℕ × ℕ)) (i n : ℕ) → new ≡ [] → InOrder i old n → InOrder i new n
 ended-none old new i n none h = let P : List (ℕ × ℕ) → Type 0 = λ l. InOrder i l n in subst P (sym none) (InOrder-le old i n h)
-
-pub TakesLastCut-none : (old new : List (ℕ × ℕ)) (n : ℕ) → old ≡ [] → new ≡ [] → TakesLastCut old new n None
-TakesLastCut-none old new n is none i h = (ap (λ l. ended i l n) is, ended-none old new i n none h)
 
 pub TakesLastCut-before : (old new : List (ℕ × ℕ)) (n : ℕ) (m : ℕ × ℕ) → old ≡ new ++ m ∷ [] → m.0 < m.1 → m.1 < n → TakesLastCut old new n (Some m)
 TakesLastCut-before old new n m is full lt i h =

@@ -50,9 +50,6 @@ module _ (e : ℕ → Option ℕ) (from to : ℕ)
     (nonempty : (a b : ℕ) → e a ≡ Some b → a < b)
     (apart : (a b c d : ℕ) → e a ≡ Some b → e c ≡ Some d → a < c → b ≤ c)
     (whole : NoneCrosses e from) where
-  ordered : (k m : ℕ) → e k ≡ Some m → k ≤ m
-  ordered k m is = let up : k < m = nonempty k m is in omega arith
-
   pub one : (a b c : ℕ) → e a ≡ Some c → e b ≡ Some c → a ≡ b
   one a b c left right =
       let up : a < c = nonempty a c left in

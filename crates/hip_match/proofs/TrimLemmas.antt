@@ -65,9 +65,6 @@ module _ (e : ℕ → Option ℕ) where
       → ((a : ℕ) → e a ≡ Some i → from ≤ a → i ≤ a) → TrimsBack e from n i
   TrimsBack-stuck from n i one le h stuck = record { left = le; sequence = h; longest = λ k low g. longest_back h.0 g.0 from i k n one low stuck h.1 g.1 }
 
-  pub sequence_back_none : (i : ℕ) → IsSequenceBack e i i
-  sequence_back_none i = ([], refl)
-
   -- the start of the occurrence that ends at a place
   pub start_of-is : (to a : ℕ) → start_of e to ≡ Some a → e a ≡ Some to
   start_of-is to a is = (start_among-is e 0 (to + 1) to a is).2

@@ -13,13 +13,13 @@ pub record IsWindow (text : List ℕ) (from to : ℕ) : Type 0 where
 
 -- such a window, a pattern that can be searched for, and no occurrence that lies across the window's end
 pub record IsFrontWindow (can : Type 0) (text : List ℕ) (ends : ℕ → Option ℕ) (from to : ℕ) : Type 0 where
-  pub search : can
+  pub searchable : can
   pub window : IsWindow text from to
   pub whole : NoneCrosses ends to
 
 -- the same of the window's start
 pub record IsBackWindow (can : Type 0) (text : List ℕ) (ends : ℕ → Option ℕ) (from to : ℕ) : Type 0 where
-  pub search : can
+  pub searchable : can
   pub window : IsWindow text from to
   pub whole : NoneCrosses ends from
 

@@ -1,7 +1,7 @@
 -- What holds of the places where a text occurs.
-use Rattle.std.specs.Prelude.{◌≡◌, ℕ, ◌+◌, ◌<◌, ◌≤◌, ◌&&◌, None, Some, List, [], ◌∷◌, ◌++◌, length, take, drop, slice_index}
-use Rattle.std.proofs.Common.{sym, ◌∙◌, ap, subst, arith, ⊎_elim, length-append, get_or-drop, get_or-take, add-zero, length-take-le, take-append-drop, append_assoc, drop-drop}
-use Rattle.std.proofs.lemmas.Bool.{cond-true, cond-false, cases_Bool, and_parts, and_from}
+use Rattle.std.specs.Prelude.{◌≡◌, ℕ, ◌+◌, ◌<◌, ◌≤◌, ◌&&◌, Some, List, [], ◌∷◌, ◌++◌, length, take, drop, slice_index}
+use Rattle.std.proofs.Common.{sym, ◌∙◌, ap, subst, arith, length-append, get_or-drop, get_or-take, add-zero, length-take-le, take-append-drop, append_assoc, drop-drop}
+use Rattle.std.proofs.lemmas.Bool.{cond-true, and_parts, and_from}
 use Rattle.std.proofs.lemmas.Option.{cond_some}
 use Rattle.std.proofs.lemmas.Slice.Eq.{bytes_eq-Decides}
 use Rattle.std.proofs.lemmas.Str.{IsUtf8-drop, IsUtf8-past_char, IsCharBoundary-start, IsCharBoundary-at_seam}
@@ -27,14 +27,6 @@ text_ends-is p t i b is =
     let first = and_parts (is_boundary t i) _ both.0 in
     let second = and_parts (is_boundary t (i + length p)) _ first.1 in
     (is_boundary-is t i first.0, is_boundary-is t (i + length p) second.0, (bytes_eq-Decides _ p).0 second.1, sym both.1)
-
-pub text_ends-none : (p t : List ℕ) (i : ℕ) → ¬ Stands p t i → text_ends p t i ≡ None
-unfolding text_ends
-text_ends-none p t i off =
-    ⊎_elim
-    (λ yes. absurd (off ((bytes_eq-Decides _ p).0 (and_parts (is_boundary t (i + length p)) _ (and_parts (is_boundary t i) _ yes).1).1)))
-    (λ no. cond-false _ _ _ no)
-    (cases_Bool (is_boundary t i && (is_boundary t (i + length p) && stands_at p t i)))
 
 pub text_ends-spans : (p t : List ℕ) (a b : ℕ) → IsUtf8 t → text_ends p t a ≡ Some b → IsCut t (a, b)
 text_ends-spans p t a b utf8 is =

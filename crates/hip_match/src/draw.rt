@@ -1,5 +1,5 @@
 //! Ranges drawn from both ends by a script.
-ghost use Rattle.std.specs.Prelude.{◌≡◌, ◌≤◌, length, take};
+ghost use Rattle.std.specs.Prelude.{◌≡◌, ◌≤◌, length, take, drop};
 ghost use Rattle.hip_match.specs.Draw.{draw, left_by, TakesEnd};
 
 use crate::ranges::RangesBack;
@@ -27,7 +27,7 @@ fn take_from<R: RangesBack>(ranges: &mut R, end: End) -> Option<(usize, usize)>
     }
 }
 
-/// Draws ranges in the order of `script` until it or they end, writes them into `drawn` and answers their number.
+/// Draws ranges in the order of `script` until it or they end, writes them into the front of `drawn` and answers their number.
 pub fn draw_into<R: RangesBack>(
     ranges: &mut R,
     script: &[End],
@@ -36,6 +36,7 @@ pub fn draw_into<R: RangesBack>(
     requires ready { R.ready ranges.old }
     requires room { length script.now ≤ length drawn.old }
     ensures drawn { take result drawn.new ≡ draw (R.rest ranges.old) script.now }
+    ensures others { drop result drawn.new ≡ drop result drawn.old }
     ensures count { result ≡ length (draw (R.rest ranges.old) script.now) }
     ensures rest { R.rest ranges.new ≡ left_by (R.rest ranges.old) script.now }
     ensures text { R.text ranges.new ≡ R.text ranges.old }

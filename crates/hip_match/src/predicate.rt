@@ -1,7 +1,7 @@
 //! A closure as a pattern.
 ghost use Rattle.std.specs.Prelude.{◌≡◌, ℕ, Bool, List};
 ghost use Rattle.std.specs.Char.{IsScalar};
-ghost use Rattle.hip_match.specs.Answers.{answer_at, answers_of};
+ghost use Rattle.hip_match.specs.Answers.{answer_at};
 ghost use Rattle.hip_match.specs.Characters.{char_ends};
 ghost use Rattle.hip_match.specs.CharLaws.{char_ends-spans, char_ends-one_start, char_ends-one_char};
 

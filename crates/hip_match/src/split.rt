@@ -1,8 +1,7 @@
 //! The parts of a text between the occurrences of a pattern, from its front.
 ghost use Rattle.std.specs.Prelude.{◌≡◌, ℕ, List, [], length, if◌then◌else◌};
 ghost use Rattle.std.specs.Str.{IsUtf8, IsCharBoundary};
-ghost use Rattle.hip_match.specs.Occurrence.{IsCut};
-ghost use Rattle.hip_match.specs.Pieces.{split, split_inclusive, split_terminator, splitn, gaps, ended, at_most_to, without_empty_last, InOrder};
+ghost use Rattle.hip_match.specs.Pieces.{split, split_inclusive, split_terminator, splitn, gaps, ended, at_most_to, without_empty_last};
 ghost use Rattle.hip_match.specs.Ready.{IsBetween};
 
 use crate::matches::Matches;

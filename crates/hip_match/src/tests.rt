@@ -12,7 +12,7 @@ use crate::laws::{
 };
 use crate::lines::Lines;
 use crate::matches::{MatchIndices, Matches};
-use crate::pattern::{DoubleEndedPattern, OneChar};
+use crate::pattern::{DoubleEndedPattern, OneChar, Pattern, ReversePattern};
 use crate::predicate::{CharPred, choose_by};
 use crate::ranges::{Ranges, RangesBack};
 use crate::rmatches::{RMatchIndices, RMatches};
@@ -22,7 +22,7 @@ use crate::trim::{
     rsplit_once, split_once, strip_prefix, strip_suffix, trim, trim_end, trim_end_matches,
     trim_matches, trim_start, trim_start_matches,
 };
-use crate::white_space::{SplitAsciiWhitespace, SplitWhitespace};
+use crate::white_space::{AsciiWhiteSpace, SplitAsciiWhitespace, SplitWhitespace, WhiteSpace};
 use std::process::Abort;
 use std::test::Fail;
 
@@ -435,6 +435,30 @@ fn clones_go_on_alike(rt: HostRuntime) -> Result<(), Fail> {
     Ok(())
 }
 
+#[test]
+fn a_clone_of_each_iterator(rt: HostRuntime) -> Result<(), Fail> {
+    let text = "a,b,";
+    let commas = [",", ","];
+    gives(&rt, text, Matches::new(text, ',').clone()?, &commas);
+    gives(&rt, text, MatchIndices::new(text, ',').clone()?, &commas);
+    gives(&rt, text, RMatches::new(text, ',').clone()?, &commas);
+    gives(&rt, text, RMatchIndices::new(text, ',').clone()?, &commas);
+    let ended = ["a,", "b,"];
+    gives(&rt, text, SplitInclusive::new(text, ',').clone()?, &ended);
+    let pieces = ["a", "b"];
+    gives(&rt, text, SplitTerminator::new(text, ',').clone()?, &pieces);
+    gives(&rt, text, SplitN::new(text, 2, ',').clone()?, &["a", "b,"]);
+    let backwards = ["", "b", "a"];
+    gives(&rt, text, RSplit::new(text, ',').clone()?, &backwards);
+    gives(&rt, text, RSplitN::new(text, 9, ',').clone()?, &backwards);
+    let ended_back = RSplitTerminator::new(text, ',').clone()?;
+    gives(&rt, text, ended_back, &["b", "a"]);
+    gives(&rt, text, Lines::new(text).clone()?, &[text]);
+    gives(&rt, text, SplitWhitespace::new(text).clone()?, &[text]);
+    gives(&rt, text, SplitAsciiWhitespace::new(text).clone()?, &[text]);
+    Ok(())
+}
+
 // What the script draws of the pieces between digits.
 fn between_digits(text: &str, script: &[End], drawn: &mut [(usize, usize)]) -> usize
     requires { length script.now ≤ length drawn.old }
@@ -521,4 +545,224 @@ fn laws_and_tests_at_a_place(rt: HostRuntime) {
     assert!(rt; ['a'].as_slice().ends_at(text, 4));
     assert!(rt; (&['a', 'é']).starts_at(text, 0));
     assert!(rt; !(&['a', 'é']).ends_at(text, 3));
+}
+
+// What a pattern that occurs at each `é` alone gives from the front.
+macro_rules! from_the_front {
+    ($rt:expr, $pattern:expr) => {
+        let text = "ééaébé";
+        let all = ["é", "é", "é", "é"];
+        gives($rt, text, Matches::new(text, $pattern), &all);
+        gives($rt, text, MatchIndices::new(text, $pattern), &all);
+        gives($rt, text, Split::new(text, $pattern), &["", "", "a", "b", ""]);
+        gives(
+            $rt,
+            text,
+            SplitInclusive::new(text, $pattern),
+            &["é", "é", "aé", "bé"],
+        );
+        gives(
+            $rt,
+            text,
+            SplitTerminator::new(text, $pattern),
+            &["", "", "a", "b"],
+        );
+        gives($rt, text, SplitN::new(text, 3, $pattern), &["", "", "aébé"]);
+        is_part($rt, text, trim_start_matches(text, $pattern), "aébé");
+        assert_eq!($rt; strip_prefix(text, $pattern), Some((2, 10)));
+        assert_eq!($rt; split_once(text, $pattern), Some(((0, 0), (2, 10))));
+        assert_eq!($rt; $pattern.next_match(text, 4), Some((5, 7)));
+        assert_eq!($rt; $pattern.match_at(text, 2), Some(4));
+        assert_eq!($rt; $pattern.match_at(text, 4), None);
+        just_one_list_is_leftmost(&$pattern, text);
+    };
+}
+
+// What it gives from the end.
+macro_rules! from_the_end {
+    ($rt:expr, $pattern:expr) => {
+        let text = "ééaébé";
+        let all = ["é", "é", "é", "é"];
+        gives($rt, text, RMatches::new(text, $pattern), &all);
+        gives($rt, text, RMatchIndices::new(text, $pattern), &all);
+        gives($rt, text, RSplit::new(text, $pattern), &["", "b", "a", "", ""]);
+        gives(
+            $rt,
+            text,
+            RSplitTerminator::new(text, $pattern),
+            &["b", "a", "", ""],
+        );
+        gives($rt, text, RSplitN::new(text, 2, $pattern), &["", "ééaéb"]);
+        is_part($rt, text, trim_end_matches(text, $pattern), "ééaéb");
+        assert_eq!($rt; strip_suffix(text, $pattern), Some((0, 8)));
+        assert_eq!($rt; rsplit_once(text, $pattern), Some(((0, 8), (10, 10))));
+        assert_eq!($rt; $pattern.last_match(text, 8), Some((5, 7)));
+        assert_eq!($rt; $pattern.match_before(text, 4), Some(2));
+        assert_eq!($rt; $pattern.match_before(text, 5), None);
+        just_one_list_is_rightmost(&$pattern, text);
+    };
+}
+
+// What it gives from both ends in turn, if each of its matches is one character.
+macro_rules! from_both_ends {
+    ($rt:expr, $pattern:expr) => {
+        let text = "ééaébé";
+        let split = ["", "", "", "b", "a"];
+        let ended = ["é", "bé", "é", "aé"];
+        let backwards = ["", "", "b", "", "a"];
+        draws($rt, text, Split::new(text, $pattern), "FBFBF", &split);
+        draws($rt, text, SplitInclusive::new(text, $pattern), "FBFB", &ended);
+        draws(
+            $rt,
+            text,
+            SplitTerminator::new(text, $pattern),
+            "BFBF",
+            &["b", "", "a", ""],
+        );
+        draws($rt, text, RSplit::new(text, $pattern), "FBFBF", &backwards);
+        draws(
+            $rt,
+            text,
+            RSplitTerminator::new(text, $pattern),
+            "FBBF",
+            &["b", "", "", "a"],
+        );
+        is_part($rt, text, trim_matches(text, $pattern), "aéb");
+        assert!($rt; $pattern.starts_at(text, 2));
+        assert!($rt; !$pattern.starts_at(text, 4));
+        assert!($rt; $pattern.ends_at(text, 7));
+        assert!($rt; !$pattern.ends_at(text, 8));
+        one_char_reverses(&$pattern, text);
+    };
+}
+
+// The ranges of its matches, from both ends in turn.
+macro_rules! matches_from_both_ends {
+    ($rt:expr, $pattern:expr) => {
+        let text = "ééaébé";
+        let leftmost = [(0, 2), (8, 10), (2, 4), (5, 7)];
+        let rightmost = [(8, 10), (0, 2), (5, 7), (2, 4)];
+        draws_by_turns($rt, Matches::new(text, $pattern), &leftmost);
+        draws_by_turns($rt, MatchIndices::new(text, $pattern), &leftmost);
+        draws_by_turns($rt, RMatches::new(text, $pattern), &rightmost);
+        draws_by_turns($rt, RMatchIndices::new(text, $pattern), &rightmost);
+    };
+}
+
+// The ranges are these, drawn in turn from the front and from the back.
+fn draws_by_turns<R: RangesBack + Drop>(rt: &impl Abort, mut ranges: R, want: &[(usize, usize); 4])
+    requires { R.ready ranges }
+{
+    let mut drawn = [(0, 0); 5];
+    let script = [End::Front, End::Back, End::Front, End::Back, End::Front];
+    assert_eq!(rt; draw_into(&mut ranges, &script, &mut drawn), 4);
+    assert_eq!(rt; &drawn[..4], want.as_slice());
+}
+
+fn pattern_from_the_front<P: Pattern + Copy>(rt: &impl Abort, pattern: P)
+    requires { P.can_search pattern }
+{
+    from_the_front!(rt, pattern);
+}
+
+fn pattern_from_the_end<P: ReversePattern + Copy>(rt: &impl Abort, pattern: P)
+    requires { P.can_search pattern }
+{
+    from_the_end!(rt, pattern);
+}
+
+fn pattern_from_both_ends<P: DoubleEndedPattern + OneChar + Copy>(rt: &impl Abort, pattern: P)
+    requires { P.can_search pattern }
+{
+    from_both_ends!(rt, pattern);
+    matches_from_both_ends!(rt, pattern);
+}
+
+fn closure_from_the_front(rt: &impl Abort, wanted: char) {
+    from_the_front!(rt, CharPred::with(|c| c == wanted, chosen_for(wanted)));
+}
+
+fn closure_from_the_end(rt: &impl Abort, wanted: char) {
+    from_the_end!(rt, CharPred::with(|c| c == wanted, chosen_for(wanted)));
+}
+
+fn closure_from_both_ends(rt: &impl Abort, wanted: char) {
+    from_both_ends!(rt, CharPred::with(|c| c == wanted, chosen_for(wanted)));
+}
+
+fn closure_matches_from_both_ends(rt: &impl Abort, wanted: char) {
+    matches_from_both_ends!(rt, CharPred::with(|c| c == wanted, chosen_for(wanted)));
+}
+
+#[test]
+fn each_way_by_a_text(rt: HostRuntime) -> Result<(), Fail> {
+    let owned = String::from_str(rt.alloc(), "é")?;
+    pattern_from_the_front(&rt, "é");
+    pattern_from_the_front(&rt, &"é");
+    pattern_from_the_front(&rt, &owned);
+    pattern_from_the_end(&rt, "é");
+    pattern_from_the_end(&rt, &"é");
+    pattern_from_the_end(&rt, &owned);
+    Ok(())
+}
+
+#[test]
+fn each_way_by_characters(rt: HostRuntime) {
+    let wanted = ['x', 'é', 'y'];
+    pattern_from_the_front(&rt, 'é');
+    pattern_from_the_front(&rt, &wanted);
+    pattern_from_the_front(&rt, wanted.as_slice());
+    pattern_from_the_end(&rt, 'é');
+    pattern_from_the_end(&rt, &wanted);
+    pattern_from_the_end(&rt, wanted.as_slice());
+    pattern_from_both_ends(&rt, 'é');
+    pattern_from_both_ends(&rt, &wanted);
+    pattern_from_both_ends(&rt, wanted.as_slice());
+}
+
+#[test]
+fn each_way_by_a_capturing_closure(rt: HostRuntime) {
+    closure_from_the_front(&rt, 'é');
+    closure_from_the_end(&rt, 'é');
+    closure_from_both_ends(&rt, 'é');
+    closure_matches_from_both_ends(&rt, 'é');
+}
+
+#[test]
+fn each_way_by_white_space(rt: HostRuntime) {
+    let text = "a\u{2003}b ";
+    assert_eq!(rt; WhiteSpace.next_match(text, 0), Some((1, 4)));
+    assert_eq!(rt; WhiteSpace.match_at(text, 1), Some(4));
+    assert_eq!(rt; WhiteSpace.last_match(text, 5), Some((1, 4)));
+    assert_eq!(rt; WhiteSpace.match_before(text, 4), Some(1));
+    assert!(rt; WhiteSpace.starts_at(text, 1));
+    assert!(rt; !WhiteSpace.starts_at(text, 4));
+    assert!(rt; WhiteSpace.ends_at(text, 6));
+    assert!(rt; !WhiteSpace.ends_at(text, 1));
+    assert_eq!(rt; AsciiWhiteSpace.next_match(text, 0), Some((5, 6)));
+    assert_eq!(rt; AsciiWhiteSpace.match_at(text, 1), None);
+    assert_eq!(rt; AsciiWhiteSpace.last_match(text, 5), None);
+    assert_eq!(rt; AsciiWhiteSpace.match_before(text, 6), Some(5));
+    assert!(rt; AsciiWhiteSpace.ends_at(text, 6));
+    assert!(rt; !AsciiWhiteSpace.ends_at(text, 4));
+}
+
+// The first range that is drawn from the back is this one.
+fn draws_last<R: RangesBack + Drop>(rt: &impl Abort, mut ranges: R, want: (usize, usize))
+    requires { R.ready ranges }
+{
+    let mut drawn = [(0, 0)];
+    assert_eq!(rt; draw_into(&mut ranges, &[End::Back], &mut drawn), 1);
+    assert_eq!(rt; drawn[0], want);
+}
+
+#[test]
+fn drawn_from_each_iterator(rt: HostRuntime) {
+    draws_last(&rt, SplitInclusive::new("a,b,", ','), (2, 4));
+    draws_last(&rt, SplitTerminator::new("a,b,", ','), (2, 3));
+    draws_last(&rt, RSplit::new("a,b,", ','), (0, 1));
+    draws_last(&rt, RSplitTerminator::new("a,b,", ','), (0, 1));
+    draws_last(&rt, Lines::new("a\nb\n"), (2, 3));
+    draws_last(&rt, SplitWhitespace::new("a b "), (2, 3));
+    draws_last(&rt, SplitAsciiWhitespace::new("a b "), (2, 3));
 }

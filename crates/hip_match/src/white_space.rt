@@ -4,7 +4,6 @@ ghost use Rattle.std.specs.Char.{is_whitespace, is_ascii_whitespace};
 ghost use Rattle.std.specs.Str.{IsCharBoundary};
 ghost use Rattle.hip_match.specs.Characters.{char_ends};
 ghost use Rattle.hip_match.specs.CharLaws.{char_ends-spans, char_ends-one_start, char_ends-one_char};
-ghost use Rattle.hip_match.specs.Pieces.{split};
 ghost use Rattle.hip_match.specs.Runs.{nonempty, split_whitespace, split_ascii_whitespace};
 
 use crate::chars::{CharSet, end_of, first_of, last_of, start_before};

@@ -17,7 +17,7 @@ returns-in-Some-clause-ready g c =
     let utf8 = c.requires.window.utf8 in
     let here = g.met.P.Pattern.spans _ _ _ _ utf8 c.in-Some.ensures.occurs in
     record {
-      search = c.requires.search;
+      searchable = c.requires.searchable;
       window = record { utf8 = utf8; start = c.requires.window.start; end = here.start; ordered = c.if-self-start.true };
       whole = clear _ _ (record { spans = λ a b. g.met.P.Pattern.spans _ _ a b utf8; one = λ a b. g.met.P.OneChar.one_char _ _ a b utf8 }) _ here.start;
     }

@@ -15,7 +15,7 @@ returns-then-start-end-clause-cut g c = g.met.P.Pattern.spans _ _ _ _ c.requires
 pub returns-then-start-end-clause-ready : goal.returns-then-start-end-clause-ready
 returns-then-start-end-clause-ready g c =
     record {
-      search = c.requires.search;
+      searchable = c.requires.searchable;
       window = record {
         utf8 = c.requires.window.utf8;
         start = (g.met.P.Pattern.spans _ _ _ _ c.requires.window.utf8 c.in-Some.ensures.occurs).end;
