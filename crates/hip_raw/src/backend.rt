@@ -32,12 +32,15 @@ pub trait Backend: Drop {
     // The owner after what it lent was written.
     ghost with_sole: { Self → Self.Sole → Self };
 
-    // What the sole owner has when the loan ends is what this owner has.
-    ghost sole_items: { (owner : Self) (sole : Self.Sole)
-        → items (with_sole owner sole) ≡ Self.Sole.items sole };
-
-    ghost sole_capacity: { (owner : Self) (sole : Self.Sole)
-        → capacity (with_sole owner sole) ≡ Self.Sole.capacity sole };
+    /// An owner of the vector's bytes. A refused vector is handed back.
+    fn own(alloc: Global, vec: Vec<u8>, meter: &mut Meter) -> Result<Self, Vec<u8>>
+        ensures items { IfOk result (λ owner. items owner ≡ vec.items) }
+        ensures capacity { IfOk result (λ owner. vec_capacity vec ≤ capacity owner) }
+        ensures fits { IfOk result (λ owner. length (items owner) ≤ capacity owner) }
+        ensures bound { IfOk result (λ owner. length (items owner) < 2 ^ 64) }
+        ensures counted { RisesAtMost meter.old meter.new (unless_shared SHARES (vec_len vec)) }
+        ensures handed_back { IfErr result (λ back. back ≡ vec) }
+        ensures refused_copies_nothing { OnErr result (meter.new ≡ meter.old) };
 
     /// The bytes.
     fn as_slice(&self) -> &[u8]
@@ -49,16 +52,6 @@ pub trait Backend: Drop {
     fn capacity(&self) -> usize
         ensures capacity { result ≡ capacity self.now }
         ensures fits { length (items self.now) ≤ capacity self.now };
-
-    /// An owner of the vector's bytes. A refused vector is handed back.
-    fn own(alloc: Global, vec: Vec<u8>, meter: &mut Meter) -> Result<Self, Vec<u8>>
-        ensures items { IfOk result (λ owner. items owner ≡ vec.items) }
-        ensures capacity { IfOk result (λ owner. vec_capacity vec ≤ capacity owner) }
-        ensures fits { IfOk result (λ owner. length (items owner) ≤ capacity owner) }
-        ensures bound { IfOk result (λ owner. length (items owner) < 2 ^ 64) }
-        ensures counted { RisesAtMost meter.old meter.new (unless_shared SHARES (vec_len vec)) }
-        ensures handed_back { IfErr result (λ back. back ≡ vec) }
-        ensures refused_copies_nothing { OnErr result (meter.new ≡ meter.old) };
 
     /// An owner and a position at which it has the `len` bytes that stand here from `start` on: the same owner where it can be
     /// shared, else one of their own.
@@ -111,4 +104,11 @@ pub trait Backend: Drop {
             (unless_shared SHARES (length (items self))) }
         ensures handed_back { IfErr result (λ back. back ≡ self) }
         ensures refused_copies_nothing { OnErr result (meter.new ≡ meter.old) };
+
+    // What the sole owner has when the loan ends is what this owner has.
+    ghost sole_items: { (owner : Self) (sole : Self.Sole)
+        → items (with_sole owner sole) ≡ Self.Sole.items sole };
+
+    ghost sole_capacity: { (owner : Self) (sole : Self.Sole)
+        → capacity (with_sole owner sole) ≡ Self.Sole.capacity sole };
 }
