@@ -164,6 +164,21 @@ impl<const N: usize> Inline<N> {
         self.len = end;
     }
 
+    /// Appends the first `count` bytes again, for which there is room, counted.
+    #[inline]
+    pub fn push_front_unchecked_metered(&mut self, count: usize, meter: &mut Meter)
+        requires there { count ≤ length self.old }
+        requires fits { length self.old + count ≤ N }
+        ensures items { self.new ≡ self.old ++ take count self.old }
+        ensures counted { RisesAtMost meter.old meter.new count }
+    {
+        let start = self.len;
+        let room = &mut self.cells.items[..];
+        let (front, back) = room.split_at_mut(start);
+        fill_counted(&mut back[..count], &front[..count], meter);
+        self.len = start + count;
+    }
+
     /// Keeps the first `len` bytes, or all where there are fewer. It copies nothing.
     #[inline]
     pub fn truncate(&mut self, len: usize)

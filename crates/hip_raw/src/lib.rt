@@ -19,6 +19,7 @@ mod allocated;
 mod appended;
 mod backend;
 mod borrowed;
+mod filling;
 mod inline;
 mod meter;
 mod rc;
@@ -31,6 +32,7 @@ pub use allocated::Allocated;
 pub use appended::Appended;
 pub use backend::Backend;
 pub use borrowed::Borrowed;
+pub use filling::Filling;
 pub use inline::Inline;
 pub use meter::{
     Meter, copy_counted, copy_with_capacity, extend_counted, extend_within, fill_counted,

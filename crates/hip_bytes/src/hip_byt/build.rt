@@ -179,6 +179,9 @@ impl<'b, B: Backend> HipByt<'b, B> {
     }
 }
 
+/// How many bytes a repetition copies in one stretch, so that they are still at hand for the next.
+const AT_ONCE: usize = 4096;
+
 /// The bytes `n` times, which are `len` in all.
 fn repeated(
     alloc: Global,
@@ -187,7 +190,8 @@ fn repeated(
     len: usize,
     meter: &mut Meter,
 ) -> Result<Gathering, AllocError>
-    requires { len ≡ n * length bytes.now }
+    requires whole { len ≡ n * length bytes.now }
+    requires some { 0 < length bytes.now }
     ensures items { IfOk result (λ made. made.items ≡ repeat n bytes.now) }
     ensures len { IfOk result (λ made. length made.items ≡ len) }
     ensures place { IfOk result (λ made. made.in_handle ≡ nat_le len INLINE_CAPACITY) }
@@ -195,8 +199,16 @@ fn repeated(
     ensures counted { RisesAtMost meter.old meter.new len }
 {
     let mut made = Gathering::with_room(alloc, len)?;
-    for _ in 0..n {
-        made.add_within(bytes, meter);
+    if n == 0 {
+        return Ok(made);
+    }
+    made.add_within(bytes, meter);
+    let most = (AT_ONCE / bytes.len()).max(1);
+    let mut done = 1;
+    while done < n {
+        let more = done.min(n - done).min(most);
+        made.add_front_within(more * bytes.len(), meter);
+        done += more;
     }
     Ok(made)
 }
