@@ -36,7 +36,10 @@ pub(crate) fn append_to(
     ensures refused_copies_nothing { OnRefused result (meter.new ≡ meter.old) }
 {
     if keep < vec.len() {
-        return append_behind(vec, keep, addition, meter);
+        let mut apart = Meter::new();
+        let answer = append_behind(vec, keep, addition, &mut apart);
+        meter.add(&apart);
+        return answer;
     }
     match extend_counted(vec, addition, meter) {
         Ok(()) => Appended::Done,

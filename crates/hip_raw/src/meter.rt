@@ -38,6 +38,15 @@ impl Meter {
         self.copied
     }
 
+    /// Adds what another meter counted.
+    #[inline(always)]
+    pub fn add(&mut self, other: &Meter)
+        ensures counted { RisesAtMost self.old self.new other.now }
+        ensures exact { self.new ≡ count_from self.old other.now }
+    {
+        self.copied = self.copied.saturating_add(other.copied);
+    }
+
     #[inline(always)]
     pub(crate) fn count(&mut self, bytes: usize)
         ensures counted { RisesAtMost self.old self.new bytes }
@@ -85,10 +94,36 @@ pub fn extend_counted(
         ((vec.new.items ≡ vec.old.items) × (vec_capacity vec.new ≡ vec_capacity vec.old)) }
     ensures refused_copies_nothing { OnErr result (meter.new ≡ meter.old) }
 {
-    let start = vec.len();
+    if vec.capacity() - vec.len() < addition.len() {
+        // What a call that isn't inlined is lent lies in memory; so the caller's meter isn't lent to it.
+        let mut apart = Meter::new();
+        let outcome = extend_grown(vec, addition, &mut apart);
+        meter.add(&apart);
+        return outcome;
+    }
+    extend_within(vec, addition, meter);
+    Ok(())
+}
+
+// The same where room has to be taken.
+#[cold]
+#[inline(never)]
+fn extend_grown(
+    vec: &mut Vec<u8>,
+    addition: &[u8],
+    meter: &mut Meter,
+) -> Result<(), AllocError>
+    requires { vec_capacity vec.old < vec_len vec.old + length addition.now }
+    ensures items { OnOk result (vec.new.items ≡ vec.old.items ++ addition.now) }
+    ensures capacity { vec_capacity vec.old ≤ vec_capacity vec.new }
+    ensures counted { RisesAtMost meter.old meter.new (length addition.now) }
+    ensures exact { OnOk result (meter.new ≡ count_from meter.old (length addition.now)) }
+    ensures err { OnErr result
+        ((vec.new.items ≡ vec.old.items) × (vec_capacity vec.new ≡ vec_capacity vec.old)) }
+    ensures refused_copies_nothing { OnErr result (meter.new ≡ meter.old) }
+{
     vec.try_reserve(addition.len())?;
-    vec.resize(start + addition.len(), 0).unwrap();
-    fill_counted(vec.slice_mut(start..), addition, meter);
+    extend_within(vec, addition, meter);
     Ok(())
 }
 
@@ -101,7 +136,9 @@ pub fn extend_within(vec: &mut Vec<u8>, addition: &[u8], meter: &mut Meter)
     ensures counted { RisesAtMost meter.old meter.new (length addition.now) }
     ensures exact { meter.new ≡ count_from meter.old (length addition.now) }
 {
-    extend_counted(vec, addition, meter).unwrap();
+    let start = vec.len();
+    vec.resize(start + addition.len(), 0).unwrap();
+    fill_counted(vec.slice_mut(start..), addition, meter);
 }
 
 /// A new vector of these bytes.
