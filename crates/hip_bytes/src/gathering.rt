@@ -119,6 +119,9 @@ impl Gathering {
         ensures too_long { result ≡ Err GrowFault.TooLong → 2 ^ 64 ≤ length self.old.items + length gap.now + length bytes.now }
         ensures counted { OnOk result (RisesAtMost meter.old meter.new (length gap.now + length bytes.now + spill_cost self.old.in_handle self.new.in_handle)) }
     {
+        if gap.is_empty() {
+            return self.add(alloc, bytes, meter);
+        }
         match self.add(alloc, gap, meter) {
             Ok(()) => self.add(alloc, bytes, meter),
             Err(fault) => Err(fault),
