@@ -175,7 +175,11 @@ impl Gathering {
     {
         match self.place {
             Place::Handle(inline) => Ok(HipByt::from_inline(inline)),
-            Place::Vector(filling) => match HipByt::from_vec_metered(alloc, filling.into_vec(), meter) {
+            Place::Vector(filling) => match HipByt::from_vec_metered(
+                alloc,
+                filling.into_vec(),
+                meter,
+            ) {
                 Ok(handle) => Ok(handle),
                 Err(_) => Err(AllocError),
             },

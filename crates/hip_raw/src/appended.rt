@@ -50,12 +50,7 @@ pub(crate) fn append_to(
 // The same where bytes behind `keep` are cut off: room is taken before the cut.
 #[cold]
 #[inline(never)]
-fn append_behind(
-    vec: &mut Vec<u8>,
-    keep: usize,
-    addition: &[u8],
-    meter: &mut Meter,
-) -> Appended
+fn append_behind(vec: &mut Vec<u8>, keep: usize, addition: &[u8], meter: &mut Meter) -> Appended
     requires { keep ≤ vec_len vec.old }
     ensures items { OnDone result (vec.new.items ≡ take keep vec.old.items ++ addition.now) }
     ensures counted { RisesAtMost meter.old meter.new (length addition.now) }

@@ -108,11 +108,7 @@ pub fn extend_counted(
 // The same where room has to be taken.
 #[cold]
 #[inline(never)]
-fn extend_grown(
-    vec: &mut Vec<u8>,
-    addition: &[u8],
-    meter: &mut Meter,
-) -> Result<(), AllocError>
+fn extend_grown(vec: &mut Vec<u8>, addition: &[u8], meter: &mut Meter) -> Result<(), AllocError>
     requires { vec_capacity vec.old < vec_len vec.old + length addition.now }
     ensures items { OnOk result (vec.new.items ≡ vec.old.items ++ addition.now) }
     ensures capacity { vec_capacity vec.old ≤ vec_capacity vec.new }

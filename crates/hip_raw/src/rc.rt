@@ -1,8 +1,7 @@
 //! Owners that share their bytes.
 ghost use Rattle.std.specs.Prelude.{true, vec_capacity, refl};
 
-use crate::appended::Appended;
-use crate::appended::append_to;
+use crate::appended::{Appended, append_to};
 use crate::backend::Backend;
 use crate::meter::Meter;
 use std::alloc::{AllocError, Global};

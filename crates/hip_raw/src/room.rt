@@ -126,4 +126,3 @@ pub(crate) fn cut<B: Backend>(owner: &mut B, len: usize)
         sole.truncate(len);
     }
 }
-
