@@ -7,3 +7,9 @@ play:
 .PHONY: test
 test:
 	rt ci
+
+# Measures the handles beside plain vectors, and beside hipstr in Rust where HIPSTR_RS names a checkout of it.
+.PHONY: bench
+bench:
+	@cd crates/hip_bench && rt lib
+	@bench/run.sh

@@ -1,23 +1,35 @@
 -- Lemmas on repetitions, for the loop that makes one.
-use Rattle.std.proofs.Common.{◌≡◌, ◌∙◌, ℕ, zero, suc, ◌+◌, ◌*◌, ◌<◌, ◌≤◌, List, [], ◌∷◌, ◌++◌, length, refl, sym, ap, append_assoc, append-nil, arith}
-use Rattle.std.proofs.Math.Nat.{suc-mul, mul-le-mul_right}
+use Rattle.std.proofs.Common.{◌≡◌, ◌∙◌, ℕ, zero, suc, ◌+◌, ◌*◌, ◌-◌, ◌≤◌, List, [], ◌∷◌, ◌++◌, length, take, refl, sym, ap, append_assoc, append-nil, length-append, arith}
+use Rattle.std.proofs.Math.Nat.{add-mul, suc-mul, mul-le-mul_right}
+use Rattle.std.proofs.Math.Seq.{take-append_seam}
 use Rattle.std.specs.List.{repeat}
 
--- one time more, at the end
-turned : (n : ℕ) (xs : List ℕ) → repeat n xs ++ xs ≡ repeat (suc n) xs
-turned zero xs = sym (append-nil xs)
-turned (suc n) xs = append_assoc xs (repeat n xs) xs ∙ ap (λ ys. xs ++ ys) (turned n xs)
+-- the list so many times, and then some more times
+pub repeat-append : (m n : ℕ) (xs : List ℕ) → repeat m xs ++ repeat n xs ≡ repeat (m + n) xs
+repeat-append zero n xs = let none : n ≡ zero + n = omega arith in ap (λ k. repeat k xs) none
+repeat-append (suc m) n xs =
+    let more : suc (m + n) ≡ suc m + n = omega arith in
+    append_assoc xs (repeat m xs) (repeat n xs) ∙ ap (λ ys. xs ++ ys) (repeat-append m n xs) ∙ ap (λ k. repeat k xs) more
 
-pub repeat-append : (n : ℕ) (xs : List ℕ) → repeat n xs ++ xs ≡ repeat (n + 1) xs
-repeat-append n xs = let more : suc n ≡ n + 1 = omega arith in turned n xs ∙ ap (λ k. repeat k xs) more
+-- how long that is
+pub length-repeat : (n : ℕ) (xs : List ℕ) → length (repeat n xs) ≡ n * length xs
+length-repeat zero xs = omega arith
+length-repeat (suc n) xs = omega (arith, length-append xs (repeat n xs), length-repeat n xs, suc-mul n (length xs))
 
--- one turn more
-pub times_more : (i len : ℕ) → i * len + len ≡ (i + 1) * len
-times_more i len = omega (arith, suc-mul i len)
+-- its front is the list fewer times
+pub take-repeat : (m n : ℕ) (xs : List ℕ) → m ≤ n → take (m * length xs) (repeat n xs) ≡ repeat m xs
+take-repeat m n xs within =
+    let whole : n ≡ m + (n - m) = omega arith in
+    ap (λ k. take (m * length xs) (repeat k xs)) whole ∙ ap (take (m * length xs)) (sym (repeat-append m (n - m) xs))
+    ∙ ap (λ k. take k (repeat m xs ++ repeat (n - m) xs)) (sym (length-repeat m xs)) ∙ take-append_seam (repeat m xs) (repeat (n - m) xs)
 
--- where there are turns left, there is room for one more
-pub turn_fits : (i n len : ℕ) → i < n → i * len + len ≤ n * len
-turn_fits i n len left = omega (arith, suc-mul i len, mul-le-mul_right {m = suc i} {n = n} len left)
+-- one time
+pub repeat-once : (xs : List ℕ) → xs ≡ repeat 1 xs
+repeat-once xs = sym (append-nil xs)
+
+-- where times are left, there is room for some of them
+pub times_fit : (done more n len : ℕ) → done + more ≤ n → done * len + more * len ≤ n * len
+times_fit done more n len left = omega (arith, add-mul done more len, mul-le-mul_right {m = done + more} {n = n} len left)
 
 -- nothing, however often
 pub repeat-nothing : (n : ℕ) (xs : List ℕ) → length xs ≡ 0 → xs ≡ repeat n xs

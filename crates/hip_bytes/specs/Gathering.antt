@@ -1,5 +1,5 @@
 -- What a list that is being made of others is. No public clause cites this module.
-use Rattle.std.specs.Prelude.{ℕ, Bool, true, false, List, if◌then◌else◌, vec_capacity, ◌&&◌, not}
+use Rattle.std.specs.Prelude.{ℕ, Bool, true, false, List, if◌then◌else◌, ◌&&◌, not}
 use Rattle.hip_bytes.specs.declared.gathering.Place.{Place}
 use Rattle.hip_bytes.specs.declared.gathering.Place.TheVariants.{Handle, Vector}
 use Rattle.hip_bytes.specs.declared.kind.TheConstants.{INLINE_CAPACITY}
@@ -12,7 +12,7 @@ pub record Gathered : Type 0 where
 
 abbrev pub gathered_in : Place → Gathered
 gathered_in (Handle inline) = record { items = inline; room = INLINE_CAPACITY; in_handle = true }
-gathered_in (Vector vec) = record { items = vec.items; room = vec_capacity vec; in_handle = false }
+gathered_in (Vector filling) = record { items = filling.items; room = filling.capacity; in_handle = false }
 
 -- bytes that moved from the handle into a vector were copied once more
 abbrev pub spill_cost : Bool → Bool → ℕ

@@ -1,5 +1,6 @@
 pub mod Cost
 pub mod Gathering
+pub mod GrowFault
 pub mod Handle
 pub mod Join
 pub mod Kinds

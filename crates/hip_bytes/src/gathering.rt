@@ -1,5 +1,5 @@
 //! A list of bytes that is being made of others.
-ghost use Rattle.std.specs.Prelude.{◌≡◌, ◌≤◌, ◌<◌, ◌+◌, ◌^◌, ◌&&◌, true, [], ◌++◌, nat_le, length, IfOk, OnOk, OnErr};
+ghost use Rattle.std.specs.Prelude.{◌≡◌, ◌≤◌, ◌<◌, ◌+◌, ◌^◌, ◌&&◌, true, [], ◌++◌, nat_le, length, take, IfOk, OnOk, OnErr};
 ghost use Rattle.hip_raw.specs.Meter.{RisesAtMost, unless_shared};
 ghost use Rattle.hip_bytes.specs.Kinds.{by_length, HasCapacity};
 ghost use Rattle.hip_bytes.specs.Gathering.{spill_cost};
@@ -8,7 +8,7 @@ ghost use Rattle.hip_bytes.specs.declared.kind.TheConstants.{INLINE_CAPACITY};
 use crate::grow_fault::GrowFault;
 use crate::hip_byt::HipByt;
 use crate::kind::INLINE_CAPACITY;
-use hip_raw::{Backend, Inline, Meter, extend_counted, extend_within};
+use hip_raw::{Backend, Filling, Inline, Meter};
 use std::alloc::{AllocError, Global};
 use std::marker::Model;
 
@@ -18,7 +18,7 @@ enum Place {
     /// Where a handle would have them in itself.
     Handle(Inline<INLINE_CAPACITY>),
     /// In a vector.
-    Vector(Vec<u8>),
+    Vector(Filling),
 }
 
 /// Bytes that become a handle by length: in the handle itself as long as they fit it.
@@ -62,12 +62,12 @@ impl Gathering {
             return Ok(Self::new());
         }
         Ok(Gathering {
-            place: Place::Vector(Vec::with_capacity(alloc, len)?),
+            place: Place::Vector(Filling::with_capacity(alloc, len)?),
         })
     }
 
     /// Adds bytes at the end.
-    #[inline]
+    #[inline(always)]
     pub(crate) fn add(
         &mut self,
         alloc: Global,
@@ -90,23 +90,23 @@ impl Gathering {
                 let Some(len) = inline.len().checked_add(bytes.len()) else {
                     return Err(GrowFault::TooLong);
                 };
-                let mut vec = Vec::with_capacity(alloc, len)?;
-                extend_counted(&mut vec, inline.as_slice(), meter)?;
-                extend_counted(&mut vec, bytes, meter)?;
-                self.place = Place::Vector(vec);
+                let mut filling = Filling::with_capacity(alloc, len)?;
+                filling.push_slice_within(inline.as_slice(), meter);
+                filling.push_slice_within(bytes, meter);
+                self.place = Place::Vector(filling);
             }
-            Place::Vector(vec) => {
-                if vec.len().checked_add(bytes.len()).is_none() {
+            Place::Vector(filling) => {
+                if filling.len().checked_add(bytes.len()).is_none() {
                     return Err(GrowFault::TooLong);
                 }
-                extend_counted(vec, bytes, meter)?;
+                filling.push_slice(bytes, meter)?;
             }
         }
         Ok(())
     }
 
     /// Adds bytes at the end, and what stands before them.
-    #[inline]
+    #[inline(always)]
     pub(crate) fn add_behind(
         &mut self,
         alloc: Global,
@@ -119,6 +119,9 @@ impl Gathering {
         ensures too_long { result ≡ Err GrowFault.TooLong → 2 ^ 64 ≤ length self.old.items + length gap.now + length bytes.now }
         ensures counted { OnOk result (RisesAtMost meter.old meter.new (length gap.now + length bytes.now + spill_cost self.old.in_handle self.new.in_handle)) }
     {
+        if gap.is_empty() {
+            return self.add(alloc, bytes, meter);
+        }
         match self.add(alloc, gap, meter) {
             Ok(()) => self.add(alloc, bytes, meter),
             Err(fault) => Err(fault),
@@ -126,7 +129,7 @@ impl Gathering {
     }
 
     /// Adds bytes at the end, for which there is room.
-    #[inline]
+    #[inline(always)]
     pub(crate) fn add_within(&mut self, bytes: &[u8], meter: &mut Meter)
         requires { length self.old.items + length bytes.now ≤ self.old.room }
         ensures items { self.new.items ≡ self.old.items ++ bytes.now }
@@ -136,7 +139,23 @@ impl Gathering {
     {
         match &mut self.place {
             Place::Handle(inline) => inline.push_slice_unchecked_metered(bytes, meter),
-            Place::Vector(vec) => extend_within(vec, bytes, meter),
+            Place::Vector(filling) => filling.push_slice_within(bytes, meter),
+        }
+    }
+
+    /// Adds the first `count` bytes again, for which there is room.
+    #[inline]
+    pub(crate) fn add_front_within(&mut self, count: usize, meter: &mut Meter)
+        requires there { count ≤ length self.old.items }
+        requires fits { length self.old.items + count ≤ self.old.room }
+        ensures items { self.new.items ≡ self.old.items ++ take count self.old.items }
+        ensures room { self.old.room ≤ self.new.room }
+        ensures place { self.new.in_handle ≡ self.old.in_handle }
+        ensures counted { RisesAtMost meter.old meter.new count }
+    {
+        match &mut self.place {
+            Place::Handle(inline) => inline.push_front_unchecked_metered(count, meter),
+            Place::Vector(filling) => filling.push_front_within(count, meter),
         }
     }
 
@@ -156,7 +175,11 @@ impl Gathering {
     {
         match self.place {
             Place::Handle(inline) => Ok(HipByt::from_inline(inline)),
-            Place::Vector(vec) => match HipByt::from_vec_metered(alloc, vec, meter) {
+            Place::Vector(filling) => match HipByt::from_vec_metered(
+                alloc,
+                filling.into_vec(),
+                meter,
+            ) {
                 Ok(handle) => Ok(handle),
                 Err(_) => Err(AllocError),
             },

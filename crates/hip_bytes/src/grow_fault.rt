@@ -12,6 +12,11 @@ pub enum GrowFault {
 }
 
 impl fmt::Display for GrowFault {
+    ghost use Rattle.std.specs.Prelude.{Some};
+    ghost use Rattle.hip_bytes.specs.GrowFault.{grow_fault_text};
+
+    ghost output = { λ fault. Some (grow_fault_text fault) };
+
     fn fmt<W: fmt::Write>(&self, f: &mut fmt::Formatter<W>) -> fmt::Result {
         f.write_str(match self {
             GrowFault::Memory => "out of memory",

@@ -1,5 +1,6 @@
 -- Parts of parts of lists.
-use Rattle.std.proofs.Common.{◌≡◌, ℕ, ◌+◌, ◌-◌, ◌≤◌, List, take, drop, sym, ap, ◌∙◌, arith}
+use Rattle.std.proofs.Common.{◌≡◌, ℕ, ◌+◌, ◌-◌, ◌≤◌, List, ◌++◌, length, take, drop, sym, ap, ◌∙◌, arith}
+use Rattle.std.proofs.Math.Seq.{take-append-add, take-append_seam}
 use Rattle.std.proofs.lemmas.List.{drop-take, drop-drop, take-take}
 
 -- a part of a window is one window, at the sum of the positions
@@ -8,3 +9,9 @@ slice_of_window xs a n s e s≤e e≤n =
     let whole : s + (n - s) ≡ n = omega arith in
     let back = ap (λ k. drop s (take k (drop a xs))) (sym whole) ∙ drop-take s (n - s) (drop a xs) in
     ap (take (e - s)) back ∙ take-take (e - s) (n - s) (drop s (drop a xs)) (omega arith) ∙ ap (take (e - s)) (drop-drop s a xs)
+
+-- what two lists leave of what stands behind them
+pub take-append_two : (xs ys zs : List ℕ) (m n : ℕ) → length xs ≡ m → length ys ≡ n → take (m + n) (xs ++ (ys ++ zs)) ≡ xs ++ ys
+take-append_two xs ys zs m n to_m to_n =
+    ap (λ k. take (k + n) (xs ++ (ys ++ zs))) (sym to_m) ∙ take-append-add xs (ys ++ zs) n
+    ∙ ap (λ k. xs ++ take k (ys ++ zs)) (sym to_n) ∙ ap (λ ws. xs ++ ws) (take-append_seam ys zs)

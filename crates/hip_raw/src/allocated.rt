@@ -6,8 +6,9 @@ ghost use Rattle.hip_raw.specs.Appended.{OnDone, OnShared, OnMemory, OnRefused};
 ghost use Rattle.hip_raw.specs.Meter.{RisesAtMost, times_copied, unless_shared};
 
 use crate::appended::Appended;
-use crate::backend::{Backend, Room, cut, write_range};
+use crate::backend::Backend;
 use crate::meter::{Meter, copy_counted, copy_with_capacity};
+use crate::room::{Room, cut, write_range};
 use std::alloc::{AllocError, Global};
 use std::marker::Model;
 use std::ops::Range;

@@ -1,3 +1,11 @@
+//! What became of an append, and the append to a vector.
+ghost use Rattle.std.specs.Prelude.{◌≡◌, ◌+◌, ◌<◌, ◌≤◌, ◌++◌, length, take, vec_len, vec_capacity};
+ghost use Rattle.hip_raw.specs.Appended.{OnDone, OnShared, OnMemory, OnRefused};
+ghost use Rattle.hip_raw.specs.Meter.{RisesAtMost};
+
+use crate::meter::{Meter, extend_counted, extend_within};
+use std::alloc::AllocError;
+
 /// What became of an append.
 #[derive(Clone, Copy, Debug, PartialEq, Eq)]
 pub enum Appended {
@@ -7,4 +15,59 @@ pub enum Appended {
     Shared,
     /// Memory was refused, so nothing changed.
     Memory,
+}
+
+// Cuts the vector to `keep` bytes and puts the addition behind them. Room is taken first, so a refusal changes nothing.
+#[inline(always)]
+pub(crate) fn append_to(
+    vec: &mut Vec<u8>,
+    keep: usize,
+    addition: &[u8],
+    meter: &mut Meter,
+) -> Appended
+    requires { keep ≤ vec_len vec.old }
+    ensures items { OnDone result (vec.new.items ≡ take keep vec.old.items ++ addition.now) }
+    ensures counted { RisesAtMost meter.old meter.new (length addition.now) }
+    ensures capacity { vec_capacity vec.old ≤ vec_capacity vec.new }
+    ensures unshared { OnShared result ⊥ }
+    ensures memory { OnMemory result (vec_capacity vec.old < keep + length addition.now) }
+    ensures refused { OnRefused result
+        ((vec.new.items ≡ vec.old.items) × (vec_capacity vec.new ≡ vec_capacity vec.old)) }
+    ensures refused_copies_nothing { OnRefused result (meter.new ≡ meter.old) }
+{
+    if keep < vec.len() {
+        let mut apart = Meter::new();
+        let answer = append_behind(vec, keep, addition, &mut apart);
+        meter.add(&apart);
+        return answer;
+    }
+    match extend_counted(vec, addition, meter) {
+        Ok(()) => Appended::Done,
+        Err(AllocError) => Appended::Memory,
+    }
+}
+
+// The same where bytes behind `keep` are cut off: room is taken before the cut.
+#[cold]
+#[inline(never)]
+fn append_behind(vec: &mut Vec<u8>, keep: usize, addition: &[u8], meter: &mut Meter) -> Appended
+    requires { keep ≤ vec_len vec.old }
+    ensures items { OnDone result (vec.new.items ≡ take keep vec.old.items ++ addition.now) }
+    ensures counted { RisesAtMost meter.old meter.new (length addition.now) }
+    ensures capacity { vec_capacity vec.old ≤ vec_capacity vec.new }
+    ensures unshared { OnShared result ⊥ }
+    ensures memory { OnMemory result (vec_capacity vec.old < keep + length addition.now) }
+    ensures refused { OnRefused result
+        ((vec.new.items ≡ vec.old.items) × (vec_capacity vec.new ≡ vec_capacity vec.old)) }
+    ensures refused_copies_nothing { OnRefused result (meter.new ≡ meter.old) }
+{
+    let Some(len) = keep.checked_add(addition.len()) else {
+        return Appended::Memory;
+    };
+    if vec.try_reserve(len.saturating_sub(vec.len())).is_err() {
+        return Appended::Memory;
+    }
+    vec.truncate(keep);
+    extend_within(vec, addition, meter);
+    Appended::Done
 }

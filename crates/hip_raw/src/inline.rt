@@ -151,7 +151,7 @@ impl<const N: usize> Inline<N> {
     }
 
     /// [`Inline::push_slice_unchecked`], counted.
-    #[inline]
+    #[inline(always)]
     pub fn push_slice_unchecked_metered(&mut self, addition: &[u8], meter: &mut Meter)
         requires { length self.old + length addition.now ≤ N }
         ensures items { self.new ≡ self.old ++ addition.now }
@@ -162,6 +162,21 @@ impl<const N: usize> Inline<N> {
         let room = &mut self.cells.items[..];
         fill_counted(&mut room[start..end], addition, meter);
         self.len = end;
+    }
+
+    /// Appends the first `count` bytes again, for which there is room, counted.
+    #[inline]
+    pub fn push_front_unchecked_metered(&mut self, count: usize, meter: &mut Meter)
+        requires there { count ≤ length self.old }
+        requires fits { length self.old + count ≤ N }
+        ensures items { self.new ≡ self.old ++ take count self.old }
+        ensures counted { RisesAtMost meter.old meter.new count }
+    {
+        let start = self.len;
+        let room = &mut self.cells.items[..];
+        let (front, back) = room.split_at_mut(start);
+        fill_counted(&mut back[..count], &front[..count], meter);
+        self.len = start + count;
     }
 
     /// Keeps the first `len` bytes, or all where there are fewer. It copies nothing.

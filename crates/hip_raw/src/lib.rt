@@ -1,7 +1,7 @@
 //! The lowest layer of hipstr: **an owner is a list of bytes and a capacity, and every byte that is copied is counted.**
 //!
 //! - [`Meter`] counts copied bytes. [`fill_counted`] is the one function that copies them. By it [`extend_counted`] appends to a vector,
-//!   and [`copy_counted`] and [`copy_with_capacity`] make one.
+//!   [`copy_counted`] and [`copy_with_capacity`] make one, and a [`Filling`] gathers many parts.
 //! - [`Backend`] is what an owner promises, to this crate and to any other implementor: [`Rc`], which many handles share, and
 //!   [`Unique`], which has one. A sole owner lends a [`Room`], and an append answers [`Appended`].
 //! - [`Inline`], [`Borrowed`] and [`Allocated`] are the three representations of a byte string: in the handle itself, lent by
@@ -19,20 +19,24 @@ mod allocated;
 mod appended;
 mod backend;
 mod borrowed;
+mod filling;
 mod inline;
 mod meter;
 mod rc;
+mod room;
 #[cfg(test)]
 mod tests;
 mod unique;
 
 pub use allocated::Allocated;
 pub use appended::Appended;
-pub use backend::{Backend, Room};
+pub use backend::Backend;
 pub use borrowed::Borrowed;
+pub use filling::Filling;
 pub use inline::Inline;
 pub use meter::{
     Meter, copy_counted, copy_with_capacity, extend_counted, extend_within, fill_counted,
 };
 pub use rc::Rc;
+pub use room::Room;
 pub use unique::Unique;

@@ -38,7 +38,16 @@ impl Meter {
         self.copied
     }
 
-    #[inline]
+    /// Adds what another meter counted.
+    #[inline(always)]
+    pub fn add(&mut self, other: &Meter)
+        ensures counted { RisesAtMost self.old self.new other.now }
+        ensures exact { self.new ≡ count_from self.old other.now }
+    {
+        self.copied = self.copied.saturating_add(other.copied);
+    }
+
+    #[inline(always)]
     pub(crate) fn count(&mut self, bytes: usize)
         ensures counted { RisesAtMost self.old self.new bytes }
         ensures exact { self.new ≡ count_from self.old bytes }
@@ -57,7 +66,7 @@ impl Default for Meter {
 }
 
 /// Copies `from` over `to` and counts its bytes. It is the one function of the product that copies bytes.
-#[inline]
+#[inline(always)]
 pub fn fill_counted(to: &mut [u8], from: &[u8], meter: &mut Meter)
     requires { length to.old ≡ length from.now }
     ensures items { to.new ≡ from.now }
@@ -69,7 +78,7 @@ pub fn fill_counted(to: &mut [u8], from: &[u8], meter: &mut Meter)
 }
 
 /// Appends these bytes to a vector. The new room is made of zeros and then filled. A refused vector stays as it was.
-#[inline]
+#[inline(always)]
 pub fn extend_counted(
     vec: &mut Vec<u8>,
     addition: &[u8],
@@ -85,15 +94,37 @@ pub fn extend_counted(
         ((vec.new.items ≡ vec.old.items) × (vec_capacity vec.new ≡ vec_capacity vec.old)) }
     ensures refused_copies_nothing { OnErr result (meter.new ≡ meter.old) }
 {
-    let start = vec.len();
+    if vec.capacity() - vec.len() < addition.len() {
+        // What a call that isn't inlined is lent lies in memory; so the caller's meter isn't lent to it.
+        let mut apart = Meter::new();
+        let outcome = extend_grown(vec, addition, &mut apart);
+        meter.add(&apart);
+        return outcome;
+    }
+    extend_within(vec, addition, meter);
+    Ok(())
+}
+
+// The same where room has to be taken.
+#[cold]
+#[inline(never)]
+fn extend_grown(vec: &mut Vec<u8>, addition: &[u8], meter: &mut Meter) -> Result<(), AllocError>
+    requires { vec_capacity vec.old < vec_len vec.old + length addition.now }
+    ensures items { OnOk result (vec.new.items ≡ vec.old.items ++ addition.now) }
+    ensures capacity { vec_capacity vec.old ≤ vec_capacity vec.new }
+    ensures counted { RisesAtMost meter.old meter.new (length addition.now) }
+    ensures exact { OnOk result (meter.new ≡ count_from meter.old (length addition.now)) }
+    ensures err { OnErr result
+        ((vec.new.items ≡ vec.old.items) × (vec_capacity vec.new ≡ vec_capacity vec.old)) }
+    ensures refused_copies_nothing { OnErr result (meter.new ≡ meter.old) }
+{
     vec.try_reserve(addition.len())?;
-    vec.resize(start + addition.len(), 0).unwrap();
-    fill_counted(vec.slice_mut(start..), addition, meter);
+    extend_within(vec, addition, meter);
     Ok(())
 }
 
 /// Appends these bytes to a vector that has room for them.
-#[inline]
+#[inline(always)]
 pub fn extend_within(vec: &mut Vec<u8>, addition: &[u8], meter: &mut Meter)
     requires { vec_len vec.old + length addition.now ≤ vec_capacity vec.old }
     ensures items { vec.new.items ≡ vec.old.items ++ addition.now }
@@ -101,11 +132,13 @@ pub fn extend_within(vec: &mut Vec<u8>, addition: &[u8], meter: &mut Meter)
     ensures counted { RisesAtMost meter.old meter.new (length addition.now) }
     ensures exact { meter.new ≡ count_from meter.old (length addition.now) }
 {
-    extend_counted(vec, addition, meter).unwrap();
+    let start = vec.len();
+    vec.resize(start + addition.len(), 0).unwrap();
+    fill_counted(vec.slice_mut(start..), addition, meter);
 }
 
 /// A new vector of these bytes.
-#[inline]
+#[inline(always)]
 pub fn copy_counted(alloc: Global, bytes: &[u8], meter: &mut Meter) -> Result<Vec<u8>, AllocError>
     ensures items { IfOk result (λ vec. vec.items ≡ bytes.now) }
     ensures counted { RisesAtMost meter.old meter.new (length bytes.now) }
@@ -116,7 +149,7 @@ pub fn copy_counted(alloc: Global, bytes: &[u8], meter: &mut Meter) -> Result<Ve
 }
 
 /// A new vector of these bytes with room for `capacity`.
-#[inline]
+#[inline(always)]
 pub fn copy_with_capacity(
     alloc: Global,
     bytes: &[u8],

@@ -1,8 +1,8 @@
 //! Owners that share their bytes.
 ghost use Rattle.std.specs.Prelude.{true, vec_capacity, refl};
 
-use crate::appended::Appended;
-use crate::backend::{Backend, append_to};
+use crate::appended::{Appended, append_to};
+use crate::backend::Backend;
 use crate::meter::Meter;
 use std::alloc::{AllocError, Global};
 use std::marker::Model;

@@ -1,5 +1,5 @@
 use crate::{
-    Allocated, Appended, Backend, Borrowed, Inline, Meter, Rc, Room, Unique, copy_counted,
+    Allocated, Appended, Backend, Borrowed, Filling, Inline, Meter, Rc, Room, Unique, copy_counted,
     copy_with_capacity, extend_counted, fill_counted,
 };
 use std::alloc::Global;
@@ -23,6 +23,26 @@ fn copies_are_counted(rt: HostRuntime) -> Result<(), Fail> {
     assert_eq!(rt; roomy.as_slice(), b"abcde".as_slice());
     assert!(rt; roomy.capacity() >= 30);
     assert_eq!(rt; meter.copied(), 50);
+    Ok(())
+}
+
+#[test]
+fn a_vector_is_filled(rt: HostRuntime) -> Result<(), Fail> {
+    let mut meter = Meter::new();
+    let mut filling = Filling::with_capacity(rt.alloc(), 6)?;
+    filling.push_slice_within(b"abc", &mut meter);
+    filling.push_front_within(2, &mut meter);
+    filling.push_slice(b"!", &mut meter)?;
+    assert_eq!(rt; filling.len(), 6);
+    filling.push_slice(b", and more than six", &mut meter)?;
+    assert_eq!(rt;
+        filling.into_vec().as_slice(),
+        b"abcab!, and more than six".as_slice()
+    );
+    let mut sum = Meter::new();
+    sum.add(&meter);
+    sum.add(&meter);
+    assert_eq!(rt; sum.copied(), 50);
     Ok(())
 }
 

@@ -1,8 +1,8 @@
 //! Owners with one handle each.
 ghost use Rattle.std.specs.Prelude.{false, vec_capacity, refl};
 
-use crate::appended::Appended;
-use crate::backend::{Backend, append_to};
+use crate::appended::{Appended, append_to};
+use crate::backend::Backend;
 use crate::meter::{Meter, copy_counted};
 use std::alloc::{AllocError, Global};
 use std::marker::Model;

@@ -18,7 +18,10 @@ mod pool;
 
 /// Byte strings.
 pub mod bytes {
-    pub use hip_bytes::{HipByt, INLINE_CAPACITY, Kind, SliceError, SliceErrorKind, SliceRefusal};
+    pub use hip_bytes::{
+        GrowFault, HipByt, INLINE_CAPACITY, Kind, RefMut, SliceError, SliceErrorKind, SliceRefusal,
+        Source,
+    };
 }
 
 pub use command::{Answer, Command, Reason};

@@ -1,5 +1,5 @@
 //! Values that are made of others.
-ghost use Rattle.std.specs.Prelude.{◌≡◌, ◌↔◌, ◌≤◌, ◌<◌, ◌+◌, ◌*◌, ◌^◌, [], nat_le, length, IfOk, IfErr, OnErr};
+ghost use Rattle.std.specs.Prelude.{◌≡◌, ◌↔◌, ◌≤◌, ◌<◌, ◌+◌, ◌*◌, ◌^◌, [], ◌++◌, nat_le, length, take, IfOk, IfErr, OnErr};
 ghost use Rattle.std.specs.List.{repeat};
 ghost use Rattle.std.specs.Option.{SomeIff};
 ghost use Rattle.hip_raw.specs.Meter.{RisesAtMost, times_copied};
@@ -12,7 +12,7 @@ use super::HipByt;
 use crate::gathering::Gathering;
 use crate::grow_fault::GrowFault;
 use crate::kind::{INLINE_CAPACITY, Kind};
-use hip_raw::{Backend, Meter};
+use hip_raw::{Backend, Inline, Meter, fill_counted};
 use std::alloc::{AllocError, Global};
 
 impl<'b, B: Backend> HipByt<'b, B> {
@@ -112,8 +112,17 @@ impl<'b, B: Backend> HipByt<'b, B> {
         let Some(len) = joined_len(slices, sep) else {
             return Err(GrowFault::TooLong);
         };
-        let made = gathered(alloc, slices, sep, len, meter)?;
-        Ok(made.finish(alloc, meter)?)
+        if len <= INLINE_CAPACITY {
+            let mut inline = Inline::zeroed(len);
+            fill_joined(inline.as_mut_slice(), slices, sep, meter);
+            return Ok(HipByt::from_inline(inline));
+        }
+        let mut vec = vec![in alloc; 0; len]?;
+        fill_joined(vec.as_mut_slice(), slices, sep, meter);
+        match HipByt::from_vec_metered(alloc, vec, meter) {
+            Ok(handle) => Ok(handle),
+            Err(_) => Err(GrowFault::Memory),
+        }
     }
 }
 
@@ -138,26 +147,34 @@ fn joined_len(slices: &[&[u8]], sep: &[u8]) -> Option<usize>
     Some(len)
 }
 
-/// A join, which has `len` bytes.
-fn gathered(
-    alloc: Global,
-    slices: &[&[u8]],
-    sep: &[u8],
-    len: usize,
-    meter: &mut Meter,
-) -> Result<Gathering, AllocError>
-    requires { len ≡ length (joined sep.now slices.now) }
-    ensures items { IfOk result (λ made. made.items ≡ joined sep.now slices.now) }
-    ensures place { IfOk result (λ made. made.in_handle ≡ nat_le len INLINE_CAPACITY) }
-    ensures memory { OnErr result (INLINE_CAPACITY < len) }
-    ensures counted { RisesAtMost meter.old meter.new len }
+/// Copies bytes to a position, and says where they end.
+#[inline(always)]
+fn fill_at(room: &mut [u8], at: usize, bytes: &[u8], meter: &mut Meter) -> usize
+    requires { at + length bytes.now ≤ length room.old }
+    ensures end { result ≡ at + length bytes.now }
+    ensures items { take result room.new ≡ take at room.old ++ bytes.now }
+    ensures len { length room.new ≡ length room.old }
+    ensures counted { RisesAtMost meter.old meter.new (length bytes.now) }
 {
-    let mut made = Gathering::with_room(alloc, len)?;
-    for (i, slice) in slices.iter().enumerate() {
-        made.add_within(gap(i, sep), meter);
-        made.add_within(slice, meter);
+    let end = at + bytes.len();
+    if at < end {
+        fill_counted(&mut room[at..end], bytes, meter);
     }
-    Ok(made)
+    end
+}
+
+/// Copies a join into room of its length.
+#[inline]
+fn fill_joined(room: &mut [u8], slices: &[&[u8]], sep: &[u8], meter: &mut Meter)
+    requires { length room.old ≡ length (joined sep.now slices.now) }
+    ensures items { room.new ≡ joined sep.now slices.now }
+    ensures counted { RisesAtMost meter.old meter.new (length room.old) }
+{
+    let mut at = 0;
+    for (i, slice) in slices.iter().enumerate() {
+        at = fill_at(room, at, gap(i, sep), meter);
+        at = fill_at(room, at, slice, meter);
+    }
 }
 
 impl<'b, B: Backend> HipByt<'b, B> {
@@ -179,6 +196,9 @@ impl<'b, B: Backend> HipByt<'b, B> {
     }
 }
 
+/// How many bytes a repetition copies in one stretch, so that they are still at hand for the next.
+const AT_ONCE: usize = 4096;
+
 /// The bytes `n` times, which are `len` in all.
 fn repeated(
     alloc: Global,
@@ -187,7 +207,8 @@ fn repeated(
     len: usize,
     meter: &mut Meter,
 ) -> Result<Gathering, AllocError>
-    requires { len ≡ n * length bytes.now }
+    requires whole { len ≡ n * length bytes.now }
+    requires some { 0 < length bytes.now }
     ensures items { IfOk result (λ made. made.items ≡ repeat n bytes.now) }
     ensures len { IfOk result (λ made. length made.items ≡ len) }
     ensures place { IfOk result (λ made. made.in_handle ≡ nat_le len INLINE_CAPACITY) }
@@ -195,8 +216,16 @@ fn repeated(
     ensures counted { RisesAtMost meter.old meter.new len }
 {
     let mut made = Gathering::with_room(alloc, len)?;
-    for _ in 0..n {
-        made.add_within(bytes, meter);
+    if n == 0 {
+        return Ok(made);
+    }
+    made.add_within(bytes, meter);
+    let most = (AT_ONCE / bytes.len()).max(1);
+    let mut done = 1;
+    while done < n {
+        let more = done.min(n - done).min(most);
+        made.add_front_within(more * bytes.len(), meter);
+        done += more;
     }
     Ok(made)
 }

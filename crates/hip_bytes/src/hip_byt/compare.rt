@@ -52,7 +52,7 @@ impl<'b, B: Backend> PartialEq for HipByt<'b, B> {
 
     ghost laws = { on_per (λ a. a.items) (partial_equiv_from_equiv nat_list_eq_equiv) };
 
-    #[inline]
+    #[inline(always)]
     fn eq(&self, other: &Self) -> bool {
         self.as_slice() == other.as_slice()
     }
@@ -82,7 +82,7 @@ impl<'b, B: Backend> Ord for HipByt<'b, B> {
 
     ghost matches_eq = { λ a b. texts_ties a.items b.items };
 
-    #[inline]
+    #[inline(always)]
     fn cmp(&self, other: &Self) -> Ordering {
         self.as_slice().cmp(other.as_slice())
     }

@@ -5,6 +5,7 @@ ghost use Rattle.hip_raw.specs.Meter.{RisesAtMost, times_copied};
 ghost use Rattle.hip_bytes.specs.Cost.{CutNeedsMemory, PushNeedsMemory, shortened_cost, shrink_cost};
 ghost use Rattle.hip_bytes.specs.Repr.{handle_of};
 ghost use Rattle.hip_bytes.specs.Kinds.{by_length, cut_kind, kept_capacity, PushedKind, HasCapacity};
+ghost use Rattle.hip_bytes.specs.declared.kind.TheConstants.{INLINE_CAPACITY};
 
 use super::{HipByt, Repr};
 use crate::kind::{INLINE_CAPACITY, Kind};
@@ -12,6 +13,8 @@ use hip_raw::{Allocated, Appended, Backend, Inline, Meter, fill_counted};
 use std::alloc::{AllocError, Global};
 
 /// A handle of the bytes of two slices, one behind the other, by length.
+#[cold]
+#[inline(never)]
 fn joined<'b, B: Backend>(
     alloc: Global,
     front: &[u8],
@@ -44,7 +47,7 @@ fn joined<'b, B: Backend>(
 
 impl<'b, B: Backend> HipByt<'b, B> {
     /// Adds bytes at the end: in place where they fit the handle itself or its owner is not shared, else in a copy.
-    #[inline]
+    #[inline(always)]
     pub fn push_slice(&mut self, alloc: Global, addition: &[u8]) -> Result<(), AllocError>
         ensures items { OnOk result (self.new.items ≡ self.old.items ++ addition.now) }
         ensures kind { OnOk result (PushedKind B.SHARES self.old.kind (length self.new.items) self.new.kind) }
@@ -56,7 +59,7 @@ impl<'b, B: Backend> HipByt<'b, B> {
     }
 
     /// [`HipByt::push_slice`], counted.
-    #[inline]
+    #[inline(always)]
     pub fn push_slice_metered(
         &mut self,
         alloc: Global,
@@ -84,12 +87,34 @@ impl<'b, B: Backend> HipByt<'b, B> {
             }
             _ => {}
         }
+        let mut apart = Meter::new();
+        let outcome = self.push_copied(alloc, addition, &mut apart);
+        meter.add(&apart);
+        outcome
+    }
+
+    // The same by a copy.
+    #[cold]
+    #[inline(never)]
+    fn push_copied(
+        &mut self,
+        alloc: Global,
+        addition: &[u8],
+        meter: &mut Meter,
+    ) -> Result<(), AllocError>
+        ensures items { OnOk result (self.new.items ≡ self.old.items ++ addition.now) }
+        ensures kind { OnOk result (self.new.kind ≡ by_length (length self.old.items + length addition.now)) }
+        ensures capacity { OnOk result (HasCapacity self.new.kind (length self.new.items) self.new.capacity) }
+        ensures memory { OnErr result (INLINE_CAPACITY < length self.old.items + length addition.now) }
+        ensures counted { RisesAtMost meter.old meter.new (times_copied B.SHARES (length self.old.items + length addition.now)) }
+        ensures err { OnErr result (self.new ≡ self.old) }
+    {
         self.bare.repr = joined(alloc, self.as_slice(), addition, meter)?;
         Ok(())
     }
 
     /// Adds a byte at the end.
-    #[inline]
+    #[inline(always)]
     pub fn push(&mut self, alloc: Global, byte: u8) -> Result<(), AllocError>
         ensures items { OnOk result (self.new.items ≡ self.old.items ++ byte ∷ []) }
         ensures kind { OnOk result (PushedKind B.SHARES self.old.kind (length self.new.items) self.new.kind) }
@@ -101,7 +126,7 @@ impl<'b, B: Backend> HipByt<'b, B> {
     }
 
     /// [`HipByt::push`], counted.
-    #[inline]
+    #[inline(always)]
     pub fn push_metered(
         &mut self,
         alloc: Global,
@@ -189,6 +214,28 @@ impl<'b, B: Backend> HipByt<'b, B> {
     /// [`HipByt::pop`], counted.
     #[inline]
     pub fn pop_metered(&mut self, meter: &mut Meter) -> Option<u8>
+        ensures items { self.old.items ≡ self.new.items ++ option_to_list result }
+        ensures some { IsSome result ↔ (0 < length self.old.items) }
+        ensures kind { OnSome result (self.new.kind ≡ cut_kind self.old.kind (length self.new.items)) }
+        ensures capacity { OnSome result (self.new.capacity ≡ kept_capacity self.old.kind (length self.new.items) self.old.capacity) }
+        ensures empty { IfNone result (self.old.items ≡ []) }
+        ensures none { IfNone result (self.new ≡ self.old) }
+        ensures counted { RisesAtMost meter.old meter.new (shortened_cost self.old.kind) }
+    {
+        match &mut self.bare.repr {
+            Repr::Allocated(allocated) if allocated.len() > INLINE_CAPACITY + 1 => {
+                let len = allocated.len() - 1;
+                let last = allocated.as_slice()[len];
+                allocated.truncate(len);
+                Some(last)
+            }
+            _ => self.pop_short(meter),
+        }
+    }
+
+    // The same where the bytes may become few enough for the handle itself, or don't lie with an owner.
+    #[inline(never)]
+    fn pop_short(&mut self, meter: &mut Meter) -> Option<u8>
         ensures items { self.old.items ≡ self.new.items ++ option_to_list result }
         ensures some { IsSome result ↔ (0 < length self.old.items) }
         ensures kind { OnSome result (self.new.kind ≡ cut_kind self.old.kind (length self.new.items)) }

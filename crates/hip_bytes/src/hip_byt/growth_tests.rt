@@ -146,11 +146,7 @@ fn mutations<B: Backend>(rt: &impl Abort, alloc: Global) -> Result<(), Fail> {
 }
 
 /// Adds the byte through the vector that is lent, and says how many bytes that has then.
-fn adds<B: Backend>(
-    handle: &mut HipByt<B>,
-    alloc: Global,
-    byte: u8,
-) -> Result<usize, Fail> {
+fn adds<B: Backend>(handle: &mut HipByt<B>, alloc: Global, byte: u8) -> Result<usize, Fail> {
     let mut guard = handle.mutate(alloc)?;
     guard.as_mut_vec().push(byte)?;
     let len = guard.as_vec().len();

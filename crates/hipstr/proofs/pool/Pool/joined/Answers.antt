@@ -1,7 +1,7 @@
 use Rattle.std.proofs.Common.{◌≡◌, ◌≤◌, ◌^◌, ◌↔◌, List, ℕ, length, IfOk, Err, subst}
 use Rattle.hip_bytes.specs.Meter.{RisesAtMost}
 use Rattle.hip_bytes.specs.declared.grow_fault.GrowFault.TheVariants.{TooLong}
-use Rattle.hip_bytes.specs.Join.{join_cost, joined}
+use Rattle.hip_bytes.specs.Join.{join_cost}
 use Rattle.hip_bytes.specs.Kinds.{by_length}
 use Rattle.hipstr.proofs.Joins.{joined-pieces}
 use Rattle.hipstr.proofs.pool.Pool.joined.Goals as goal

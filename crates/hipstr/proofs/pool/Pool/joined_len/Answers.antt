@@ -17,5 +17,5 @@ returns-in_err-checked_add g c =
 pub returns-in_err-len : goal.returns-in_err-len
 returns-in_err-len g c =
     let fits = next-fits c.args.self.now c.args.first c.loop-i.i c.args.count c.args.sep.now c.bytes.result.now c.loop-i.len c.gap_len.result c.len.result
-        c.requires.within c.loop-i-test.true c.loop-i.invariant.len c.gap_len.ensures c.bytes.ensures c.len.ensures.len in
+    c.requires.within c.loop-i-test.true c.loop-i.invariant.len c.gap_len.ensures c.bytes.ensures c.len.ensures.len in
     rw c.from_residual-in_err-len.ensures (λ h. c.in_err-len.ensures (omega (arith, c.in_ok-checked_add.ensures.1)))

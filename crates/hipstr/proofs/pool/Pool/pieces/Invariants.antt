@@ -1,5 +1,4 @@
 use Rattle.std.proofs.Common.{◌≡◌, map, take, drop}
-use Rattle.hipstr.specs.Slot.{state_of}
 use Rattle.hipstr.specs.Step.{items_of}
 use Rattle.hipstr.proofs.pool.Pool.pieces.Given as goal
 

@@ -1,0 +1,268 @@
+//! The workloads, as `crates/hip_bench` has them, over any byte string.
+use crate::plain::Bytes;
+use std::cmp::Ordering;
+use std::collections::{BTreeMap, HashMap};
+
+const MEBIBYTE: u64 = 1 << 20;
+
+/// What a workload reads.
+#[derive(Clone, Copy)]
+pub enum Input {
+    Row,
+    Page,
+    Mebibyte,
+    Words,
+}
+
+impl Input {
+    /// Bytes from a fixed seed.
+    pub fn bytes(self) -> Vec<u8> {
+        let mut state = 0x9E37_79B9_7F4A_7C15u64;
+        let mut next = move |below: u64| {
+            state ^= state << 13;
+            state ^= state >> 7;
+            state ^= state << 17;
+            (state >> 32) % below
+        };
+        let len = match self {
+            Input::Row => 4096,
+            Input::Page => 65536,
+            Input::Mebibyte => MEBIBYTE,
+            Input::Words => {
+                let words: Vec<String> = (0..10_000).map(|k| format!("word{k:x}")).collect();
+                let drawn: Vec<&str> = (0..100_000).map(|_| words[next(10_000) as usize].as_str()).collect();
+                return drawn.join(" ").into_bytes();
+            }
+        };
+        (0..len).map(|_| b' ' + next(95) as u8).collect()
+    }
+}
+
+fn mix(sum: u64, number: u64) -> u64 {
+    sum.wrapping_mul(31).wrapping_add(number)
+}
+
+fn look(sum: u64, bytes: &[u8]) -> u64 {
+    let sum = mix(sum, bytes.len() as u64);
+    match (bytes.first(), bytes.last()) {
+        (Some(first), Some(last)) => mix(mix(sum, *first as u64), *last as u64),
+        _ => sum,
+    }
+}
+
+fn peek(sum: u64, bytes: &[u8], round: u64, places: u64) -> u64 {
+    mix(sum, bytes[(round.wrapping_mul(4099) % places) as usize] as u64)
+}
+
+/// Each round puts a value into a ring of 64, which keeps it until another takes its place.
+fn ring<'a, V: Bytes<'a>>(rounds: u64, make: impl Fn(u64) -> V) -> u64 {
+    let mut values: Vec<V> = (0..64).map(|_| V::default()).collect();
+    for round in 0..rounds {
+        values[(round % 64) as usize] = make(round);
+    }
+    values.iter().fold(mix(0, rounds), |sum, value| look(sum, value.bytes()))
+}
+
+fn parts<'a, V: Bytes<'a>>(value: V, len: usize, places: u64, rounds: u64) -> u64 {
+    ring(rounds, |round| {
+        let start = (round.wrapping_mul(7) % places) as usize;
+        value.part(start..start + len)
+    })
+}
+
+fn owned<'a, V: Bytes<'a>>(input: &'a [u8], len: usize, rounds: u64) -> u64 {
+    ring(rounds, |round| V::owned(&input[(round.wrapping_mul(7) % 500) as usize..][..len]))
+}
+
+fn bytes_set<'a, V: Bytes<'a>>(mut value: V, rounds: u64) -> u64 {
+    for round in 0..rounds {
+        value.writable()[(round.wrapping_mul(37) % 1024) as usize] = round as u8;
+    }
+    value.bytes().iter().fold(0, |sum, byte| mix(sum, *byte as u64))
+}
+
+fn appends<'a, V: Bytes<'a>>(input: &[u8], rounds: u64) -> u64 {
+    let mut value = V::copied(&input[..1024]);
+    for round in 0..rounds {
+        let start = (round.wrapping_mul(16) % 1024) as usize;
+        value.extend_within_vector(&input[start..start + 16], 4096, 1024);
+    }
+    look(0, value.bytes())
+}
+
+/// Each round fills a new value by `fill`.
+fn grown<'a, V: Bytes<'a>>(rounds: u64, room: usize, len: u64, fill: impl Fn(&mut V)) -> u64 {
+    (0..rounds).fold(0, |sum, round| {
+        let mut value = V::with_room(room);
+        fill(&mut value);
+        peek(mix(sum, value.bytes().len() as u64), value.bytes(), round, len)
+    })
+}
+
+fn bytes_pushed<'a, V: Bytes<'a>>(input: &[u8], rounds: u64) -> u64 {
+    grown(rounds, 0, MEBIBYTE, |value: &mut V| (0..MEBIBYTE as usize).for_each(|k| value.push(input[k % 4096])))
+}
+
+fn slices_pushed<'a, V: Bytes<'a>>(input: &[u8], room: usize, rounds: u64) -> u64 {
+    let starts = (0..MEBIBYTE as usize / 4).map(|k| k * 16 % 4096);
+    grown(rounds, room, 4 * MEBIBYTE, |value: &mut V| starts.clone().for_each(|start| value.push_slice(&input[start..start + 16])))
+}
+
+fn moved<'a, V: Bytes<'a>>(mut value: V, rounds: u64) -> u64 {
+    (0..rounds).fold(0, |sum, round| {
+        match round % 2 {
+            0 => value.writable().make_ascii_uppercase(),
+            _ => value.writable().make_ascii_lowercase(),
+        }
+        peek(sum, value.bytes(), round, MEBIBYTE)
+    })
+}
+
+fn moved_in_clone<'a, V: Bytes<'a>>(value: V, rounds: u64) -> u64 {
+    (0..rounds).fold(0, |sum, round| {
+        let mut clone = value.clone();
+        clone.writable().make_ascii_uppercase();
+        peek(sum, clone.bytes(), round, MEBIBYTE)
+    })
+}
+
+fn popped<'a, V: Bytes<'a>>(value: V, rounds: u64) -> u64 {
+    (0..rounds).fold(0, |sum, _| {
+        let mut clone = value.clone();
+        let mut bytes = 0u64;
+        while let Some(byte) = clone.pop() {
+            bytes = bytes.wrapping_add(byte as u64);
+        }
+        mix(sum, bytes)
+    })
+}
+
+fn truncated<'a, V: Bytes<'a>>(value: V, rounds: u64) -> u64 {
+    let mut sum = 0u64;
+    for _ in 0..rounds {
+        let mut clone = value.clone();
+        while clone.bytes().len() >= 16 {
+            clone.truncate(clone.bytes().len() - 16);
+            sum = sum.wrapping_add(clone.bytes().len() as u64);
+            sum = sum.wrapping_add(clone.bytes().last().map_or(0, |byte| *byte as u64));
+        }
+    }
+    sum
+}
+
+fn made<'a, V: Bytes<'a>>(rounds: u64, make: impl Fn() -> V) -> u64 {
+    (0..rounds).fold(0, |sum, round| {
+        let value = make();
+        peek(look(sum, value.bytes()), value.bytes(), round, MEBIBYTE)
+    })
+}
+
+fn compared<'a, V: Bytes<'a>>(input: &[u8], len: usize, rounds: u64, compare: impl Fn(&V, &V) -> u64) -> u64 {
+    let pair = |k: usize| (V::copied(&input[300 * k..][..len]), V::copied(&input[300 * k..][..len]));
+    let pairs: Vec<(V, V)> = (0..8).map(pair).collect();
+    (0..rounds).fold(0, |sum: u64, round| {
+        let (first, second) = &pairs[(round % 8) as usize];
+        sum.wrapping_add(compare(first, second))
+    })
+}
+
+/// Numbers the words of a text by a map.
+macro_rules! numbered {
+    ($map:ident, $value:ident, $input:ident, $rounds:ident) => {{
+        let text = $value::copied($input);
+        (0..$rounds).fold(0, |total, _| {
+            let (mut numbers, mut sum, mut start) = ($map::new(), 0u64, 0);
+            for word in $input.split(|byte| *byte == b' ') {
+                let next = numbers.len() as u64;
+                sum = sum.wrapping_add(*numbers.entry(text.part(start..start + word.len())).or_insert(next));
+                start += word.len() + 1;
+            }
+            mix(mix(total, sum), numbers.len() as u64)
+        })
+    }};
+}
+
+pub struct Row {
+    pub name: &'static str,
+    pub input: Input,
+    pub ours: unsafe extern "C" fn(*const u8, usize, u64) -> u64,
+    pub plain: fn(&[u8], u64) -> u64,
+    pub hipstr: Option<fn(&[u8], u64) -> u64>,
+}
+
+/// The lines: the library's function, its input, hipstr's backend, and the work over the byte string `V`.
+macro_rules! lines {
+    ($($symbol:ident $input:ident $backend:ident |$i:ident, $r:ident| $work:expr;)*) => {
+        extern "C" {
+            $(fn $symbol(input: *const u8, len: usize, rounds: u64) -> u64;)*
+        }
+
+        pub fn rows() -> Vec<Row> {
+            vec![$({
+                fn plain($i: &[u8], $r: u64) -> u64 {
+                    type V<'a> = Vec<u8>;
+                    $work
+                }
+                #[cfg(hipstr)]
+                fn hipstr($i: &[u8], $r: u64) -> u64 {
+                    type V<'a> = hipstr::bytes::HipByt<'a, hipstr::$backend>;
+                    $work
+                }
+                Row {
+                    name: stringify!($symbol).trim_start_matches("hip_"),
+                    input: Input::$input,
+                    ours: $symbol,
+                    plain,
+                    #[cfg(hipstr)]
+                    hipstr: Some(hipstr),
+                    #[cfg(not(hipstr))]
+                    hipstr: None,
+                }
+            }),*]
+        }
+    };
+}
+
+lines! {
+    hip_clone_inline Row Rc |i, r| { let v = V::copied(&i[..10]); ring(r, |_| v.clone()) };
+    hip_clone_borrowed Row Rc |i, r| { let v = V::lent(&i[..1024]); ring(r, |_| v.clone()) };
+    hip_clone_alloc Row Rc |i, r| { let v = V::copied(&i[..1024]); ring(r, |_| v.clone()) };
+    hip_slice10 Row Rc |i, r| parts(V::copied(&i[..1024]), 10, 1000, r);
+    hip_slice500 Row Rc |i, r| parts(V::copied(&i[..1024]), 500, 500, r);
+    hip_slice500_borrowed Row Rc |i, r| parts(V::lent(&i[..1024]), 500, 500, r);
+    hip_into_owned10 Row Rc |i, r| owned::<V>(i, 10, r);
+    hip_into_owned1k Row Rc |i, r| owned::<V>(i, 1024, r);
+    hip_set_byte Row Rc |i, r| bytes_set(V::copied(&i[..1024]), r);
+    hip_mutate_append Row Rc |i, r| appends::<V>(i, r);
+    hip_push_byte Row Rc |i, r| bytes_pushed::<V>(i, r);
+    hip_push16 Row Rc |i, r| slices_pushed::<V>(i, 0, r);
+    hip_push16_room Row Rc |i, r| slices_pushed::<V>(i, 4 << 20, r);
+    hip_upper Mebibyte Rc |i, r| moved(V::copied(i), r);
+    hip_upper_shared Mebibyte Rc |i, r| moved_in_clone(V::copied(i), r);
+    hip_clone_inline_unique Row Unique |i, r| { let v = V::copied(&i[..10]); ring(r, |_| v.clone()) };
+    hip_clone_borrowed_unique Row Unique |i, r| { let v = V::lent(&i[..1024]); ring(r, |_| v.clone()) };
+    hip_clone_alloc_unique Row Unique |i, r| { let v = V::copied(&i[..1024]); ring(r, |_| v.clone()) };
+    hip_slice10_unique Row Unique |i, r| parts(V::copied(&i[..1024]), 10, 1000, r);
+    hip_slice500_unique Row Unique |i, r| parts(V::copied(&i[..1024]), 500, 500, r);
+    hip_into_owned1k_unique Row Unique |i, r| owned::<V>(i, 1024, r);
+    hip_set_byte_unique Row Unique |i, r| bytes_set(V::copied(&i[..1024]), r);
+    hip_mutate_append_unique Row Unique |i, r| appends::<V>(i, r);
+    hip_push_byte_unique Row Unique |i, r| bytes_pushed::<V>(i, r);
+    hip_push16_unique Row Unique |i, r| slices_pushed::<V>(i, 0, r);
+    hip_push16_room_unique Row Unique |i, r| slices_pushed::<V>(i, 4 << 20, r);
+    hip_upper_unique Mebibyte Unique |i, r| moved(V::copied(i), r);
+    hip_upper_shared_unique Mebibyte Unique |i, r| moved_in_clone(V::copied(i), r);
+    hip_pop_bytes Page Rc |i, r| popped(V::copied(i), r);
+    hip_truncate16 Page Rc |i, r| truncated(V::copied(i), r);
+    hip_repeat Row Rc |i, r| { let v = V::copied(&i[..16]); made(r, || v.repeat(65536)) };
+    hip_concat_slices Mebibyte Rc |i, r| { let l: Vec<_> = i.chunks(16).collect(); made(r, || <V as Bytes>::concat(&l)) };
+    hip_concat_iter Mebibyte Rc |i, r| { let l: Vec<_> = i.chunks(16).collect(); made(r, || <V as Bytes>::concat_each(&l)) };
+    hip_join_slices Mebibyte Rc |i, r| { let l: Vec<_> = i.chunks(16).collect(); made(r, || <V as Bytes>::join(&l, b", ")) };
+    hip_join_iter Mebibyte Rc |i, r| { let l: Vec<_> = i.chunks(16).collect(); made(r, || <V as Bytes>::join_each(&l, b", ")) };
+    hip_eq10 Row Rc |i, r| compared(i, 10, r, |a: &V, b: &V| (a == b) as u64);
+    hip_cmp10 Row Rc |i, r| compared(i, 10, r, |a: &V, b: &V| match a.cmp(b) { Ordering::Less => 0, Ordering::Equal => 1, Ordering::Greater => 2 });
+    hip_eq1k Row Rc |i, r| compared(i, 1024, r, |a: &V, b: &V| (a == b) as u64);
+    hip_cmp1k Row Rc |i, r| compared(i, 1024, r, |a: &V, b: &V| match a.cmp(b) { Ordering::Less => 0, Ordering::Equal => 1, Ordering::Greater => 2 });
+    hip_intern_hash Words Rc |i, r| numbered!(HashMap, V, i, r);
+    hip_intern_btree Words Rc |i, r| numbered!(BTreeMap, V, i, r);
+}

@@ -1,0 +1,145 @@
+//! Bytes that gather in a vector.
+ghost use Rattle.std.specs.Prelude.{◌≡◌, ◌+◌, ◌<◌, ◌≤◌, ◌++◌, [], length, take, vec_len, vec_capacity, IfOk, OnOk, OnErr};
+ghost use Rattle.hip_raw.specs.Meter.{RisesAtMost};
+
+use crate::meter::{Meter, fill_counted};
+use std::alloc::{AllocError, Global};
+use std::marker::Model;
+
+/// How many bytes of room are made ready at a time.
+const STRIDE: usize = 4096;
+
+/// A vector that is filled from its front. Room is made of zeros, a stretch at a time, so that many small parts cost one copy each
+/// and the zeros are still at hand when they are filled.
+#[derive(Drop)]
+pub struct Filling {
+    vec: Vec<u8>,
+    len: usize,
+}
+
+impl Model for Filling {
+    ghost use Rattle.std.specs.Prelude.{◌≤◌, take, vec_len, vec_capacity};
+    ghost use Rattle.hip_raw.specs.Held.{Held};
+
+    ghost Value = { Held };
+
+    ghost view = { λ f. record { items = take f.len f.vec.items; capacity = vec_capacity f.vec } };
+
+    ghost invariant = { λ f. f.len ≤ vec_len f.vec };
+}
+
+impl Filling {
+    /// No bytes, with room for `capacity`.
+    #[inline]
+    pub fn with_capacity(alloc: Global, capacity: usize) -> Result<Self, AllocError>
+        ensures items { IfOk result (λ made. made.items ≡ []) }
+        ensures capacity { IfOk result (λ made. capacity ≤ made.capacity) }
+    {
+        Ok(Filling {
+            vec: Vec::with_capacity(alloc, capacity)?,
+            len: 0,
+        })
+    }
+
+    /// How many bytes there are.
+    #[inline]
+    pub fn len(&self) -> usize
+        ensures len { result ≡ length self.now.items }
+        ensures fits { length self.now.items ≤ self.now.capacity }
+    {
+        self.len
+    }
+
+    /// Adds bytes, for which there is room.
+    #[inline(always)]
+    pub fn push_slice_within(&mut self, addition: &[u8], meter: &mut Meter)
+        requires { length self.old.items + length addition.now ≤ self.old.capacity }
+        ensures items { self.new.items ≡ self.old.items ++ addition.now }
+        ensures capacity { self.old.capacity ≤ self.new.capacity }
+        ensures counted { RisesAtMost meter.old meter.new (length addition.now) }
+    {
+        let start = self.len;
+        let end = start + addition.len();
+        if self.vec.len() < end {
+            open(&mut self.vec, end);
+        }
+        let room = self.vec.as_mut_slice();
+        fill_counted(&mut room[start..end], addition, meter);
+        self.len = end;
+    }
+
+    /// Adds bytes. A refused call changes nothing.
+    #[inline(always)]
+    pub fn push_slice(&mut self, addition: &[u8], meter: &mut Meter) -> Result<(), AllocError>
+        ensures items { OnOk result (self.new.items ≡ self.old.items ++ addition.now) }
+        ensures capacity { self.old.capacity ≤ self.new.capacity }
+        ensures counted { RisesAtMost meter.old meter.new (length addition.now) }
+        ensures memory { OnErr result (self.old.capacity < length self.old.items + length addition.now) }
+        ensures err { OnErr result (self.new ≡ self.old) }
+        ensures refused_copies_nothing { OnErr result (meter.new ≡ meter.old) }
+    {
+        if self.vec.capacity() - self.len < addition.len() {
+            reserve(&mut self.vec, self.len, addition.len())?;
+        }
+        self.push_slice_within(addition, meter);
+        Ok(())
+    }
+
+    /// Adds the first `count` bytes again, for which there is room.
+    #[inline]
+    pub fn push_front_within(&mut self, count: usize, meter: &mut Meter)
+        requires there { count ≤ length self.old.items }
+        requires fits { length self.old.items + count ≤ self.old.capacity }
+        ensures items { self.new.items ≡ self.old.items ++ take count self.old.items }
+        ensures capacity { self.old.capacity ≤ self.new.capacity }
+        ensures counted { RisesAtMost meter.old meter.new count }
+    {
+        let start = self.len;
+        let end = start + count;
+        if self.vec.len() < end {
+            open(&mut self.vec, end);
+        }
+        let (front, room) = self.vec.as_mut_slice().split_at_mut(start);
+        fill_counted(&mut room[..count], &front[..count], meter);
+        self.len = end;
+    }
+
+    /// The bytes in a vector.
+    #[inline]
+    pub fn into_vec(self) -> Vec<u8>
+        ensures { result.items ≡ self.items }
+    {
+        let Filling { mut vec, len } = self;
+        vec.truncate(len);
+        vec
+    }
+}
+
+// Makes room ready up to `end` and a stretch on, as far as the vector's room goes.
+#[cold]
+#[inline(never)]
+fn open(vec: &mut Vec<u8>, end: usize)
+    requires grows { vec_len vec.old < end }
+    requires fits { end ≤ vec_capacity vec.old }
+    ensures kept { take (vec_len vec.old) vec.new.items ≡ vec.old.items }
+    ensures ready { end ≤ vec_len vec.new }
+    ensures capacity { vec_capacity vec.old ≤ vec_capacity vec.new }
+{
+    let most = end.saturating_add(STRIDE).min(vec.capacity());
+    vec.resize(most, 0).unwrap();
+}
+
+// Takes room for so many bytes behind the first `len`; what stood there is let go.
+#[cold]
+#[inline(never)]
+fn reserve(vec: &mut Vec<u8>, len: usize, additional: usize) -> Result<(), AllocError>
+    requires { len ≤ vec_len vec.old }
+    ensures items { vec.new.items ≡ take len vec.old.items }
+    ensures room { OnOk result (len + additional ≤ vec_capacity vec.new) }
+    ensures capacity { vec_capacity vec.old ≤ vec_capacity vec.new }
+    ensures err { OnErr result (vec_capacity vec.new ≡ vec_capacity vec.old) }
+    ensures memory { OnErr result (vec_capacity vec.old < len + additional) }
+{
+    vec.truncate(len);
+    vec.try_reserve(additional)
+}
