@@ -205,6 +205,10 @@ fn growth(rt: HostRuntime) {
             "copy 0 \"aaaaaaaaaaaaaaaaaaaaaaaaaa\"\nclone 0 1\nset 0 0 98\nset 0 26 98\nupper 1\nlower 1\nupper 1\nshow 0\nshow 1\nkind 0\n",
             "done\ndone\ndone\nrefused OutOfRange\ndone\ndone\ndone\nbytes \"baaaaaaaaaaaaaaaaaaaaaaaaa\"\nbytes \"AAAAAAAAAAAAAAAAAAAAAAAAAA\"\nallocated\n",
         ),
+        (
+            "copy 0 \"aaaaaaaaaaaaaaaaaaaaaaaaaaaaaa\"\nclone 0 1\nslice 0 2 3..30\nset 0 5 98\nshow 0\nshow 1\nshow 2\n",
+            "done\ndone\ndone\ndone\nbytes \"aaaaabaaaaaaaaaaaaaaaaaaaaaaaa\"\nbytes \"aaaaaaaaaaaaaaaaaaaaaaaaaaaaaa\"\nbytes \"aaaaaaaaaaaaaaaaaaaaaaaaaaa\"\n",
+        ),
         // Room for 24 bytes isn't needed by 2.
         (
             "room 0 200\npush 0 \"ab\"\nshrink 0 24\nkind 0\nshrink 0 23\nkind 0\nborrow 1 \"xyz\"\nupper 1\nkind 1\nborrow 2 \"xyz\"\nowned 2\nkind 2\nshow 2\n",
