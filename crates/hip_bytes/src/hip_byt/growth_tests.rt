@@ -60,26 +60,27 @@ fn conversions<B: Backend>(rt: &impl Abort, alloc: Global) -> Result<(), Fail> {
 
 /// A vector is handed out where no other handle shares the owner; else the value comes back.
 fn into_vec_handed_back<B: Backend>(rt: &impl Abort, alloc: Global) -> Result<(), Fail> {
-    let whole = HipByt::<B>::from_slice(alloc, LETTERS)?;
+    let many = [b'a'; 26];
+    let vec = vec![in alloc; b'a'; 26]?;
+    let whole = HipByt::<B>::from_vec(alloc, vec).or(Err("no memory"))?;
     let clone = whole.clone(alloc)?;
     let shared = match clone.into_vec(alloc) {
         Ok(vec) => {
-            assert_eq!(rt; vec.as_slice(), LETTERS);
+            assert_eq!(rt; vec.as_slice(), many.as_slice());
             false
         }
         Err(back) => {
-            assert_eq!(rt; back.as_slice(), LETTERS);
+            assert_eq!(rt; back.as_slice(), many.as_slice());
             true
         }
     };
     assert_eq!(rt; shared, B::SHARES);
     let vec = whole.into_vec(alloc).or(Err("the only handle"))?;
-    assert_eq!(rt; vec.as_slice(), LETTERS);
-    let back = HipByt::<B>::inline(b"abc")
-        .into_vec(alloc)
-        .err()
-        .ok_or("no owner")?;
-    assert!(rt; back.eq_slice(b"abc") && back.is_inline());
+    assert_eq!(rt; vec.as_slice(), many.as_slice());
+    let three = vec![in alloc; b'a'; 3]?;
+    let short = HipByt::<B>::from_vec(alloc, three).or(Err("no memory"))?;
+    let back = short.into_vec(alloc).err().ok_or("no owner")?;
+    assert!(rt; back.eq_slice(b"aaa") && back.is_inline());
     let back = HipByt::<B>::borrowed(LETTERS)
         .into_vec(alloc)
         .err()
@@ -165,6 +166,8 @@ fn lends_a_vector<B: Backend>(rt: &impl Abort, alloc: Global) -> Result<(), Fail
     let mut handle = HipByt::<B>::from_slice(alloc, b"Hello, World!")?;
     assert_eq!(rt; adds(&mut handle, alloc, b'!')?, 14);
     assert!(rt; handle.eq_slice(b"Hello, World!!") && handle.is_inline());
+    lets_go(&mut handle, alloc)?;
+    assert!(rt; handle.is_empty() && handle.is_inline());
     let many = [b'a'; 42];
     let mut handle = HipByt::<B>::from_slice(alloc, &many)?;
     let clone = handle.clone(alloc)?;
