@@ -1,6 +1,5 @@
 //! The workloads, as `crates/hip_bench` has them, over any byte string.
 use crate::plain::Bytes;
-use std::cmp::Ordering;
 use std::collections::{BTreeMap, HashMap};
 
 const MEBIBYTE: u64 = 1 << 20;
@@ -190,15 +189,15 @@ pub struct Row {
     pub hipstr: Option<fn(&[u8], u64) -> u64>,
 }
 
-/// The lines: the library's function, its input, hipstr's backend, and the work over the byte string `V`.
+/// The lines: an input and the work over the byte string `V`, and for each backend of hipstr the library's function.
 macro_rules! lines {
-    ($($symbol:ident $input:ident $backend:ident |$i:ident, $r:ident| $work:expr;)*) => {
+    ($($input:ident |$i:ident, $r:ident| $work:expr => $($symbol:ident $backend:ident),+;)*) => {
         extern "C" {
-            $(fn $symbol(input: *const u8, len: usize, rounds: u64) -> u64;)*
+            $($(fn $symbol(input: *const u8, len: usize, rounds: u64) -> u64;)+)*
         }
 
         pub fn rows() -> Vec<Row> {
-            vec![$({
+            vec![$($({
                 fn plain($i: &[u8], $r: u64) -> u64 {
                     type V<'a> = Vec<u8>;
                     $work
@@ -218,51 +217,38 @@ macro_rules! lines {
                     #[cfg(not(hipstr))]
                     hipstr: None,
                 }
-            }),*]
+            },)+)*]
         }
     };
 }
 
 lines! {
-    hip_clone_inline Row Rc |i, r| { let v = V::copied(&i[..10]); ring(r, |_| v.clone()) };
-    hip_clone_borrowed Row Rc |i, r| { let v = V::lent(&i[..1024]); ring(r, |_| v.clone()) };
-    hip_clone_alloc Row Rc |i, r| { let v = V::copied(&i[..1024]); ring(r, |_| v.clone()) };
-    hip_slice10 Row Rc |i, r| parts(V::copied(&i[..1024]), 10, 1000, r);
-    hip_slice500 Row Rc |i, r| parts(V::copied(&i[..1024]), 500, 500, r);
-    hip_slice500_borrowed Row Rc |i, r| parts(V::lent(&i[..1024]), 500, 500, r);
-    hip_into_owned10 Row Rc |i, r| owned::<V>(i, 10, r);
-    hip_into_owned1k Row Rc |i, r| owned::<V>(i, 1024, r);
-    hip_set_byte Row Rc |i, r| bytes_set(V::copied(&i[..1024]), r);
-    hip_mutate_append Row Rc |i, r| appends::<V>(i, r);
-    hip_push_byte Row Rc |i, r| bytes_pushed::<V>(i, r);
-    hip_push16 Row Rc |i, r| slices_pushed::<V>(i, 0, r);
-    hip_push16_room Row Rc |i, r| slices_pushed::<V>(i, 4 << 20, r);
-    hip_upper Mebibyte Rc |i, r| moved(V::copied(i), r);
-    hip_upper_shared Mebibyte Rc |i, r| moved_in_clone(V::copied(i), r);
-    hip_clone_inline_unique Row Unique |i, r| { let v = V::copied(&i[..10]); ring(r, |_| v.clone()) };
-    hip_clone_borrowed_unique Row Unique |i, r| { let v = V::lent(&i[..1024]); ring(r, |_| v.clone()) };
-    hip_clone_alloc_unique Row Unique |i, r| { let v = V::copied(&i[..1024]); ring(r, |_| v.clone()) };
-    hip_slice10_unique Row Unique |i, r| parts(V::copied(&i[..1024]), 10, 1000, r);
-    hip_slice500_unique Row Unique |i, r| parts(V::copied(&i[..1024]), 500, 500, r);
-    hip_into_owned1k_unique Row Unique |i, r| owned::<V>(i, 1024, r);
-    hip_set_byte_unique Row Unique |i, r| bytes_set(V::copied(&i[..1024]), r);
-    hip_mutate_append_unique Row Unique |i, r| appends::<V>(i, r);
-    hip_push_byte_unique Row Unique |i, r| bytes_pushed::<V>(i, r);
-    hip_push16_unique Row Unique |i, r| slices_pushed::<V>(i, 0, r);
-    hip_push16_room_unique Row Unique |i, r| slices_pushed::<V>(i, 4 << 20, r);
-    hip_upper_unique Mebibyte Unique |i, r| moved(V::copied(i), r);
-    hip_upper_shared_unique Mebibyte Unique |i, r| moved_in_clone(V::copied(i), r);
-    hip_pop_bytes Page Rc |i, r| popped(V::copied(i), r);
-    hip_truncate16 Page Rc |i, r| truncated(V::copied(i), r);
-    hip_repeat Row Rc |i, r| { let v = V::copied(&i[..16]); made(r, || v.repeat(65536)) };
-    hip_concat_slices Mebibyte Rc |i, r| { let l: Vec<_> = i.chunks(16).collect(); made(r, || <V as Bytes>::concat(&l)) };
-    hip_concat_iter Mebibyte Rc |i, r| { let l: Vec<_> = i.chunks(16).collect(); made(r, || <V as Bytes>::concat_each(&l)) };
-    hip_join_slices Mebibyte Rc |i, r| { let l: Vec<_> = i.chunks(16).collect(); made(r, || <V as Bytes>::join(&l, b", ")) };
-    hip_join_iter Mebibyte Rc |i, r| { let l: Vec<_> = i.chunks(16).collect(); made(r, || <V as Bytes>::join_each(&l, b", ")) };
-    hip_eq10 Row Rc |i, r| compared(i, 10, r, |a: &V, b: &V| (a == b) as u64);
-    hip_cmp10 Row Rc |i, r| compared(i, 10, r, |a: &V, b: &V| match a.cmp(b) { Ordering::Less => 0, Ordering::Equal => 1, Ordering::Greater => 2 });
-    hip_eq1k Row Rc |i, r| compared(i, 1024, r, |a: &V, b: &V| (a == b) as u64);
-    hip_cmp1k Row Rc |i, r| compared(i, 1024, r, |a: &V, b: &V| match a.cmp(b) { Ordering::Less => 0, Ordering::Equal => 1, Ordering::Greater => 2 });
-    hip_intern_hash Words Rc |i, r| numbered!(HashMap, V, i, r);
-    hip_intern_btree Words Rc |i, r| numbered!(BTreeMap, V, i, r);
+    Row |i, r| { let v = V::copied(&i[..10]); ring(r, |_| v.clone()) } => hip_clone_inline Rc, hip_clone_inline_unique Unique;
+    Row |i, r| { let v = V::lent(&i[..1024]); ring(r, |_| v.clone()) } => hip_clone_borrowed Rc, hip_clone_borrowed_unique Unique;
+    Row |i, r| { let v = V::copied(&i[..1024]); ring(r, |_| v.clone()) } => hip_clone_alloc Rc, hip_clone_alloc_unique Unique;
+    Row |i, r| parts(V::copied(&i[..1024]), 10, 1000, r) => hip_slice10 Rc, hip_slice10_unique Unique;
+    Row |i, r| parts(V::copied(&i[..1024]), 500, 500, r) => hip_slice500 Rc, hip_slice500_unique Unique;
+    Row |i, r| parts(V::lent(&i[..1024]), 500, 500, r) => hip_slice500_borrowed Rc;
+    Row |i, r| owned::<V>(i, 10, r) => hip_into_owned10 Rc;
+    Row |i, r| owned::<V>(i, 1024, r) => hip_into_owned1k Rc, hip_into_owned1k_unique Unique;
+    Row |i, r| bytes_set(V::copied(&i[..1024]), r) => hip_set_byte Rc, hip_set_byte_unique Unique;
+    Row |i, r| appends::<V>(i, r) => hip_mutate_append Rc, hip_mutate_append_unique Unique;
+    Row |i, r| bytes_pushed::<V>(i, r) => hip_push_byte Rc, hip_push_byte_unique Unique;
+    Row |i, r| slices_pushed::<V>(i, 0, r) => hip_push16 Rc, hip_push16_unique Unique;
+    Row |i, r| slices_pushed::<V>(i, 4 << 20, r) => hip_push16_room Rc, hip_push16_room_unique Unique;
+    Mebibyte |i, r| moved(V::copied(i), r) => hip_upper Rc, hip_upper_unique Unique;
+    Mebibyte |i, r| moved_in_clone(V::copied(i), r) => hip_upper_shared Rc, hip_upper_shared_unique Unique;
+    Page |i, r| popped(V::copied(i), r) => hip_pop_bytes Rc;
+    Page |i, r| truncated(V::copied(i), r) => hip_truncate16 Rc;
+    Row |i, r| { let v = V::copied(&i[..16]); made(r, || v.repeat(65536)) } => hip_repeat Rc;
+    Mebibyte |i, r| { let l: Vec<_> = i.chunks(16).collect(); made(r, || <V as Bytes>::concat(&l)) } => hip_concat_slices Rc;
+    Mebibyte |i, r| { let l: Vec<_> = i.chunks(16).collect(); made(r, || <V as Bytes>::concat_each(&l)) } => hip_concat_iter Rc;
+    Mebibyte |i, r| { let l: Vec<_> = i.chunks(16).collect(); made(r, || <V as Bytes>::join(&l, b", ")) } => hip_join_slices Rc;
+    Mebibyte |i, r| { let l: Vec<_> = i.chunks(16).collect(); made(r, || <V as Bytes>::join_each(&l, b", ")) } => hip_join_iter Rc;
+    Row |i, r| compared(i, 10, r, |a: &V, b: &V| (a == b) as u64) => hip_eq10 Rc;
+    Row |i, r| compared(i, 10, r, |a: &V, b: &V| (a.cmp(b) as i8 + 1) as u64) => hip_cmp10 Rc;
+    Row |i, r| compared(i, 1024, r, |a: &V, b: &V| (a == b) as u64) => hip_eq1k Rc;
+    Row |i, r| compared(i, 1024, r, |a: &V, b: &V| (a.cmp(b) as i8 + 1) as u64) => hip_cmp1k Rc;
+    Words |i, r| numbered!(HashMap, V, i, r) => hip_intern_hash Rc;
+    Words |i, r| numbered!(BTreeMap, V, i, r) => hip_intern_btree Rc;
 }
