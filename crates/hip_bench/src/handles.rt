@@ -121,34 +121,21 @@ fn addition_of(input: &[u8], round: u64) -> Option<&[u8]> {
     input.get(start..start + 16)
 }
 
-/// Each round adds bytes through the vector that is lent.
-fn appends_on_rc(alloc: Global, input: &[u8], rounds: u64) -> Option<u64> {
-    let mut value = copied::<Rc>(alloc, input, LONG)?;
-    for round in 0..rounds {
-        let addition = addition_of(input, round)?;
-        let Ok(mut guard) = value.mutate(alloc) else {
-            return None;
-        };
-        let added = extend(guard.as_mut_vec(), addition);
-        if guard.finish(alloc).is_err() || !added {
-            return None;
-        }
-    }
-    Some(look(0, value.as_slice()))
+/// Adds bytes through the vector that is lent.
+#[inline(always)]
+fn append<B: Backend>(value: &mut HipByt<B>, alloc: Global, addition: &[u8]) -> Option<()> {
+    let mut guard = value.mutate(alloc).ok()?;
+    let added = extend(guard.as_mut_vec(), addition);
+    guard.finish(alloc).ok()?;
+    if added { Some(()) } else { None }
 }
 
-/// The same for owners that no other handle shares: a guard is finished where the backend is known.
-fn appends_on_unique(alloc: Global, input: &[u8], rounds: u64) -> Option<u64> {
-    let mut value = copied::<Unique>(alloc, input, LONG)?;
+/// Each round adds bytes so.
+#[inline(always)]
+fn appends<B: Backend>(alloc: Global, input: &[u8], rounds: u64) -> Option<u64> {
+    let mut value = copied::<B>(alloc, input, LONG)?;
     for round in 0..rounds {
-        let addition = addition_of(input, round)?;
-        let Ok(mut guard) = value.mutate(alloc) else {
-            return None;
-        };
-        let added = extend(guard.as_mut_vec(), addition);
-        if guard.finish(alloc).is_err() || !added {
-            return None;
-        }
+        append(&mut value, alloc, addition_of(input, round)?)?;
     }
     Some(look(0, value.as_slice()))
 }
@@ -249,10 +236,10 @@ pub extern "C" fn hip_set_byte_unique(alloc: Global, input: &[u8], rounds: u64) 
 
 #[unsafe(no_mangle)]
 pub extern "C" fn hip_mutate_append(alloc: Global, input: &[u8], rounds: u64) -> u64 {
-    appends_on_rc(alloc, input, rounds).unwrap_or(0)
+    appends::<Rc>(alloc, input, rounds).unwrap_or(0)
 }
 
 #[unsafe(no_mangle)]
 pub extern "C" fn hip_mutate_append_unique(alloc: Global, input: &[u8], rounds: u64) -> u64 {
-    appends_on_unique(alloc, input, rounds).unwrap_or(0)
+    appends::<Unique>(alloc, input, rounds).unwrap_or(0)
 }

@@ -1,18 +1,14 @@
 -- Lemmas on joins, for the loops that make one.
-use Rattle.std.proofs.Common.{◌≡◌, ◌∙◌, ℕ, Bool, true, false, ◌&&◌, nat_le, if◌then◌else◌, zero, suc, ◌+◌, ◌<◌, ◌≤◌, List, [], ◌∷◌, ◌++◌, length, take, drop, get_or, refl, sym, ap, append_assoc, append-nil, length-append, map, arith}
-use Rattle.std.proofs.lemmas.Bool.{le-leb, leb-true}
+use Rattle.std.proofs.Common.{◌≡◌, ◌∙◌, ℕ, Bool, true, false, ◌&&◌, nat_le, if◌then◌else◌, zero, suc, ◌+◌, ◌-◌, ◌*◌, ◌<◌, ◌≤◌, List, [], ◌∷◌, ◌++◌, length, take, drop, get_or, refl, sym, ap, append_assoc, append-nil, length-append, map, arith}
+use Rattle.std.proofs.Math.Nat.{suc-mul}
+use Rattle.std.proofs.lemmas.Bool.{le-leb, leb-true, leb-false}
 use Rattle.std.proofs.lemmas.Grind.{flat_map-append}
-use Rattle.std.proofs.lemmas.List.{take_more, take-append-drop}
+use Rattle.std.proofs.lemmas.List.{take_more, take-append-drop, length-take-le}
 use Rattle.std.specs.Borrow.{Bor}
 use Rattle.std.specs.List.{flat_map, join_by}
 use Rattle.hip_bytes.specs.Gathering.{spill_cost}
 use Rattle.hip_bytes.specs.Join.{joined, gap_at}
 use Rattle.hip_bytes.specs.declared.kind.TheConstants.{INLINE_CAPACITY}
-
--- what stands before the next piece
-abbrev pub gap_before : {A : Type 0} → List A → List ℕ → List ℕ
-gap_before [] sep = []
-gap_before (x ∷ xs) sep = sep
 
 -- what a list of slices has past its end
 abbrev pub nowhere : Bor (List ℕ)
@@ -27,22 +23,16 @@ next f sep x = sep ++ f x
 
 -- one piece more, at the end
 pub joined-snoc : {A : Type 0} (f : A → List ℕ) (sep : List ℕ) (xs : List A) (y : A)
-    → join_by f sep (xs ++ y ∷ []) ≡ (join_by f sep xs ++ gap_before xs sep) ++ f y
+    → join_by f sep (xs ++ y ∷ []) ≡ (join_by f sep xs ++ gap_at (length xs) sep) ++ f y
 joined-snoc f sep [] y = append-nil (f y)
 joined-snoc f sep (x ∷ xs) y = ap (λ zs. f x ++ zs) (flat_map-append (next f sep) xs (y ∷ [])) ∙ simp (append_assoc, append-nil)
-
--- what stands before the next piece depends on its position alone
-gap_before-take : {A : Type 0} (sep : List ℕ) (xs : List A) (i : ℕ) → i < length xs → gap_before (take i xs) sep ≡ gap_at i sep
-gap_before-take sep xs zero within = refl
-gap_before-take sep [] (suc i) within = absurd (omega arith)
-gap_before-take sep (x ∷ xs) (suc i) within = refl
 
 -- the pieces before a position, and the one there
 pub joined-take_more : {A : Type 0} (f : A → List ℕ) (sep : List ℕ) (xs : List A) (i : ℕ) (d : A) → i < length xs
     → join_by f sep (take (i + 1) xs) ≡ (join_by f sep (take i xs) ++ gap_at i sep) ++ f (get_or xs i d)
 joined-take_more f sep xs i d within =
     ap (join_by f sep) (take_more xs i d within) ∙ joined-snoc f sep (take i xs) (get_or xs i d)
-    ∙ ap (λ gap. (join_by f sep (take i xs) ++ gap) ++ f (get_or xs i d)) (gap_before-take sep xs i within)
+    ∙ ap (λ gap. (join_by f sep (take i xs) ++ gap) ++ f (get_or xs i d)) (ap (λ k. gap_at k sep) (length-take-le i xs (omega arith)))
 
 -- and how long that is
 pub length-joined-take_more : {A : Type 0} (f : A → List ℕ) (sep : List ℕ) (xs : List A) (i : ℕ) (d : A) → i < length xs
@@ -63,13 +53,6 @@ length-joined-take f sep (x ∷ xs) (suc i) =
     let back = flat_map (next f sep) (drop i xs) in
     let whole : front ++ back ≡ flat_map (next f sep) xs = sym (flat_map-append (next f sep) (take i xs) (drop i xs)) ∙ ap (flat_map (next f sep)) (take-append-drop i xs) in
     omega (arith, length-append (f x) front, length-append (f x) (flat_map (next f sep) xs), length-append front back, ap length whole)
-
--- a join's length goes on by the gap and the piece
-pub length-next : {A : Type 0} (f : A → List ℕ) (sep : List ℕ) (xs : List A) (i : ℕ) (d : A) (len mid total : ℕ) (gap : List ℕ)
-    → i < length xs → len ≡ length (join_by f sep (take i xs)) → gap ≡ gap_at i sep → mid ≡ len + length gap → total ≡ mid + length (f (get_or xs i d))
-    → total ≡ length (join_by f sep (take (i + 1) xs))
-length-next f sep xs i d len mid total gap within so_far is_gap to_mid to_total =
-    omega (arith, length-joined-take_more f sep xs i d within, ap length is_gap)
 
 -- a join that goes on is no longer than the whole
 pub gap_fits : {A : Type 0} (f : A → List ℕ) (sep : List ℕ) (xs : List A) (i : ℕ) (d : A) (len : ℕ) (gap : List ℕ)
@@ -101,24 +84,46 @@ joined-next sep xs i d made mid all gap within so_far is_gap to_mid to_all =
 
 -- how long a join with one slice more is
 pub length-joined-snoc : (sep : List ℕ) (xs : List (Bor (List ℕ))) (y : Bor (List ℕ)) (made gap : List ℕ)
-    → made ≡ joined sep xs → gap ≡ gap_before xs sep → length (joined sep (xs ++ y ∷ [])) ≡ length made + length gap + length y.now
+    → made ≡ joined sep xs → gap ≡ gap_at (length xs) sep → length (joined sep (xs ++ y ∷ [])) ≡ length made + length gap + length y.now
 length-joined-snoc sep xs y made gap is_made is_gap =
     ap length (joined-snoc bytes_of sep xs y)
-    ∙ length-append (joined sep xs ++ gap_before xs sep) y.now
-    ∙ ap (λ n. n + length y.now) (length-append (joined sep xs) (gap_before xs sep))
-    ∙ ap (λ zs. length zs + length (gap_before xs sep) + length y.now) (sym is_made)
+    ∙ length-append (joined sep xs ++ gap_at (length xs) sep) y.now
+    ∙ ap (λ n. n + length y.now) (length-append (joined sep xs) (gap_at (length xs) sep))
+    ∙ ap (λ zs. length zs + length (gap_at (length xs) sep) + length y.now) (sym is_made)
     ∙ ap (λ zs. length made + length zs + length y.now) (sym is_gap)
+
+-- how long the pieces are, each with the separator before it
+length-flat_map-next : {A : Type 0} (f : A → List ℕ) (sep : List ℕ) (xs : List A)
+    → length (flat_map (next f sep) xs) ≡ length xs * length sep + length (flat_map f xs)
+length-flat_map-next f sep [] = omega arith
+length-flat_map-next f sep (x ∷ xs) =
+    omega (arith, length-flat_map-next f sep xs, suc-mul (length xs) (length sep), length-append (sep ++ f x) (flat_map (next f sep) xs), length-append sep (f x), length-append (f x) (flat_map f xs))
+
+-- a join is as long as its gaps and its pieces
+pub length-joined : {A : Type 0} (f : A → List ℕ) (sep : List ℕ) (xs : List A)
+    → length (join_by f sep xs) ≡ (length xs - 1) * length sep + length (flat_map f xs)
+length-joined f sep [] = omega arith
+length-joined f sep (x ∷ xs) =
+    let others : length (x ∷ xs) - 1 ≡ length xs = omega arith in
+    omega (arith, ap (λ n. n * length sep) others, length-flat_map-next f sep xs, length-append (f x) (flat_map (next f sep) xs), length-append (f x) (flat_map f xs))
+
+-- and so long is a front of the pieces with one more
+pub length-front : {A : Type 0} (f : A → List ℕ) (xs : List A) (i : ℕ) (d : A) → i < length xs
+    → length (flat_map f (take (i + 1) xs)) ≡ length (flat_map f (take i xs)) + length (f (get_or xs i d))
+length-front f xs i d within =
+    ap (λ ys. length (flat_map f ys)) (take_more xs i d within) ∙ ap length (flat_map-append f (take i xs) (get_or xs i d ∷ []))
+    ∙ omega (arith, length-append (flat_map f (take i xs)) (flat_map f (get_or xs i d ∷ [])), length-append (f (get_or xs i d)) [])
 
 -- a join goes on by the gap and the slice
 pub joined-more : (sep : List ℕ) (xs : List (Bor (List ℕ))) (y : Bor (List ℕ)) (made gap : List ℕ)
-    → made ≡ joined sep xs → gap ≡ gap_before xs sep → (made ++ gap) ++ y.now ≡ joined sep (xs ++ y ∷ [])
+    → made ≡ joined sep xs → gap ≡ gap_at (length xs) sep → (made ++ gap) ++ y.now ≡ joined sep (xs ++ y ∷ [])
 joined-more sep xs y made gap is_made is_gap =
     ap (λ zs. (zs ++ gap) ++ y.now) is_made ∙ ap (λ zs. (joined sep xs ++ zs) ++ y.now) is_gap ∙ sym (joined-snoc bytes_of sep xs y)
 
 -- there is a gap behind a slice
-pub gap_before-snoc : (sep : List ℕ) (xs : List (Bor (List ℕ))) (y : Bor (List ℕ)) → sep ≡ gap_before (xs ++ y ∷ []) sep
-gap_before-snoc sep [] y = refl
-gap_before-snoc sep (x ∷ xs) y = refl
+pub gap-snoc : (sep : List ℕ) (xs : List (Bor (List ℕ))) (y : Bor (List ℕ)) → sep ≡ gap_at (length (xs ++ y ∷ [])) sep
+gap-snoc sep [] y = refl
+gap-snoc sep (x ∷ xs) y = refl
 
 and_false : (b : Bool) → (b && false) ≡ false
 and_false true = refl
@@ -138,3 +143,8 @@ spilled_once true true fits is = omega arith
 spilled_once true false fits is = omega arith
 spilled_once false true fits is = absurd (cc)
 spilled_once false false fits is = omega arith
+
+-- what was refused for memory is longer than a handle
+pub refused_long : (in_handle : Bool) (len more : ℕ) → in_handle ≡ nat_le len INLINE_CAPACITY → (in_handle ≡ true → INLINE_CAPACITY < more) → len ≤ more → INLINE_CAPACITY < more
+refused_long true len more place short grown = short refl
+refused_long false len more place short grown = omega (arith, leb-false len INLINE_CAPACITY (sym place), grown)

@@ -1,5 +1,5 @@
 -- Lemmas on repetitions, for the loop that makes one.
-use Rattle.std.proofs.Common.{◌≡◌, ◌∙◌, ℕ, zero, suc, ◌+◌, ◌*◌, ◌-◌, ◌≤◌, List, [], ◌∷◌, ◌++◌, length, take, refl, sym, ap, append_assoc, append-nil, length-append, arith}
+use Rattle.std.proofs.Common.{◌≡◌, ◌∙◌, ℕ, zero, suc, ◌+◌, ◌*◌, ◌-◌, ◌≤◌, List, [], ◌∷◌, ◌++◌, length, take, refl, sym, ap, append_assoc, length-append, arith}
 use Rattle.std.proofs.Math.Nat.{add-mul, suc-mul, mul-le-mul_right}
 use Rattle.std.proofs.Math.Seq.{take-append_seam}
 use Rattle.std.specs.List.{repeat}
@@ -22,10 +22,6 @@ take-repeat m n xs within =
     let whole : n ≡ m + (n - m) = omega arith in
     ap (λ k. take (m * length xs) (repeat k xs)) whole ∙ ap (take (m * length xs)) (sym (repeat-append m (n - m) xs))
     ∙ ap (λ k. take k (repeat m xs ++ repeat (n - m) xs)) (sym (length-repeat m xs)) ∙ take-append_seam (repeat m xs) (repeat (n - m) xs)
-
--- one time
-pub repeat-once : (xs : List ℕ) → xs ≡ repeat 1 xs
-repeat-once xs = sym (append-nil xs)
 
 -- where times are left, there is room for some of them
 pub times_fit : (done more n len : ℕ) → done + more ≤ n → done * len + more * len ≤ n * len

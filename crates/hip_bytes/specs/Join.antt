@@ -1,12 +1,12 @@
 -- Lists made of others (Rust's `[u8]::repeat`, `[[u8]]::concat` and `[[u8]]::join`).
-use Rattle.std.specs.Prelude.{◌≡◌, ℕ, zero, suc, ◌+◌, ◌*◌, ◌<◌, Bool, List, [], ◌∷◌, if◌then◌else◌, ◌||◌, ◌==◌, MatchBool, codes, refl}
+use Rattle.std.specs.Prelude.{◌≡◌, ℕ, zero, suc, ◌+◌, ◌*◌, ◌<◌, Bool, true, List, [], ◌∷◌, if◌then◌else◌, ◌||◌, ◌==◌, MatchBool, codes, refl}
 use Rattle.std.specs.List.{join_by}
 use Rattle.std.specs.Borrow.{Bor}
 use Rattle.hip_raw.specs.Meter.{times_copied}
 use Rattle.hip_bytes.specs.Cost.{clone_cost}
 use Rattle.hip_bytes.specs.Kinds.{by_length}
 use Rattle.hip_bytes.specs.declared.kind.Kind.{Kind}
-use Rattle.hip_bytes.specs.declared.kind.Kind.TheVariants.{Allocated}
+use Rattle.hip_bytes.specs.declared.kind.Kind.TheVariants.{Inline, Borrowed, Allocated}
 use Rattle.hip_bytes.specs.declared.kind.TheConstants.{INLINE_CAPACITY}
 
 -- the slices one behind another, with the separator between each two
@@ -40,3 +40,10 @@ RepeatNeedsMemory kind len n = MatchBool (is_plain len n) (kind ≡ Allocated) (
 -- the words of a join, over slices of any address
 pub three_joined : (a b c : Bor (List ℕ)) → a.now ≡ codes "ab" → b.now ≡ [] → c.now ≡ codes "c" → joined (codes "-") (a ∷ b ∷ c ∷ []) ≡ codes "ab--c"
 three_joined a b c e f g = rw (e, f, g) refl
+
+-- lent bytes once stay lent; two bytes twelve times are one more than the handle holds in itself
+pub once : repeated_kind Borrowed 3 1 ≡ Borrowed
+once = refl
+
+pub twelve_times : (repeated_kind Inline 2 12 ≡ Allocated) × (repeat_cost true Inline 2 12 ≡ 47)
+twelve_times = (refl, refl)

@@ -1,5 +1,5 @@
 //! A list of bytes that is being made of others.
-ghost use Rattle.std.specs.Prelude.{◌≡◌, ◌≤◌, ◌<◌, ◌+◌, ◌^◌, ◌&&◌, true, [], ◌++◌, nat_le, length, take, IfOk, OnOk, OnErr};
+ghost use Rattle.std.specs.Prelude.{◌≡◌, ◌≤◌, ◌<◌, ◌+◌, ◌^◌, ◌&&◌, true, false, [], ◌++◌, nat_le, length, take, IfOk, OnOk, OnErr};
 ghost use Rattle.hip_raw.specs.Meter.{RisesAtMost, unless_shared};
 ghost use Rattle.hip_bytes.specs.Kinds.{by_length, HasCapacity};
 ghost use Rattle.hip_bytes.specs.Gathering.{spill_cost};
@@ -50,6 +50,28 @@ impl Gathering {
         }
     }
 
+    /// Bytes that fit the handle itself.
+    #[inline]
+    pub(crate) fn in_handle(inline: Inline<INLINE_CAPACITY>) -> Self
+        ensures items { result.items ≡ inline }
+        ensures place { result.in_handle ≡ true }
+    {
+        Gathering {
+            place: Place::Handle(inline),
+        }
+    }
+
+    /// Bytes in a vector.
+    #[inline]
+    pub(crate) fn in_vector(filling: Filling) -> Self
+        ensures items { result.items ≡ filling.items }
+        ensures place { result.in_handle ≡ false }
+    {
+        Gathering {
+            place: Place::Vector(filling),
+        }
+    }
+
     /// No bytes, with room for so many.
     #[inline]
     pub(crate) fn with_room(alloc: Global, len: usize) -> Result<Self, AllocError>
@@ -66,45 +88,6 @@ impl Gathering {
         })
     }
 
-    /// Adds bytes at the end.
-    #[inline(always)]
-    pub(crate) fn add(
-        &mut self,
-        alloc: Global,
-        bytes: &[u8],
-        meter: &mut Meter,
-    ) -> Result<(), GrowFault>
-        ensures items { OnOk result (self.new.items ≡ self.old.items ++ bytes.now) }
-        ensures room { OnOk result (self.old.room ≤ self.new.room) }
-        ensures place { OnOk result (self.new.in_handle ≡ (self.old.in_handle && nat_le (length self.old.items + length bytes.now) INLINE_CAPACITY)) }
-        ensures too_long { result ≡ Err GrowFault.TooLong → 2 ^ 64 ≤ length self.old.items + length bytes.now }
-        ensures memory { result ≡ Err GrowFault.Memory → self.old.room < length self.old.items + length bytes.now }
-        ensures counted { OnOk result (RisesAtMost meter.old meter.new (length bytes.now + spill_cost self.old.in_handle self.new.in_handle)) }
-        ensures refused { OnErr result (RisesAtMost meter.old meter.new INLINE_CAPACITY) }
-    {
-        match &mut self.place {
-            Place::Handle(inline) if bytes.len() <= INLINE_CAPACITY - inline.len() => {
-                inline.push_slice_unchecked_metered(bytes, meter);
-            }
-            Place::Handle(inline) => {
-                let Some(len) = inline.len().checked_add(bytes.len()) else {
-                    return Err(GrowFault::TooLong);
-                };
-                let mut filling = Filling::with_capacity(alloc, len)?;
-                filling.push_slice_within(inline.as_slice(), meter);
-                filling.push_slice_within(bytes, meter);
-                self.place = Place::Vector(filling);
-            }
-            Place::Vector(filling) => {
-                if filling.len().checked_add(bytes.len()).is_none() {
-                    return Err(GrowFault::TooLong);
-                }
-                filling.push_slice(bytes, meter)?;
-            }
-        }
-        Ok(())
-    }
-
     /// Adds bytes at the end, and what stands before them.
     #[inline(always)]
     pub(crate) fn add_behind(
@@ -117,19 +100,33 @@ impl Gathering {
         ensures items { OnOk result (self.new.items ≡ (self.old.items ++ gap.now) ++ bytes.now) }
         ensures place { OnOk result (self.new.in_handle ≡ (self.old.in_handle && nat_le (length self.new.items) INLINE_CAPACITY)) }
         ensures too_long { result ≡ Err GrowFault.TooLong → 2 ^ 64 ≤ length self.old.items + length gap.now + length bytes.now }
+        ensures memory { result ≡ Err GrowFault.Memory → self.old.in_handle ≡ true → INLINE_CAPACITY < length self.old.items + length gap.now + length bytes.now }
         ensures counted { OnOk result (RisesAtMost meter.old meter.new (length gap.now + length bytes.now + spill_cost self.old.in_handle self.new.in_handle)) }
+        ensures refused_copies_nothing { OnErr result (meter.new ≡ meter.old) }
     {
-        if gap.is_empty() {
-            return self.add(alloc, bytes, meter);
+        let Some(more) = gap.len().checked_add(bytes.len()) else {
+            return Err(GrowFault::TooLong);
+        };
+        match &mut self.place {
+            Place::Handle(inline) if more <= INLINE_CAPACITY - inline.len() => {
+                inline.push_slice_unchecked_metered(gap, meter);
+                inline.push_slice_unchecked_metered(bytes, meter);
+            }
+            Place::Handle(inline) => {
+                self.place = Place::Vector(spilled(alloc, inline, gap, bytes, meter)?);
+            }
+            Place::Vector(filling) => {
+                if filling.len().checked_add(more).is_none() {
+                    return Err(GrowFault::TooLong);
+                }
+                filling.push_behind(gap, bytes, meter)?;
+            }
         }
-        match self.add(alloc, gap, meter) {
-            Ok(()) => self.add(alloc, bytes, meter),
-            Err(fault) => Err(fault),
-        }
+        Ok(())
     }
 
     /// Adds bytes at the end, for which there is room.
-    #[inline(always)]
+    #[inline]
     pub(crate) fn add_within(&mut self, bytes: &[u8], meter: &mut Meter)
         requires { length self.old.items + length bytes.now ≤ self.old.room }
         ensures items { self.new.items ≡ self.old.items ++ bytes.now }
@@ -185,4 +182,29 @@ impl Gathering {
             },
         }
     }
+}
+
+// The bytes of a handle, what stands before the next, and those, in a vector.
+#[inline(always)]
+fn spilled(
+    alloc: Global,
+    inline: &Inline<INLINE_CAPACITY>,
+    gap: &[u8],
+    bytes: &[u8],
+    meter: &mut Meter,
+) -> Result<Filling, GrowFault>
+    requires { length gap.now + length bytes.now < 2 ^ 64 }
+    ensures items { IfOk result (λ filling. filling.items ≡ (inline.now ++ gap.now) ++ bytes.now) }
+    ensures too_long { result ≡ Err GrowFault.TooLong → 2 ^ 64 ≤ length inline.now + length gap.now + length bytes.now }
+    ensures counted { OnOk result (RisesAtMost meter.old meter.new (length inline.now + length gap.now + length bytes.now)) }
+    ensures refused_copies_nothing { OnErr result (meter.new ≡ meter.old) }
+{
+    let more = gap.len() + bytes.len();
+    let Some(len) = inline.len().checked_add(more) else {
+        return Err(GrowFault::TooLong);
+    };
+    let mut filling = Filling::with_capacity(alloc, len)?;
+    filling.push_slice_within(inline.as_slice(), meter);
+    filling.push_behind_within(gap, bytes, meter);
+    Ok(filling)
 }

@@ -1,4 +1,4 @@
-ghost use Rattle.std.specs.Prelude.{◌≡◌, ◌≤◌, ◌<◌, ◌^◌, length};
+ghost use Rattle.std.specs.Prelude.{◌≡◌};
 ghost use Rattle.hip_bytes.specs.declared.kind.TheConstants.{INLINE_CAPACITY};
 
 use crate::kind::{INLINE_CAPACITY, Kind};
@@ -10,13 +10,9 @@ mod compare;
 mod convert;
 mod cuts;
 mod growth;
-#[cfg(test)]
-mod growth_tests;
 mod join;
 mod make;
 mod mutate;
-#[cfg(test)]
-mod tests;
 mod views;
 mod write;
 

@@ -4,13 +4,17 @@
 //! - [`HipByt`] is the handle, generic in the [`Backend`] that owns what doesn't fit the handle itself: [`Rc`] shares owners,
 //!   [`Unique`] doesn't.
 //! - [`Kind`] says where the bytes of a handle lie.
-//! - [`SliceError`] says why a range is none of a handle's bytes, [`SliceRefusal`] why a call gave no slice.
+//! - [`SliceError`] says why a range is none of a handle's bytes, [`SliceRefusal`] why a call gave no slice, [`GrowFault`] why a list
+//!   wasn't made.
+//! - [`RefMut`] lends a value of a [`Source`], as a handle is one, as a vector.
 //!
 //! A call that copies has a form with the suffix `_metered` and a last argument `&mut Meter`; the plain call is that form with a
-//! fresh meter. A call that may want memory takes the allocator first, and a refused one changes nothing.
+//! fresh meter. Conversions from a `Cow`, and into a vector or a `Cow`, have none. A call that may want memory takes the allocator first,
+//! and a refused one changes nothing.
 //!
 //! The words of the contracts stand in `specs/`: `Handle` (a handle as clauses see it), `Kinds` (the kind and the capacity that a call
-//! gives), `Cost` (what it copies, and where it may want memory), `Range`, `Slice` and `SliceError` (ranges and their faults).
+//! gives), `Cost` (what it copies, and where it may want memory), `Range`, `Slice` and `SliceError` (ranges and their faults), `Join`
+//! (joins and repetitions), `GrowFault` and `RefMut`.
 #![tactic(auto)]
 
 mod gathering;

@@ -1,5 +1,6 @@
 //! A value lent out as a vector.
-ghost use Rattle.std.specs.Prelude.{◌≡◌, ℕ, List, IfOk, IfErr, OnOk, OnErr};
+ghost use Rattle.std.specs.Prelude.{◌≡◌, ℕ, List, length, vec_len, IfOk, IfErr, OnOk, OnErr};
+ghost use Rattle.hip_raw.specs.Meter.{RisesAtMost};
 
 use hip_raw::Meter;
 use std::alloc::{AllocError, Global};
@@ -16,10 +17,14 @@ pub trait Source: Drop {
     /// It holds these bytes, by length.
     ghost has_put: { Self → List ℕ → Type 0 };
 
+    /// How many bytes are copied at most where so many are put.
+    ghost put_cost: { ℕ → ℕ };
+
     /// Takes the bytes out in a vector, and leaves none. After a refusal the value is as it was.
     fn take_vec_metered(&mut self, alloc: Global, meter: &mut Meter) -> Result<Vec<u8>, AllocError>
         ensures items { IfOk result (λ vec. vec.items ≡ items self.old) }
         ensures emptied { OnOk result (is_emptied self.new) }
+        ensures counted { RisesAtMost meter.old meter.new (length (items self.old)) }
         ensures err { OnErr result (self.new ≡ self.old) };
 
     /// Makes the value that of the vector. A refused vector is handed back, and the value is as it was.
@@ -30,6 +35,7 @@ pub trait Source: Drop {
         meter: &mut Meter,
     ) -> Result<(), Vec<u8>>
         ensures put { OnOk result (has_put self.new vec.items) }
+        ensures counted { RisesAtMost meter.old meter.new (put_cost (vec_len vec)) }
         ensures err { OnErr result (self.new ≡ self.old) }
         ensures handed_back { IfErr result (λ back. back ≡ vec) };
 }
@@ -81,6 +87,7 @@ impl<'a, S: Source> RefMut<'a, S, Vec<u8>> {
     /// [`RefMut::finish`], counted.
     pub fn finish_metered(self, alloc: Global, meter: &mut Meter) -> Result<(), Vec<u8>>
         ensures put { OnOk result (S.has_put (self.exit.0.now) (lent_items self.entry)) }
+        ensures counted { RisesAtMost meter.old meter.new (S.put_cost (length (lent_items self.entry))) }
         ensures err { OnErr result (self.exit.0.now ≡ lent_source self.entry) }
         ensures handed_back { IfErr result (λ back. back.items ≡ lent_items self.entry) }
     {

@@ -1,17 +1,20 @@
 //! Why a range wasn't sliced.
-ghost use Rattle.std.specs.Prelude.{◌≡◌, ◌&&◌, length, nat_eq, Some};
+ghost use Rattle.std.specs.Prelude.{◌≡◌, ◌&&◌, length, nat_eq, Some, ⊤};
 ghost use Rattle.std.specs.Cmp.{partial_equiv_from_equiv, and_per, on_per, and_equiv, on_equiv, nat_eq_equiv};
 ghost use Rattle.hip_bytes.specs.contracts.slice_error.SliceErrorKindPartialEq.TheImpl.Laws.{laws-law as kind_per};
 ghost use Rattle.hip_bytes.specs.contracts.slice_error.SliceErrorKindEq.TheImpl.Laws.{laws-law as kind_equiv};
 ghost use Rattle.std.specs.Cmp.Lexicographic.{pointwise, nat_list_eq_equiv};
+ghost use Rattle.hip_bytes.specs.Range.{slice_fault};
+ghost use Rattle.hip_bytes.specs.Slice.{IsErrorOf};
 ghost use Rattle.hip_bytes.specs.SliceError.{error_kind, error_start, error_end, error_source, slice_error_text};
 
 use crate::hip_byt::HipByt;
+use crate::range::{end_of, start_of};
 use hip_raw::Backend;
 use std::alloc::AllocError;
 use std::error::Error;
 use std::fmt;
-use std::ops::Range;
+use std::ops::{Bound, Range};
 
 /// Which test a range failed. The tests have this order: the start against the length, the end against the length, the start
 /// against the end.
@@ -34,18 +37,20 @@ pub struct SliceError<'a, 'b, B: Backend> {
 }
 
 impl<'a, 'b, B: Backend> SliceError<'a, 'b, B> {
-    #[inline]
-    pub(crate) fn new(
+    /// The error of two bounds that are no range of the source. It isn't inlined, so that a range that is one doesn't pay for it.
+    #[cold]
+    #[inline(never)]
+    pub(crate) fn of_bounds(
         kind: SliceErrorKind,
-        start: usize,
-        end: usize,
+        low: Bound<usize>,
+        high: Bound<usize>,
         source: &'a HipByt<'b, B>,
     ) -> Self
-        ensures kind { error_kind result ≡ kind }
-        ensures start { error_start result ≡ start }
-        ensures end { error_end result ≡ end }
-        ensures source { error_source result ≡ source.now }
+        requires { slice_fault low high (length source.now.items) ≡ Some kind }
+        ensures { IsErrorOf result source.now low high }
     {
+        let start = start_of(low).unwrap_or(usize::MAX);
+        let end = end_of(high, source.len()).unwrap_or(usize::MAX);
         SliceError {
             kind,
             start,
@@ -98,6 +103,8 @@ impl<'a, 'b, B: Backend> SliceError<'a, 'b, B> {
 
 impl<'a, 'b, B: Backend> Clone for SliceError<'a, 'b, B> {
     ghost is_clone = { λ error copy. copy ≡ error };
+
+    ghost is_infallible = { λ _. ⊤ };
 
     fn clone(&self) -> Result<Self, AllocError> {
         Ok(*self)

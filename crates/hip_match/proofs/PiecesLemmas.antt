@@ -123,11 +123,11 @@ IsBetween-moved t u i j l same h = let P : List ℕ → Type 0 = λ v. IsBetween
 pub IsBetweenBack-moved : (t u : List ℕ) (i j : ℕ) (l : List (ℕ × ℕ)) → u ≡ t → IsBetweenBack t i l j → IsBetweenBack u i l j
 IsBetweenBack-moved t u i j l same h = let P : List ℕ → Type 0 = λ v. IsBetweenBack v i l j in subst P (sym same) h
 
--- a first empty piece, left out
 append_if : (b : Bool) (xs ys zs : List (ℕ × ℕ)) → (if b then xs ++ zs else ys ++ zs) ≡ (if b then xs else ys) ++ zs
 append_if true xs ys zs = refl
 append_if false xs ys zs = refl
 
+-- a first empty piece, left out
 without_empty_first-gaps : (x : ℕ × ℕ) (i n : ℕ) (ms : List (ℕ × ℕ)) → without_empty_first (gaps_back i ms n ++ x ∷ []) ≡ without_empty_first (gaps_back i ms n) ++ x ∷ []
 without_empty_first-gaps x i n [] = append_if (i == n) [] ((i, n) ∷ []) (x ∷ [])
 without_empty_first-gaps x i n (m ∷ ms) = append_if (m.1 == n) (gaps_back i ms m.0) ((m.1, n) ∷ gaps_back i ms m.0) (x ∷ [])

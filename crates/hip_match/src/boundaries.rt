@@ -1,6 +1,5 @@
 //! The boundaries next to a place.
 ghost use Rattle.std.specs.Prelude.{◌<◌, ◌≤◌, length};
-ghost use Rattle.std.specs.Str.{IsCharBoundary};
 ghost use Rattle.hip_match.specs.Ready.{IsNextBoundary, IsPreviousBoundary};
 
 // The first boundary after `at`.

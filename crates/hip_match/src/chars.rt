@@ -1,5 +1,5 @@
 //! The characters of a text, by position, and sets of characters.
-ghost use Rattle.std.specs.Prelude.{◌≡◌, ◌≤◌, ◌<◌, ℕ, Bool, Option, Some, List, length, IfSome, MatchOption};
+ghost use Rattle.std.specs.Prelude.{◌≡◌, ℕ, Bool, MatchOption};
 ghost use Rattle.std.specs.Str.{IsCharBoundary};
 ghost use Rattle.hip_match.specs.Occurrence.{IsNextMatch, IsLastMatch, start_of};
 ghost use Rattle.hip_match.specs.Characters.{char_at, char_ends, IsCharBefore};

@@ -1,6 +1,5 @@
 //! The occurrences of a pattern, leftmost first.
-ghost use Rattle.std.specs.Prelude.{◌≡◌, ℕ, ◌<◌, ◌≤◌, List, [], Option, Some, IfSome, length, if◌then◌else◌};
-ghost use Rattle.std.specs.Str.{IsUtf8, IsCharBoundary};
+ghost use Rattle.std.specs.Prelude.{◌≡◌, ◌<◌, [], IfSome, length, if◌then◌else◌};
 ghost use Rattle.std.specs.Iterator.{YieldsLast};
 ghost use Rattle.hip_match.specs.Occurrence.{IsCut};
 ghost use Rattle.hip_match.specs.Leftmost.{leftmost, leftmost_between};

@@ -1,5 +1,5 @@
 //! What can be looked for in a text.
-ghost use Rattle.std.specs.Prelude.{◌≡◌, ℕ, ◌≤◌, List, Option, Some, IfSome};
+ghost use Rattle.std.specs.Prelude.{◌≡◌, ℕ, List, Option, Some};
 ghost use Rattle.std.specs.Option.{is_some};
 ghost use Rattle.std.specs.Str.{IsUtf8, IsCharBoundary};
 ghost use Rattle.hip_match.specs.Occurrence.{IsNextMatch, IsLastMatch, IsCut, IsOneChar, start_of};

@@ -1,5 +1,5 @@
 //! A closure as a pattern.
-ghost use Rattle.std.specs.Prelude.{◌≡◌, ℕ, Bool, List};
+ghost use Rattle.std.specs.Prelude.{◌≡◌, ℕ, Bool};
 ghost use Rattle.std.specs.Char.{IsScalar};
 ghost use Rattle.hip_match.specs.Answers.{answer_at};
 ghost use Rattle.hip_match.specs.Characters.{char_ends};

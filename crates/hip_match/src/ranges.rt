@@ -1,5 +1,5 @@
 //! What each iterator of this crate is: a list of ranges at boundaries of one text.
-ghost use Rattle.std.specs.Prelude.{◌≡◌, ℕ, List, Option, IfSome};
+ghost use Rattle.std.specs.Prelude.{◌≡◌, ℕ, List, IfSome};
 ghost use Rattle.std.specs.Iterator.{YieldsFirst, YieldsLast};
 ghost use Rattle.hip_match.specs.Occurrence.{IsCut};
 

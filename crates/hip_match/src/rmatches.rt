@@ -1,6 +1,5 @@
 //! The occurrences of a pattern, rightmost first.
-ghost use Rattle.std.specs.Prelude.{◌≡◌, ℕ, ◌<◌, ◌≤◌, List, [], Option, Some, IfSome, length, if◌then◌else◌};
-ghost use Rattle.std.specs.Str.{IsUtf8, IsCharBoundary};
+ghost use Rattle.std.specs.Prelude.{◌≡◌, [], length, if◌then◌else◌};
 ghost use Rattle.hip_match.specs.Rightmost.{rightmost, rightmost_between};
 ghost use Rattle.hip_match.specs.Ready.{IsBackWindow, IsBetweenBack};
 

@@ -1,5 +1,5 @@
 //! The parts of a text between the occurrences of a pattern, from its end.
-ghost use Rattle.std.specs.Prelude.{◌≡◌, ℕ, List, [], length, if◌then◌else◌};
+ghost use Rattle.std.specs.Prelude.{◌≡◌, [], length, if◌then◌else◌};
 ghost use Rattle.hip_match.specs.Pieces.{rsplit, rsplit_terminator, rsplitn, gaps_back, at_most_from, without_empty_first};
 ghost use Rattle.hip_match.specs.Ready.{IsBetweenBack};
 

@@ -1,6 +1,5 @@
 //! The parts of a text between the occurrences of a pattern, from its front.
-ghost use Rattle.std.specs.Prelude.{◌≡◌, ℕ, List, [], length, if◌then◌else◌};
-ghost use Rattle.std.specs.Str.{IsUtf8, IsCharBoundary};
+ghost use Rattle.std.specs.Prelude.{◌≡◌, [], length, if◌then◌else◌};
 ghost use Rattle.hip_match.specs.Pieces.{split, split_inclusive, split_terminator, splitn, gaps, ended, at_most_to, without_empty_last};
 ghost use Rattle.hip_match.specs.Ready.{IsBetween};
 

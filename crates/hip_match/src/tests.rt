@@ -532,6 +532,7 @@ fn closure_where_types_are_open(rt: HostRuntime) {
 #[test]
 fn laws_and_tests_at_a_place(rt: HostRuntime) {
     let text = "é,a";
+    // The laws' functions do nothing: such calls show that a caller can state them.
     just_one_list_is_leftmost(&",", text);
     just_one_list_is_rightmost(&',', text);
     one_char_reverses(&&['a', ','], text);

@@ -1,5 +1,5 @@
 //! Texts found in texts, by the vector searches of `memchr`.
-ghost use Rattle.std.specs.Prelude.{◌≡◌, ◌==◌, ◌<◌, ℕ, List, Option, length, string_bytes};
+ghost use Rattle.std.specs.Prelude.{◌≡◌, ◌==◌, ◌<◌, length, string_bytes};
 ghost use Rattle.std.specs.Str.{IsCharBoundary};
 ghost use Rattle.memchr.specs.Find.{FindsNeedle, FindsLastNeedle};
 ghost use Rattle.hip_match.specs.Occurrence.{IsNextMatch, IsLastMatch, start_of};

@@ -1,5 +1,4 @@
 //! The words of a line, with one space between two, and what single words say.
-ghost use Rattle.std.specs.Prelude.{◌≡◌};
 
 use crate::literal::Decoded;
 use memchr::memchr;

@@ -1,5 +1,5 @@
 //! Bytes that an owner holds.
-ghost use Rattle.std.specs.Prelude.{◌≡◌, ◌+◌, ◌-◌, ◌^◌, ◌<◌, ◌≤◌, ◌==◌, ◌++◌, ◌↔◌, max, min, map, false, true, length, take, drop, vec_len, vec_capacity, IsSome, IfSome, IfNone, IfOk, IfErr, OnOk, OnErr, slice_range, slice_set, if◌then◌else◌, IsOk};
+ghost use Rattle.std.specs.Prelude.{◌≡◌, ◌+◌, ◌-◌, ◌^◌, ◌<◌, ◌≤◌, ◌==◌, ◌++◌, max, min, map, false, true, length, take, vec_len, vec_capacity, IsSome, IfSome, IfOk, IfErr, OnErr, slice_range, slice_set, if◌then◌else◌, IsOk};
 ghost use Rattle.std.specs.Char.{to_ascii_lowercase, to_ascii_uppercase};
 ghost use Rattle.std.specs.Fn.{FnOnceReturnsAtMut, FnOnceTakesAtMut};
 ghost use Rattle.hip_raw.specs.Appended.{OnDone, OnShared, OnMemory, OnRefused};

@@ -1,7 +1,6 @@
 //! What an owner of bytes promises.
-ghost use Rattle.std.specs.Prelude.{◌≡◌, ℕ, ◌+◌, ◌-◌, ◌*◌, ◌^◌, ◌<◌, ◌≤◌, Bool, false, true, List, ◌++◌, length, take, drop, vec_len, vec_capacity, IsTrue, IsSome, IfNone, IfOk, IfErr, IfSome, OnErr, IsOk};
-ghost use Rattle.std.specs.Fn.{FnOnceReturnsAtMut, FnOnceTakesAtMut};
-ghost use Rattle.std.specs.Borrow.{sem, Lends, LendsIf, Array, u8};
+ghost use Rattle.std.specs.Prelude.{◌≡◌, ℕ, ◌+◌, ◌^◌, ◌<◌, ◌≤◌, Bool, false, true, List, ◌++◌, length, take, vec_len, vec_capacity, IsSome, IfOk, IfErr, IfSome, OnErr};
+ghost use Rattle.std.specs.Borrow.{sem, LendsIf};
 ghost use Rattle.hip_raw.specs.Appended.{OnDone, OnShared, OnMemory, OnRefused};
 ghost use Rattle.hip_raw.specs.Meter.{RisesAtMost, unless_shared};
 ghost use Rattle.hip_raw.specs.Window.{window};
@@ -32,6 +31,24 @@ pub trait Backend: Drop {
     // The owner after what it lent was written.
     ghost with_sole: { Self → Self.Sole → Self };
 
+    /// An owner and a position at which it has the `len` bytes that stand here from `start` on: the same owner where it can be
+    /// shared, else one of their own.
+    fn part(
+        &self,
+        alloc: Global,
+        start: usize,
+        len: usize,
+        meter: &mut Meter,
+    ) -> Result<(Self, usize), AllocError>
+        requires { start + len ≤ length (items self.now) }
+        ensures items { IfOk result (λ made. window (items made.0) made.1 len ≡ window (items self.now) start len) }
+        ensures within { IfOk result (λ made. made.1 + len ≤ length (items made.0)) }
+        ensures position { SHARES ≡ false → IfOk result (λ made. made.1 ≡ 0) }
+        ensures fits { IfOk result (λ made. length (items made.0) ≤ capacity made.0) }
+        ensures bound { IfOk result (λ made. length (items made.0) < 2 ^ 64) }
+        ensures counted { RisesAtMost meter.old meter.new (unless_shared SHARES len) }
+        ensures refused_copies_nothing { OnErr result (meter.new ≡ meter.old) };
+
     /// An owner of the vector's bytes. A refused vector is handed back.
     fn own(alloc: Global, vec: Vec<u8>, meter: &mut Meter) -> Result<Self, Vec<u8>>
         ensures items { IfOk result (λ owner. items owner ≡ vec.items) }
@@ -53,29 +70,9 @@ pub trait Backend: Drop {
         ensures capacity { result ≡ capacity self.now }
         ensures fits { length (items self.now) ≤ capacity self.now };
 
-    /// An owner and a position at which it has the `len` bytes that stand here from `start` on: the same owner where it can be
-    /// shared, else one of their own.
-    fn part(
-        &self,
-        alloc: Global,
-        start: usize,
-        len: usize,
-        meter: &mut Meter,
-    ) -> Result<(Self, usize), AllocError>
-        requires { start + len ≤ length (items self.now) }
-        ensures items { IfOk result
-            (λ made. window (items made.0) made.1 len ≡ window (items self.now) start len) }
-        ensures within { IfOk result (λ made. made.1 + len ≤ length (items made.0)) }
-        ensures position { SHARES ≡ false → IfOk result (λ made. made.1 ≡ 0) }
-        ensures fits { IfOk result (λ made. length (items made.0) ≤ capacity made.0) }
-        ensures bound { IfOk result (λ made. length (items made.0) < 2 ^ 64) }
-        ensures counted { RisesAtMost meter.old meter.new (unless_shared SHARES len) }
-        ensures refused_copies_nothing { OnErr result (meter.new ≡ meter.old) };
-
     /// What is written in place, unless the owner is shared.
     fn writable(&mut self) -> Option<&mut Self::Sole>
-        ensures* writes_back { sem 𝓛
-            (LendsIf Self.row Self.Sole.row self.entry result (with_sole self.old) self.old) }
+        ensures* writes_back { sem 𝓛 (LendsIf Self.row Self.Sole.row self.entry result (with_sole self.old) self.old) }
         ensures items { IfSome result (λ sole. Self.Sole.items sole.now ≡ items self.old) }
         ensures capacity { IfSome result (λ sole. Self.Sole.capacity sole.now ≡ capacity self.old) }
         ensures bound { length (items self.old) < 2 ^ 64 }
@@ -88,27 +85,21 @@ pub trait Backend: Drop {
         ensures capacity { SHARES ≡ false → capacity self.old ≤ capacity self.new }
         ensures fits { length (items self.new) ≤ capacity self.new }
         ensures bound { length (items self.new) < 2 ^ 64 }
-        ensures counted { RisesAtMost meter.old meter.new
-            (length addition.now + unless_shared SHARES keep) }
+        ensures counted { RisesAtMost meter.old meter.new (length addition.now + unless_shared SHARES keep) }
         ensures shared { OnShared result (SHARES ≡ true) }
-        ensures memory { OnMemory result
-            (SHARES ≡ false → capacity self.old < keep + length addition.now) }
-        ensures refused { OnRefused result
-            ((items self.new ≡ items self.old) × (capacity self.new ≡ capacity self.old)) }
+        ensures memory { OnMemory result (SHARES ≡ false → capacity self.old < keep + length addition.now) }
+        ensures refused { OnRefused result ((items self.new ≡ items self.old) × (capacity self.new ≡ capacity self.old)) }
         ensures refused_copies_nothing { OnRefused result (meter.new ≡ meter.old) };
 
     /// The bytes in a vector, unless the owner is shared. A refused owner is handed back.
     fn try_into_vec(self, alloc: Global, meter: &mut Meter) -> Result<Vec<u8>, Self>
         ensures items { IfOk result (λ vec. vec.items ≡ items self) }
-        ensures counted { RisesAtMost meter.old meter.new
-            (unless_shared SHARES (length (items self))) }
+        ensures counted { RisesAtMost meter.old meter.new (unless_shared SHARES (length (items self))) }
         ensures handed_back { IfErr result (λ back. back ≡ self) }
         ensures refused_copies_nothing { OnErr result (meter.new ≡ meter.old) };
 
     // What the sole owner has when the loan ends is what this owner has.
-    ghost sole_items: { (owner : Self) (sole : Self.Sole)
-        → items (with_sole owner sole) ≡ Self.Sole.items sole };
+    ghost sole_items: { (owner : Self) (sole : Self.Sole) → items (with_sole owner sole) ≡ Self.Sole.items sole };
 
-    ghost sole_capacity: { (owner : Self) (sole : Self.Sole)
-        → capacity (with_sole owner sole) ≡ Self.Sole.capacity sole };
+    ghost sole_capacity: { (owner : Self) (sole : Self.Sole) → capacity (with_sole owner sole) ≡ Self.Sole.capacity sole };
 }

@@ -1,10 +1,11 @@
 //! Bytes that gather in a vector.
-ghost use Rattle.std.specs.Prelude.{◌≡◌, ◌+◌, ◌<◌, ◌≤◌, ◌++◌, [], length, take, vec_len, vec_capacity, IfOk, OnOk, OnErr};
+ghost use Rattle.std.specs.Prelude.{◌≡◌, ◌+◌, ◌^◌, ◌<◌, ◌≤◌, ◌++◌, [], length, take, vec_len, vec_capacity, IfOk, OnOk, OnErr};
 ghost use Rattle.hip_raw.specs.Meter.{RisesAtMost};
 
-use crate::meter::{Meter, fill_counted};
+use crate::meter::{Meter, fill_at, fill_counted};
 use std::alloc::{AllocError, Global};
 use std::marker::Model;
+use std::mem;
 
 /// How many bytes of room are made ready at a time.
 const STRIDE: usize = 4096;
@@ -50,6 +51,57 @@ impl Filling {
         self.len
     }
 
+    /// How many bytes it can hold with no new memory.
+    #[inline]
+    pub fn capacity(&self) -> usize
+        ensures capacity { result ≡ self.now.capacity }
+        ensures fits { length self.now.items ≤ self.now.capacity }
+    {
+        self.vec.capacity()
+    }
+
+    /// Adds bytes, and what stands before them, for both of which there is room.
+    #[inline(always)]
+    pub fn push_behind_within(&mut self, gap: &[u8], bytes: &[u8], meter: &mut Meter)
+        requires { length self.old.items + length gap.now + length bytes.now ≤ self.old.capacity }
+        ensures items { self.new.items ≡ (self.old.items ++ gap.now) ++ bytes.now }
+        ensures capacity { self.old.capacity ≤ self.new.capacity }
+        ensures counted { RisesAtMost meter.old meter.new (length gap.now + length bytes.now) }
+    {
+        let end = self.len + gap.len() + bytes.len();
+        if self.vec.len() < end {
+            open(&mut self.vec, end);
+        }
+        let room = self.vec.as_mut_slice();
+        let middle = fill_at(room, self.len, gap, meter);
+        self.len = fill_at(room, middle, bytes, meter);
+    }
+
+    /// Adds bytes, and what stands before them. A refused call changes nothing.
+    #[inline(always)]
+    pub fn push_behind(
+        &mut self,
+        gap: &[u8],
+        bytes: &[u8],
+        meter: &mut Meter,
+    ) -> Result<(), AllocError>
+        requires { length gap.now + length bytes.now < 2 ^ 64 }
+        ensures items { OnOk result (self.new.items ≡ (self.old.items ++ gap.now) ++ bytes.now) }
+        ensures capacity { self.old.capacity ≤ self.new.capacity }
+        ensures counted { RisesAtMost meter.old meter.new (length gap.now + length bytes.now) }
+        ensures memory { OnErr result
+            (self.old.capacity < length self.old.items + length gap.now + length bytes.now) }
+        ensures err { OnErr result (self.new ≡ self.old) }
+        ensures refused_copies_nothing { OnErr result (meter.new ≡ meter.old) }
+    {
+        let additional = gap.len() + bytes.len();
+        if self.vec.capacity() - self.len < additional {
+            reserve(&mut self.vec, self.len, additional)?;
+        }
+        self.push_behind_within(gap, bytes, meter);
+        Ok(())
+    }
+
     /// Adds bytes, for which there is room.
     #[inline(always)]
     pub fn push_slice_within(&mut self, addition: &[u8], meter: &mut Meter)
@@ -58,31 +110,7 @@ impl Filling {
         ensures capacity { self.old.capacity ≤ self.new.capacity }
         ensures counted { RisesAtMost meter.old meter.new (length addition.now) }
     {
-        let start = self.len;
-        let end = start + addition.len();
-        if self.vec.len() < end {
-            open(&mut self.vec, end);
-        }
-        let room = self.vec.as_mut_slice();
-        fill_counted(&mut room[start..end], addition, meter);
-        self.len = end;
-    }
-
-    /// Adds bytes. A refused call changes nothing.
-    #[inline(always)]
-    pub fn push_slice(&mut self, addition: &[u8], meter: &mut Meter) -> Result<(), AllocError>
-        ensures items { OnOk result (self.new.items ≡ self.old.items ++ addition.now) }
-        ensures capacity { self.old.capacity ≤ self.new.capacity }
-        ensures counted { RisesAtMost meter.old meter.new (length addition.now) }
-        ensures memory { OnErr result (self.old.capacity < length self.old.items + length addition.now) }
-        ensures err { OnErr result (self.new ≡ self.old) }
-        ensures refused_copies_nothing { OnErr result (meter.new ≡ meter.old) }
-    {
-        if self.vec.capacity() - self.len < addition.len() {
-            reserve(&mut self.vec, self.len, addition.len())?;
-        }
-        self.push_slice_within(addition, meter);
-        Ok(())
+        self.push_behind_within(&[], addition, meter);
     }
 
     /// Adds the first `count` bytes again, for which there is room.
@@ -99,8 +127,7 @@ impl Filling {
         if self.vec.len() < end {
             open(&mut self.vec, end);
         }
-        let (front, room) = self.vec.as_mut_slice().split_at_mut(start);
-        fill_counted(&mut room[..count], &front[..count], meter);
+        repeat_front(self.vec.as_mut_slice(), start, count, meter);
         self.len = end;
     }
 
@@ -115,9 +142,21 @@ impl Filling {
     }
 }
 
-// Makes room ready up to `end` and a stretch on, as far as the vector's room goes.
-#[cold]
-#[inline(never)]
+// Copies the first `count` bytes once more, behind the first `start`.
+#[inline(always)]
+fn repeat_front(room: &mut [u8], start: usize, count: usize, meter: &mut Meter)
+    requires there { count ≤ start }
+    requires fits { start + count ≤ length room.old }
+    ensures items { take (start + count) room.new ≡ take start room.old ++ take count room.old }
+    ensures len { length room.new ≡ length room.old }
+    ensures counted { RisesAtMost meter.old meter.new count }
+{
+    let (front, back) = room.split_at_mut(start);
+    fill_counted(&mut back[..count], &front[..count], meter);
+}
+
+// Makes room ready up to `end`. The vector goes to the call by value, since what is lent to one that isn't inlined lies in memory.
+#[inline(always)]
 fn open(vec: &mut Vec<u8>, end: usize)
     requires grows { vec_len vec.old < end }
     requires fits { end ≤ vec_capacity vec.old }
@@ -125,8 +164,23 @@ fn open(vec: &mut Vec<u8>, end: usize)
     ensures ready { end ≤ vec_len vec.new }
     ensures capacity { vec_capacity vec.old ≤ vec_capacity vec.new }
 {
+    let empty = Vec::new(*vec.allocator());
+    *vec = opened(mem::replace(vec, empty), end);
+}
+
+// Makes room up to `end` and a stretch on, as far as the vector's room goes.
+#[cold]
+#[inline(never)]
+fn opened(mut vec: Vec<u8>, end: usize) -> Vec<u8>
+    requires grows { vec_len vec < end }
+    requires fits { end ≤ vec_capacity vec }
+    ensures kept { take (vec_len vec) result.items ≡ vec.items }
+    ensures ready { end ≤ vec_len result }
+    ensures capacity { vec_capacity vec ≤ vec_capacity result }
+{
     let most = end.saturating_add(STRIDE).min(vec.capacity());
     vec.resize(most, 0).unwrap();
+    vec
 }
 
 // Takes room for so many bytes behind the first `len`; what stood there is let go.

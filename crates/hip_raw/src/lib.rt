@@ -8,7 +8,8 @@
 //!   another value, or a range of an owner's list.
 //!
 //! A call that copies has a form with the suffix `_metered` and a last argument `&mut Meter`; the plain call is that form with a fresh
-//! meter. A call that takes memory on some backend is passed the allocator first, and a refused one changes nothing.
+//! meter. A call that takes memory on some backend is passed the allocator first, and a refused one changes nothing. The calls of a
+//! [`Filling`] and those on vectors have the meter alone: they have no uncounted form, and the vector has its allocator.
 //!
 //! The words of the contracts stand in `specs/`: `Held` (what a contract sees of an owner and of an allocated handle), `Meter` (what is
 //! copied), `Window` (a part of a list), `Appended` (facts by the answer of an append), `Allocated` (what holds of a handle's range),

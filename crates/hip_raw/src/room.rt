@@ -1,9 +1,7 @@
 //! What a sole owner has, and how it is written in place.
-ghost use Rattle.std.specs.Prelude.{◌≡◌, ℕ, ◌+◌, ◌-◌, ◌*◌, ◌^◌, ◌<◌, ◌≤◌, Bool, false, true, List, ◌++◌, length, take, drop, vec_len, vec_capacity, IsTrue, IsSome, IfNone, IfOk, IfErr, IfSome, OnErr, IsOk};
+ghost use Rattle.std.specs.Prelude.{◌≡◌, ℕ, ◌+◌, ◌^◌, ◌<◌, ◌≤◌, false, List, length, take, vec_capacity, IfOk, IfErr, OnErr, IsOk};
 ghost use Rattle.std.specs.Fn.{FnOnceReturnsAtMut, FnOnceTakesAtMut};
-ghost use Rattle.std.specs.Borrow.{sem, Lends, LendsIf, Array, u8};
-ghost use Rattle.hip_raw.specs.Appended.{OnDone, OnShared, OnMemory, OnRefused};
-ghost use Rattle.hip_raw.specs.Meter.{RisesAtMost, unless_shared};
+ghost use Rattle.std.specs.Borrow.{sem, Lends, Array, u8};
 ghost use Rattle.hip_raw.specs.Window.{window};
 
 use crate::backend::Backend;

@@ -32,9 +32,10 @@ fn a_vector_is_filled(rt: HostRuntime) -> Result<(), Fail> {
     let mut filling = Filling::with_capacity(rt.alloc(), 6)?;
     filling.push_slice_within(b"abc", &mut meter);
     filling.push_front_within(2, &mut meter);
-    filling.push_slice(b"!", &mut meter)?;
+    filling.push_behind(b"", b"!", &mut meter)?;
+    assert!(rt; filling.capacity() >= 6);
     assert_eq!(rt; filling.len(), 6);
-    filling.push_slice(b", and more than six", &mut meter)?;
+    filling.push_behind(b", ", b"and more than six", &mut meter)?;
     assert_eq!(rt;
         filling.into_vec().as_slice(),
         b"abcab!, and more than six".as_slice()
@@ -68,7 +69,6 @@ fn inline_bytes(rt: HostRuntime) -> Result<(), Fail> {
     assert_eq!(rt; two.as_slice(), b"abcd".as_slice());
     assert!(rt; Inline::<23>::new(&STARS[..24]).is_none());
     assert!(rt; Inline::<23>::new(&STARS[..23]).is_some());
-    assert_eq!(rt; Inline::<23>::zeroed(5).as_slice(), [0; 5].as_slice());
     assert!(rt; Inline::<23>::empty().is_empty());
     assert_eq!(rt; abc.capacity(), 23);
     Ok(())

@@ -1,6 +1,6 @@
 -- One step of the list machine: what a command may answer, what it leaves of the slots, and how many bytes it copies at most.
 -- `shares` says whether owners are shared.
-use Rattle.std.specs.Prelude.{◌≡◌, ℕ, ◌+◌, ◌-◌, ◌*◌, ◌^◌, ◌<◌, ◌≤◌, ◌⊎◌, Bool, List, [], ◌∷◌, ◌++◌, length, map, take, drop, max, Option, Some, None, is_none, if◌then◌else◌, nat_le, nat_lt, slice_set, MatchOption, refl}
+use Rattle.std.specs.Prelude.{◌≡◌, ℕ, ◌+◌, ◌-◌, ◌*◌, ◌^◌, ◌<◌, ◌≤◌, ◌⊎◌, Bool, List, [], ◌∷◌, ◌++◌, length, map, take, drop, max, Option, Some, None, is_none, if◌then◌else◌, nat_le, nat_lt, slice_set, MatchOption, codes, refl}
 use Rattle.std.specs.Char.{to_ascii_lowercase, to_ascii_uppercase}
 use Rattle.std.specs.Cmp.Lexicographic.{slice_cmp}
 use Rattle.std.specs.List.{join_by, repeat}
@@ -202,3 +202,10 @@ no_slot_first = refl
 
 pub then_the_range : fault_of (empty_slot ∷ []) (Slice 0 0 (Included 5) Unbounded) ≡ Some StartOutOfBounds
 then_the_range = refl
+
+-- "ab" and an empty slot, with "-" between; from the end on there are no slots, and not one
+pub two_joined : joined_slots (record { kind = inline_kind; items = codes "ab"; capacity = INLINE_CAPACITY } ∷ empty_slot ∷ []) 0 2 (codes "-") ≡ codes "ab-"
+two_joined = refl
+
+pub none_at_the_end : (slots_fault (empty_slot ∷ []) 1 0 ≡ None) × (slots_fault (empty_slot ∷ []) 1 1 ≡ Some NoSlot)
+none_at_the_end = (refl, refl)

@@ -12,17 +12,10 @@
 //! answer, what it leaves, its cost) and `Run` (many commands).
 #![tactic(auto)]
 
+pub mod bytes;
 mod command;
 mod machine;
 mod pool;
-
-/// Byte strings.
-pub mod bytes {
-    pub use hip_bytes::{
-        GrowFault, HipByt, INLINE_CAPACITY, Kind, RefMut, SliceError, SliceErrorKind, SliceRefusal,
-        Source,
-    };
-}
 
 pub use command::{Answer, Command, Reason};
 pub use hip_bytes::{Backend, Kind, Meter, Rc, Unique};

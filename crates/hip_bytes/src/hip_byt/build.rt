@@ -2,7 +2,7 @@
 ghost use Rattle.std.specs.Prelude.{◌≡◌, ◌↔◌, ◌≤◌, ◌<◌, ◌+◌, ◌*◌, ◌^◌, [], ◌++◌, nat_le, length, take, IfOk, IfErr, OnErr};
 ghost use Rattle.std.specs.List.{repeat};
 ghost use Rattle.std.specs.Option.{SomeIff};
-ghost use Rattle.hip_raw.specs.Meter.{RisesAtMost, times_copied};
+ghost use Rattle.hip_raw.specs.Meter.{RisesAtMost};
 ghost use Rattle.hip_bytes.specs.Cost.{clone_cost};
 ghost use Rattle.hip_bytes.specs.Join.{gap_at, joined, join_cost, repeated_kind, repeat_cost, RepeatNeedsMemory};
 ghost use Rattle.hip_bytes.specs.Kinds.{by_length, HasCapacity};
@@ -12,7 +12,7 @@ use super::HipByt;
 use crate::gathering::Gathering;
 use crate::grow_fault::GrowFault;
 use crate::kind::{INLINE_CAPACITY, Kind};
-use hip_raw::{Backend, Inline, Meter, fill_counted};
+use hip_raw::{Backend, Filling, Inline, Meter};
 use std::alloc::{AllocError, Global};
 
 impl<'b, B: Backend> HipByt<'b, B> {
@@ -112,17 +112,11 @@ impl<'b, B: Backend> HipByt<'b, B> {
         let Some(len) = joined_len(slices, sep) else {
             return Err(GrowFault::TooLong);
         };
-        if len <= INLINE_CAPACITY {
-            let mut inline = Inline::zeroed(len);
-            fill_joined(inline.as_mut_slice(), slices, sep, meter);
-            return Ok(HipByt::from_inline(inline));
-        }
-        let mut vec = vec![in alloc; 0; len]?;
-        fill_joined(vec.as_mut_slice(), slices, sep, meter);
-        match HipByt::from_vec_metered(alloc, vec, meter) {
-            Ok(handle) => Ok(handle),
-            Err(_) => Err(GrowFault::Memory),
-        }
+        // A meter of its own, since what was lent to a call that isn't inlined lies in memory.
+        let mut apart = Meter::new();
+        let made = joined_within(alloc, slices, sep, len, &mut apart);
+        meter.add(&apart);
+        Ok(made?.finish(alloc, meter)?)
     }
 }
 
@@ -138,43 +132,41 @@ fn gap(i: usize, sep: &[u8]) -> &[u8]
 fn joined_len(slices: &[&[u8]], sep: &[u8]) -> Option<usize>
     ensures { SomeIff result (length (joined sep.now slices.now) < 2 ^ 64) (length (joined sep.now slices.now)) }
 {
-    let mut len = 0usize;
-    for (i, slice) in slices.iter().enumerate() {
-        len = len
-            .checked_add(gap(i, sep).len())?
-            .checked_add(slice.len())?;
+    let mut len = slices.len().saturating_sub(1).checked_mul(sep.len())?;
+    for slice in slices {
+        len = len.checked_add(slice.len())?;
     }
     Some(len)
 }
 
-/// Copies bytes to a position, and says where they end.
+/// The slices of a join, which are `len` bytes in all.
 #[inline(always)]
-fn fill_at(room: &mut [u8], at: usize, bytes: &[u8], meter: &mut Meter) -> usize
-    requires { at + length bytes.now ≤ length room.old }
-    ensures end { result ≡ at + length bytes.now }
-    ensures items { take result room.new ≡ take at room.old ++ bytes.now }
-    ensures len { length room.new ≡ length room.old }
-    ensures counted { RisesAtMost meter.old meter.new (length bytes.now) }
+fn joined_within(
+    alloc: Global,
+    slices: &[&[u8]],
+    sep: &[u8],
+    len: usize,
+    meter: &mut Meter,
+) -> Result<Gathering, AllocError>
+    requires { len ≡ length (joined sep.now slices.now) }
+    ensures items { IfOk result (λ made. made.items ≡ joined sep.now slices.now) }
+    ensures place { IfOk result (λ made. made.in_handle ≡ nat_le len INLINE_CAPACITY) }
+    ensures memory { OnErr result (INLINE_CAPACITY < len) }
+    ensures counted { RisesAtMost meter.old meter.new len }
 {
-    let end = at + bytes.len();
-    if at < end {
-        fill_counted(&mut room[at..end], bytes, meter);
+    if len <= INLINE_CAPACITY {
+        let mut inline = Inline::empty();
+        for (i, slice) in slices.iter().enumerate() {
+            inline.push_slice_unchecked_metered(gap(i, sep), meter);
+            inline.push_slice_unchecked_metered(slice, meter);
+        }
+        return Ok(Gathering::in_handle(inline));
     }
-    end
-}
-
-/// Copies a join into room of its length.
-#[inline]
-fn fill_joined(room: &mut [u8], slices: &[&[u8]], sep: &[u8], meter: &mut Meter)
-    requires { length room.old ≡ length (joined sep.now slices.now) }
-    ensures items { room.new ≡ joined sep.now slices.now }
-    ensures counted { RisesAtMost meter.old meter.new (length room.old) }
-{
-    let mut at = 0;
+    let mut filling = Filling::with_capacity(alloc, len)?;
     for (i, slice) in slices.iter().enumerate() {
-        at = fill_at(room, at, gap(i, sep), meter);
-        at = fill_at(room, at, slice, meter);
+        filling.push_behind_within(gap(i, sep), slice, meter);
     }
+    Ok(Gathering::in_vector(filling))
 }
 
 impl<'b, B: Backend> HipByt<'b, B> {

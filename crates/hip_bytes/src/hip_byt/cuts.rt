@@ -1,15 +1,14 @@
 //! Clones and parts.
-ghost use Rattle.std.specs.Prelude.{◌≡◌, ◌≤◌, ◌<◌, ◌-◌, length, slice_range, IfOk, OnErr, Some, None};
-ghost use Rattle.std.specs.Range.Bound.{start_index, end_index};
+ghost use Rattle.std.specs.Prelude.{◌≡◌, ◌≤◌, ◌-◌, length, slice_range, IfOk, OnErr, None};
 ghost use Rattle.hip_raw.specs.Meter.{RisesAtMost};
 ghost use Rattle.hip_bytes.specs.Cost.{clone_cost, cut_cost, CutNeedsMemory};
-ghost use Rattle.hip_bytes.specs.Kinds.{cut_kind, HasCapacity};
+ghost use Rattle.hip_bytes.specs.Kinds.{HasCapacity};
 ghost use Rattle.hip_bytes.specs.Range.{slice_fault, slice_of};
 ghost use Rattle.hip_bytes.specs.Slice.{IsPart, SliceAnswers, slice_cost};
 
 use super::{HipByt, Repr};
 use crate::kind::{INLINE_CAPACITY, Kind};
-use crate::range::{bound_of, end_of, range_of, sound_range, start_of};
+use crate::range::{bound_of, range_of, sound_range};
 use crate::slice_error::{SliceError, SliceRefusal};
 use hip_raw::{Backend, Borrowed, Inline, Meter};
 use std::alloc::{AllocError, Global};
@@ -113,11 +112,7 @@ impl<'b, B: Backend> HipByt<'b, B> {
                 Ok(part) => Ok(part),
                 Err(AllocError) => Err(SliceRefusal::Memory),
             },
-            Err(kind) => {
-                let start = start_of(low).unwrap_or(usize::MAX);
-                let end = end_of(high, len).unwrap_or(usize::MAX);
-                Err(SliceRefusal::Slice(SliceError::new(kind, start, end, self)))
-            }
+            Err(kind) => Err(SliceRefusal::Slice(SliceError::of_bounds(kind, low, high, self))),
         }
     }
 

@@ -1,5 +1,5 @@
 //! Pushes, and cuts in place.
-ghost use Rattle.std.specs.Prelude.{◌≡◌, ◌≤◌, ◌<◌, ◌+◌, ◌-◌, ◌↔◌, ◌∷◌, [], ◌++◌, length, take, max, min, IfOk, IfSome, IfNone, IsSome, OnOk, OnErr, OnSome};
+ghost use Rattle.std.specs.Prelude.{◌≡◌, ◌≤◌, ◌<◌, ◌+◌, ◌↔◌, ◌∷◌, [], ◌++◌, length, take, max, min, IfOk, IfNone, IsSome, OnOk, OnErr, OnSome};
 ghost use Rattle.std.specs.Option.{option_to_list};
 ghost use Rattle.hip_raw.specs.Meter.{RisesAtMost, times_copied};
 ghost use Rattle.hip_bytes.specs.Cost.{CutNeedsMemory, PushNeedsMemory, shortened_cost, shrink_cost};

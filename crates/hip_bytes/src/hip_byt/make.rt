@@ -1,5 +1,5 @@
 //! Makers.
-ghost use Rattle.std.specs.Prelude.{◌≡◌, ◌≤◌, ◌<◌, ◌↔◌, [], length, vec_len, vec_capacity, IsSome, IfSome, IfNone, IfOk, IfErr, OnErr};
+ghost use Rattle.std.specs.Prelude.{◌≡◌, ◌≤◌, ◌<◌, ◌↔◌, [], length, vec_len, IsSome, IfSome, IfNone, IfOk, IfErr, OnErr};
 ghost use Rattle.hip_raw.specs.Meter.{RisesAtMost, times_copied};
 ghost use Rattle.hip_bytes.specs.Cost.{taken_cost};
 ghost use Rattle.hip_bytes.specs.Handle.{IsEmptyInline};

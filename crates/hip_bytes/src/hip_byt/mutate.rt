@@ -1,6 +1,7 @@
 //! Writing through a vector.
 ghost use Rattle.std.specs.Prelude.{◌≡◌, length, IfOk};
 ghost use Rattle.hip_raw.specs.Meter.{RisesAtMost};
+ghost use Rattle.hip_bytes.specs.Cost.{taken_cost};
 ghost use Rattle.hip_bytes.specs.Handle.{IsEmptyInline};
 ghost use Rattle.hip_bytes.specs.Kinds.{HoldsByLength};
 ghost use Rattle.hip_bytes.specs.RefMut.{lent_items, lent_source};
@@ -16,6 +17,8 @@ impl<'b, B: Backend> Source for HipByt<'b, B> {
     ghost is_emptied = { IsEmptyInline };
 
     ghost has_put = { HoldsByLength };
+
+    ghost put_cost = { taken_cost B.SHARES };
 
     fn take_vec_metered(
         &mut self,
@@ -36,7 +39,8 @@ impl<'b, B: Backend> Source for HipByt<'b, B> {
 }
 
 impl<'b, B: Backend> HipByt<'b, B> {
-    /// Lends the bytes out in a vector, which [`RefMut::finish`] writes back. Until then the value is empty.
+    /// Lends the bytes out in a vector, which [`RefMut::finish`] writes back. Until then the value is empty. A refused call changes
+    /// nothing, as [`HipByt::take_vec`] says of its own.
     pub fn mutate(&mut self, alloc: Global) -> Result<RefMut<'_, Self>, AllocError>
         ensures items { IfOk result (λ guard. lent_items guard ≡ self.old.items) }
         ensures emptied { IfOk result (λ guard. IsEmptyInline (lent_source guard)) }

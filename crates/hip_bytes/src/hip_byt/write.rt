@@ -1,5 +1,5 @@
 //! Writing in place.
-ghost use Rattle.std.specs.Prelude.{◌≡◌, ◌+◌, ◌<◌, ◌≤◌, false, length, map, slice_set, IsSome, IfSome, IfNone, IfOk, OnOk, OnErr, OnSome};
+ghost use Rattle.std.specs.Prelude.{◌≡◌, ◌+◌, ◌≤◌, false, length, map, IsSome, IfSome, IfNone, IfOk, OnOk, OnErr, OnSome};
 ghost use Rattle.std.specs.Char.{to_ascii_lowercase, to_ascii_uppercase};
 ghost use Rattle.std.specs.Fn.{FnOnceReturnsAtMut, FnOnceTakesAtMut};
 ghost use Rattle.hip_raw.specs.Meter.{RisesAtMost, times_copied};
@@ -109,7 +109,8 @@ impl<'b, B: Backend> HipByt<'b, B> {
         Ok(answer)
     }
 
-    /// The bytes, for writing. Bytes that another value lends, or that another handle shares, are copied first.
+    /// The bytes, for writing. Bytes that another value lends, or that another handle shares, are copied first. A refused call changes
+    /// nothing, as [`HipByt::with_to_mut_slice`] says of its own.
     #[inline]
     pub fn to_mut_slice(&mut self, alloc: Global) -> Result<&mut [u8], AllocError>
         ensures items { IfOk result (λ bytes. bytes.now ≡ self.old.items) }
@@ -142,6 +143,7 @@ impl<'b, B: Backend> HipByt<'b, B> {
         ensures items { OnOk result (self.new.items ≡ map to_ascii_lowercase self.old.items) }
         ensures kind { OnOk result (self.new.kind ≡ owned_kind self.old.kind (length self.old.items)) }
         ensures capacity { OnOk result (HasCapacity self.new.kind (length self.new.items) self.new.capacity) }
+        ensures kept { B.SHARES ≡ false → self.old.kind ≡ Kind.Allocated → self.new.capacity ≡ self.old.capacity }
         ensures memory { OnErr result (WriteNeedsMemory B.SHARES self.old.kind (length self.old.items)) }
         ensures err { OnErr result (self.new ≡ self.old) }
     {
@@ -158,6 +160,7 @@ impl<'b, B: Backend> HipByt<'b, B> {
         ensures items { OnOk result (self.new.items ≡ map to_ascii_lowercase self.old.items) }
         ensures kind { OnOk result (self.new.kind ≡ owned_kind self.old.kind (length self.old.items)) }
         ensures capacity { OnOk result (HasCapacity self.new.kind (length self.new.items) self.new.capacity) }
+        ensures kept { B.SHARES ≡ false → self.old.kind ≡ Kind.Allocated → self.new.capacity ≡ self.old.capacity }
         ensures memory { OnErr result (WriteNeedsMemory B.SHARES self.old.kind (length self.old.items)) }
         ensures counted { RisesAtMost meter.old meter.new (write_cost B.SHARES self.old.kind (length self.old.items)) }
         ensures err { OnErr result (self.new ≡ self.old) }
@@ -200,6 +203,7 @@ impl<'b, B: Backend> HipByt<'b, B> {
         ensures items { OnOk result (self.new.items ≡ map to_ascii_uppercase self.old.items) }
         ensures kind { OnOk result (self.new.kind ≡ owned_kind self.old.kind (length self.old.items)) }
         ensures capacity { OnOk result (HasCapacity self.new.kind (length self.new.items) self.new.capacity) }
+        ensures kept { B.SHARES ≡ false → self.old.kind ≡ Kind.Allocated → self.new.capacity ≡ self.old.capacity }
         ensures memory { OnErr result (WriteNeedsMemory B.SHARES self.old.kind (length self.old.items)) }
         ensures err { OnErr result (self.new ≡ self.old) }
     {
@@ -216,6 +220,7 @@ impl<'b, B: Backend> HipByt<'b, B> {
         ensures items { OnOk result (self.new.items ≡ map to_ascii_uppercase self.old.items) }
         ensures kind { OnOk result (self.new.kind ≡ owned_kind self.old.kind (length self.old.items)) }
         ensures capacity { OnOk result (HasCapacity self.new.kind (length self.new.items) self.new.capacity) }
+        ensures kept { B.SHARES ≡ false → self.old.kind ≡ Kind.Allocated → self.new.capacity ≡ self.old.capacity }
         ensures memory { OnErr result (WriteNeedsMemory B.SHARES self.old.kind (length self.old.items)) }
         ensures counted { RisesAtMost meter.old meter.new (write_cost B.SHARES self.old.kind (length self.old.items)) }
         ensures err { OnErr result (self.new ≡ self.old) }

@@ -34,6 +34,7 @@ fn runs<B: Backend>(rt: &impl Abort, alloc: Global) -> Result<(), Fail> {
     let mut meter = Meter::new();
     assert_eq!(rt; pool.len(), 3);
     assert!(rt; !pool.is_empty());
+    assert!(rt; Pool::<B>::new(alloc, 0)?.is_empty());
     let commands = [
         Command::Copy(0, b"Hello John"),
         Command::Slice(0, 1, Bound::Included(6), Bound::Unbounded),

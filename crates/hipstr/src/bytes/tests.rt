@@ -1,5 +1,6 @@
 //! What no clause says: that calls succeed where there is memory, exact texts, and values from outside. On either backend.
-use crate::{Backend, HipByt, Kind, Meter, Rc, SliceErrorKind, SliceRefusal, Unique};
+use super::{HipByt, Kind, SliceErrorKind, SliceRefusal};
+use crate::{Backend, Meter, Rc, Unique};
 use std::alloc::Global;
 use std::convert::AsSlice;
 use std::ops::Bound;

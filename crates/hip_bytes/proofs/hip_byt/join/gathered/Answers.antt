@@ -1,9 +1,9 @@
 use Rattle.std.proofs.Common.{◌≡◌, ◌∙◌, ◌+◌, ◌≤◌, ◌++◌, ◌∷◌, ◌&&◌, [], nat_le, length, length-append, Err, ap, arith}
 use Rattle.std.proofs.iter.Next.{Yields-more}
-use Rattle.hip_bytes.specs.declared.grow_fault.GrowFault.TheVariants.{TooLong}
-use Rattle.hip_bytes.proofs.Joins.{length-joined-snoc, joined-more, gap_before-snoc, fits_before, spilled_once}
+use Rattle.hip_bytes.specs.declared.grow_fault.GrowFault.TheVariants.{TooLong, Memory}
+use Rattle.hip_bytes.proofs.Joins.{length-joined-snoc, joined-more, gap-snoc, fits_before, spilled_once, refused_long}
 use Rattle.hip_bytes.specs.declared.kind.TheConstants.{INLINE_CAPACITY}
-use Rattle.hip_bytes.proofs.hip_byt.HipByt.join_metered.Goals as goal
+use Rattle.hip_bytes.proofs.hip_byt.join.gathered.Goals as goal
 
 pub returns-in-Err-clause-too_long : goal.returns-in-Err-clause-too_long
 returns-in-Err-clause-too_long g c = λ e.
@@ -13,6 +13,15 @@ returns-in-Err-clause-too_long g c = λ e.
     let steps = Yields-more g.I.IntoIter.Iterator.next_gives c.into_iter-piece-iterator.result c.loop-piece.yielded c.loop-piece.piece-iterator c.in-Some.piece c.next.new.self c.loop-piece.yielded_by c.in-Some.ensures.steps in
     (c.into_iter-piece-iterator.result, c.loop-piece.yielded ++ c.in-Some.piece ∷ [], c.next.new.self, c.into_iter-piece-iterator.ensures.into_iter_gives, steps, omega (arith, length_is, long))
 
+pub returns-in-Err-clause-memory : goal.returns-in-Err-clause-memory
+returns-in-Err-clause-memory g c = λ e.
+    let fault : c.in-Err.fault ≡ Memory = cc in
+    let made = c.loop-piece.made in
+    let length_is = length-joined-snoc c.args.sep.now c.loop-piece.yielded c.in-Some.piece made.items c.loop-piece.gap.now c.loop-piece.invariant.items c.loop-piece.invariant.gap in
+    let steps = Yields-more g.I.IntoIter.Iterator.next_gives c.into_iter-piece-iterator.result c.loop-piece.yielded c.loop-piece.piece-iterator c.in-Some.piece c.next.new.self c.loop-piece.yielded_by c.in-Some.ensures.steps in
+    let long = refused_long made.in_handle (length made.items) (length made.items + length c.loop-piece.gap.now + length c.in-Some.piece.now) c.loop-piece.invariant.place (c.in-Err.ensures.memory (ap Err fault)) (omega arith) in
+    (c.into_iter-piece-iterator.result, c.loop-piece.yielded ++ c.in-Some.piece ∷ [], c.next.new.self, c.into_iter-piece-iterator.ensures.into_iter_gives, steps, omega (arith, length_is, long))
+
 pub loop-piece-preserved : goal.loop-piece-preserved
 loop-piece-preserved g c =
     let more = c.in_default.ensures in
@@ -20,7 +29,7 @@ loop-piece-preserved g c =
     let grown : length c.loop-piece.made.items ≤ length c.add_behind.new.self.items = omega arith in
     record {
       items = more.items ∙ joined-more c.args.sep.now c.loop-piece.yielded c.in-Some.piece c.loop-piece.made.items c.loop-piece.gap.now c.loop-piece.invariant.items c.loop-piece.invariant.gap;
-      gap = gap_before-snoc c.args.sep.now c.loop-piece.yielded c.in-Some.piece;
+      gap = gap-snoc c.args.sep.now c.loop-piece.yielded c.in-Some.piece;
       place = more.place ∙ ap (λ b. b && nat_le (length c.add_behind.new.self.items) INLINE_CAPACITY) c.loop-piece.invariant.place ∙ fits_before _ _ INLINE_CAPACITY grown;
       counted = record {
         never_falls = omega (arith, more.counted.never_falls);

@@ -1,6 +1,7 @@
 //! Values from outside for what writes, converts, repeats, joins and compares, and that such calls succeed where there is memory. On
 //! either backend.
-use crate::{Backend, GrowFault, HipByt, Kind, Meter, Rc, Unique};
+use super::{GrowFault, HipByt, Kind};
+use crate::{Backend, Meter, Rc, Unique};
 use std::alloc::Global;
 use std::borrow::CowSlice;
 use std::cmp::Ordering;
@@ -196,7 +197,9 @@ fn repetitions<B: Backend>(rt: &impl Abort, alloc: Global) -> Result<(), Fail> {
     assert!(rt; HipByt::<B>::new().repeat(alloc, usize::MAX)?.is_empty());
     let lent = HipByt::<B>::borrowed(LETTERS);
     assert!(rt; lent.repeat(alloc, 1)?.is_borrowed());
-    assert_eq!(rt; lent.repeat(alloc, 2)?.len(), 52);
+    let mut meter = Meter::new();
+    let twice = lent.repeat_metered(alloc, 2, &mut meter)?;
+    assert_eq!(rt; (twice.len(), meter.copied()), (52, 52));
     Ok(())
 }
 
@@ -215,6 +218,12 @@ fn joins<B: Backend>(rt: &impl Abort, alloc: Global) -> Result<(), Fail> {
     };
     assert!(rt; part.eq_slice(b", ab"));
     assert!(rt; joined == HipByt::join_slices(alloc, &lines, b", ")?);
+    let mut meter = Meter::new();
+    let counted = HipByt::<B>::join_slices_metered(alloc, &lines, b", ", &mut meter)?;
+    assert_eq!(rt; (counted.len(), meter.copied()), (54, 54));
+    let mut meter = Meter::new();
+    let counted = HipByt::<B>::join_metered(alloc, lines, b", ", &mut meter)?;
+    assert_eq!(rt; (counted.len(), meter.copied()), (54, 54));
     Ok(())
 }
 
@@ -240,6 +249,8 @@ fn comparisons<B: Backend>(rt: &impl Abort, alloc: Global) -> Result<(), Fail> {
     assert!(rt; lent < copied);
     assert_eq!(rt; lent.cmp_slice(b"abc"), Ordering::Equal);
     assert_eq!(rt; lent.cmp_slice(b"abd"), Ordering::Less);
+    assert!(rt; !lent.eq_slice(b"abd"));
+    assert!(rt; !copied.eq_with(&HipByt::<Unique>::borrowed(b"abc")));
     assert_eq!(rt;
         copied.cmp_with(&HipByt::<Unique>::borrowed(b"abc")),
         Ordering::Greater
