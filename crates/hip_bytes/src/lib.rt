@@ -27,7 +27,7 @@ mod slice_error;
 
 pub use grow_fault::GrowFault;
 pub use hip_byt::HipByt;
-pub use hip_raw::{Backend, Meter, Rc, Unique};
+pub use hip_raw::{Backend, Block, Meter, Rc, Unique};
 pub use kind::{INLINE_CAPACITY, Kind};
 pub use ref_mut::{RefMut, Source};
 pub use slice_error::{SliceError, SliceErrorKind, SliceRefusal};

@@ -1,5 +1,6 @@
 pub mod Allocated
 pub mod Appended
+pub mod Block
 pub mod Borrowed
 pub mod Cells
 pub mod Held

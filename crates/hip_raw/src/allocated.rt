@@ -7,6 +7,7 @@ ghost use Rattle.hip_raw.specs.Meter.{RisesAtMost, times_copied, unless_shared};
 
 use crate::appended::Appended;
 use crate::backend::Backend;
+use crate::block::Block;
 use crate::meter::{Meter, copy_counted, copy_with_capacity};
 use crate::room::{Room, cut, write_range};
 use std::alloc::{AllocError, Global};
@@ -66,6 +67,26 @@ impl<B: Backend> Allocated<B> {
             start: 0,
             len,
         })
+    }
+
+    /// [`Allocated::new_metered`], in a block that an owner left.
+    #[inline]
+    pub fn new_in_metered(
+        block: Block,
+        alloc: Global,
+        vec: Vec<u8>,
+        meter: &mut Meter,
+    ) -> Result<Self, Vec<u8>>
+        ensures items { IfOk result (λ made. made.items ≡ vec.items) }
+        ensures fits { IfOk result (λ made. length made.items ≤ made.capacity) }
+        ensures capacity { IfOk result (λ made. vec_capacity vec ≤ made.capacity) }
+        ensures counted { RisesAtMost meter.old meter.new (unless_shared B.SHARES (vec_len vec)) }
+        ensures handed_back { IfErr result (λ back. back ≡ vec) }
+        ensures refused_copies_nothing { OnErr result (meter.new ≡ meter.old) }
+    {
+        let (start, len) = (0, vec.len());
+        let owner = B::own_in(block, alloc, vec, meter)?;
+        Ok(Allocated { owner, start, len })
     }
 
     /// These bytes again, under an owner of their own.
@@ -252,6 +273,36 @@ impl<B: Backend> Allocated<B> {
             Ok(mut vec) => {
                 vec.truncate(len);
                 Ok(vec)
+            }
+            Err(owner) => Err(Allocated { owner, start, len }),
+        }
+    }
+
+    /// [`Allocated::try_into_vec_metered`] that keeps the owner's block, for [`Allocated::new_in_metered`].
+    #[inline]
+    pub fn try_take_vec_metered(
+        self,
+        alloc: Global,
+        meter: &mut Meter,
+    ) -> Result<(Vec<u8>, Block), Self>
+        ensures items { IfOk result (λ taken. taken.0.items ≡ self.items) }
+        ensures counted { RisesAtMost meter.old meter.new (unless_shared B.SHARES (length self.items)) }
+        ensures handed_back { IfErr result (λ back. back ≡ self) }
+        ensures refused_copies_nothing { OnErr result (meter.new ≡ meter.old) }
+    {
+        if self.start > 0 {
+            return Err(self);
+        }
+        let Allocated {
+            mut owner,
+            start,
+            len,
+        } = self;
+        cut(&mut owner, len);
+        match owner.try_take_vec(alloc, meter) {
+            Ok((mut bytes, block)) => {
+                bytes.truncate(len);
+                Ok((bytes, block))
             }
             Err(owner) => Err(Allocated { owner, start, len }),
         }

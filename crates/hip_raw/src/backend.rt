@@ -6,6 +6,7 @@ ghost use Rattle.hip_raw.specs.Meter.{RisesAtMost, unless_shared};
 ghost use Rattle.hip_raw.specs.Window.{window};
 
 use crate::appended::Appended;
+use crate::block::Block;
 use crate::meter::Meter;
 use crate::room::Room;
 use std::alloc::{AllocError, Global};
@@ -14,7 +15,7 @@ use std::alloc::{AllocError, Global};
 ///
 /// Any implementor that keeps these contracts serves the handles above. A call that takes memory on some backend is passed the
 /// allocator, and a refusal is one of memory, unless it says that the owner is shared.
-pub trait Backend: Drop {
+pub trait Backend: Drop + Sized {
     // The list, and how many bytes it can hold with no new memory.
     ghost items: { Self → List ℕ };
 
@@ -59,6 +60,18 @@ pub trait Backend: Drop {
         ensures handed_back { IfErr result (λ back. back ≡ vec) }
         ensures refused_copies_nothing { OnErr result (meter.new ≡ meter.old) };
 
+    /// The bytes in a vector, unless the owner is shared. A refused owner is handed back.
+    #[inline]
+    fn try_into_vec(self, alloc: Global, meter: &mut Meter) -> Result<Vec<u8>, Self>
+        ensures items { IfOk result (λ vec. vec.items ≡ items self) }
+        ensures counted { RisesAtMost meter.old meter.new (unless_shared SHARES (length (items self))) }
+        ensures handed_back { IfErr result (λ back. back ≡ self) }
+        ensures refused_copies_nothing { OnErr result (meter.new ≡ meter.old) }
+    {
+        let (vec, _block) = self.try_take_vec(alloc, meter)?;
+        Ok(vec)
+    }
+
     /// The bytes.
     fn as_slice(&self) -> &[u8]
         ensures items { result.now ≡ items self.now }
@@ -91,9 +104,20 @@ pub trait Backend: Drop {
         ensures refused { OnRefused result ((items self.new ≡ items self.old) × (capacity self.new ≡ capacity self.old)) }
         ensures refused_copies_nothing { OnRefused result (meter.new ≡ meter.old) };
 
-    /// The bytes in a vector, unless the owner is shared. A refused owner is handed back.
-    fn try_into_vec(self, alloc: Global, meter: &mut Meter) -> Result<Vec<u8>, Self>
-        ensures items { IfOk result (λ vec. vec.items ≡ items self) }
+    /// [`Backend::own`] in a block that an owner left, for which no memory is taken.
+    fn own_in(block: Block, alloc: Global, vec: Vec<u8>, meter: &mut Meter) -> Result<Self, Vec<u8>>
+        ensures items { IfOk result (λ owner. items owner ≡ vec.items) }
+        ensures capacity { IfOk result (λ owner. vec_capacity vec ≤ capacity owner) }
+        ensures fits { IfOk result (λ owner. length (items owner) ≤ capacity owner) }
+        ensures bound { IfOk result (λ owner. length (items owner) < 2 ^ 64) }
+        ensures counted { RisesAtMost meter.old meter.new (unless_shared SHARES (vec_len vec)) }
+        ensures handed_back { IfErr result (λ back. back ≡ vec) }
+        ensures refused_copies_nothing { OnErr result (meter.new ≡ meter.old) };
+
+    /// The bytes in a vector, and the block that it lay in, for [`Backend::own_in`]; unless the owner is shared. A refused owner is
+    /// handed back.
+    fn try_take_vec(self, alloc: Global, meter: &mut Meter) -> Result<(Vec<u8>, Block), Self>
+        ensures items { IfOk result (λ taken. taken.0.items ≡ items self) }
         ensures counted { RisesAtMost meter.old meter.new (unless_shared SHARES (length (items self))) }
         ensures handed_back { IfErr result (λ back. back ≡ self) }
         ensures refused_copies_nothing { OnErr result (meter.new ≡ meter.old) };

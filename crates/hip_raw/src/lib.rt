@@ -3,7 +3,8 @@
 //! - [`Meter`] counts copied bytes. [`fill_counted`] is the one function that copies them. By it [`extend_counted`] appends to a vector,
 //!   [`copy_counted`] and [`copy_with_capacity`] make one, and a [`Filling`] gathers many parts.
 //! - [`Backend`] is what an owner promises, to this crate and to any other implementor: [`Rc`], which many handles share, and
-//!   [`Unique`], which has one. A sole owner lends a [`Room`], and an append answers [`Appended`].
+//!   [`Unique`], which has one. A sole owner lends a [`Room`], an append answers [`Appended`], and a vector that was taken out
+//!   leaves a [`Block`].
 //! - [`Inline`], [`Borrowed`] and [`Allocated`] are the three representations of a byte string: in the handle itself, lent by
 //!   another value, or a range of an owner's list.
 //!
@@ -19,6 +20,7 @@
 mod allocated;
 mod appended;
 mod backend;
+mod block;
 mod borrowed;
 mod filling;
 mod inline;
@@ -32,6 +34,7 @@ mod unique;
 pub use allocated::Allocated;
 pub use appended::Appended;
 pub use backend::Backend;
+pub use block::Block;
 pub use borrowed::Borrowed;
 pub use filling::Filling;
 pub use inline::Inline;

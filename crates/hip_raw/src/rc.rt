@@ -3,10 +3,11 @@ ghost use Rattle.std.specs.Prelude.{true, vec_capacity, refl};
 
 use crate::appended::{Appended, append_to};
 use crate::backend::Backend;
+use crate::block::Block;
 use crate::meter::Meter;
 use std::alloc::{AllocError, Global};
 use std::marker::Model;
-use std::rc;
+use std::{mem, rc};
 
 /// An owner that many handles share: the standard `Rc` over a vector.
 #[derive(Drop)]
@@ -89,11 +90,33 @@ impl Backend for Rc {
     }
 
     #[inline]
-    fn try_into_vec(self, _alloc: Global, _meter: &mut Meter) -> Result<Vec<u8>, Self> {
-        let Rc { vec } = self;
-        match rc::Rc::try_unwrap(vec) {
-            Ok(vec) => Ok(vec),
-            Err(vec) => Err(Rc { vec }),
+    fn own_in(
+        block: Block,
+        alloc: Global,
+        vec: Vec<u8>,
+        meter: &mut Meter,
+    ) -> Result<Self, Vec<u8>> {
+        let Some(mut place) = block.place else {
+            return Self::own(alloc, vec, meter);
+        };
+        match rc::Rc::get_mut(&mut place) {
+            Some(empty) => {
+                *empty = vec;
+                Ok(Rc { vec: place })
+            }
+            None => Self::own(alloc, vec, meter),
+        }
+    }
+
+    #[inline]
+    fn try_take_vec(self, alloc: Global, _meter: &mut Meter) -> Result<(Vec<u8>, Block), Self> {
+        let Rc { mut vec } = self;
+        match rc::Rc::get_mut(&mut vec) {
+            Some(place) => {
+                let taken = mem::replace(place, Vec::new(alloc));
+                Ok((taken, Block { place: Some(vec) }))
+            }
+            None => Err(Rc { vec }),
         }
     }
 

@@ -5,6 +5,6 @@ mod growth_tests;
 mod tests;
 
 pub use hip_bytes::{
-    GrowFault, HipByt, INLINE_CAPACITY, Kind, RefMut, SliceError, SliceErrorKind, SliceRefusal,
-    Source,
+    Block, GrowFault, HipByt, INLINE_CAPACITY, Kind, RefMut, SliceError, SliceErrorKind,
+    SliceRefusal, Source,
 };

@@ -6,10 +6,12 @@ ghost use Rattle.hip_bytes.specs.Handle.{IsEmptyInline};
 ghost use Rattle.hip_bytes.specs.Kinds.{HoldsByLength};
 ghost use Rattle.hip_bytes.specs.RefMut.{lent_items, lent_source};
 
-use super::HipByt;
+use super::{HipByt, Repr};
+use crate::kind::INLINE_CAPACITY;
 use crate::ref_mut::{RefMut, Source};
-use hip_raw::{Backend, Meter};
+use hip_raw::{Allocated, Backend, Block, Meter};
 use std::alloc::{AllocError, Global};
+use std::mem;
 
 impl<'b, B: Backend> Source for HipByt<'b, B> {
     ghost items = { λ handle. handle.items };
@@ -20,21 +22,37 @@ impl<'b, B: Backend> Source for HipByt<'b, B> {
 
     ghost put_cost = { taken_cost B.SHARES };
 
-    fn take_vec_metered(
+    #[inline]
+    fn lend_vec_metered(
         &mut self,
         alloc: Global,
         meter: &mut Meter,
-    ) -> Result<Vec<u8>, AllocError> {
-        HipByt::take_vec_metered(self, alloc, meter)
+    ) -> Result<(Vec<u8>, Block), AllocError> {
+        match mem::take(self).bare.repr {
+            Repr::Allocated(allocated) => match allocated.try_take_vec_metered(alloc, meter) {
+                Ok(lent) => return Ok(lent),
+                Err(allocated) => *self = HipByt::of(Repr::Allocated(allocated)),
+            },
+            repr => *self = HipByt::of(repr),
+        }
+        let vec = self.take_vec_metered(alloc, meter)?;
+        Ok((vec, Block::none()))
     }
 
-    fn put_vec_metered(
+    #[inline]
+    fn put_back_metered(
         &mut self,
         alloc: Global,
         vec: Vec<u8>,
+        block: Block,
         meter: &mut Meter,
     ) -> Result<(), Vec<u8>> {
-        HipByt::put_vec_metered(self, alloc, vec, meter)
+        if vec.len() <= INLINE_CAPACITY {
+            return self.put_vec_metered(alloc, vec, meter);
+        }
+        let allocated = Allocated::new_in_metered(block, alloc, vec, meter)?;
+        *self = HipByt::of(Repr::Allocated(allocated));
+        Ok(())
     }
 }
 
@@ -58,7 +76,7 @@ impl<'b, B: Backend> HipByt<'b, B> {
         ensures emptied { IfOk result (λ guard. IsEmptyInline (lent_source guard)) }
         ensures counted { RisesAtMost meter.old meter.new (length self.old.items) }
     {
-        let vec = HipByt::take_vec_metered(self, alloc, meter)?;
-        Ok(RefMut::new(self, vec))
+        let (vec, block) = self.lend_vec_metered(alloc, meter)?;
+        Ok(RefMut::new(self, vec, block))
     }
 }

@@ -6,6 +6,7 @@ use std::alloc::Global;
 use std::borrow::CowSlice;
 use std::cmp::Ordering;
 use std::collections::{BTreeMap, HashMap};
+use std::fmt;
 use std::process::Abort;
 use std::test::Fail;
 
@@ -163,12 +164,48 @@ fn lets_go<B: Backend>(handle: &mut HipByt<B>, alloc: Global) -> Result<(), Fail
     Ok(())
 }
 
+/// The bytes but the first, of which no other handle is left.
+fn without_first<'b, B: Backend>(
+    handle: HipByt<'b, B>,
+    alloc: Global,
+) -> Result<HipByt<'b, B>, Fail> {
+    let Ok(tail) = handle.try_slice(alloc, 1..) else {
+        return Err(Fail::from("a valid range"));
+    };
+    Ok(tail)
+}
+
+/// Cuts the vector that is lent to five bytes.
+fn shortens<B: Backend>(handle: &mut HipByt<B>, alloc: Global) -> Result<(), Fail> {
+    let mut guard = handle.mutate(alloc)?;
+    guard.as_mut_vec().truncate(5);
+    guard.finish(alloc).or(Err("no memory"))?;
+    Ok(())
+}
+
+/// A value as `Debug` shows it.
+fn text_of<T: fmt::Debug>(value: &T, alloc: Global) -> Result<String, Fail> {
+    Ok(format!(in alloc; "{value:?}")?)
+}
+
+/// The vector that is lent, as `Debug` shows it.
+fn shown<B: Backend>(handle: &mut HipByt<B>, alloc: Global) -> Result<String, Fail> {
+    let guard = handle.mutate(alloc)?;
+    text_of(&guard, alloc)
+}
+
 fn lends_a_vector<B: Backend>(rt: &impl Abort, alloc: Global) -> Result<(), Fail> {
     let mut handle = HipByt::<B>::from_slice(alloc, b"Hello, World!")?;
     assert_eq!(rt; adds(&mut handle, alloc, b'!')?, 14);
     assert!(rt; handle.eq_slice(b"Hello, World!!") && handle.is_inline());
     lets_go(&mut handle, alloc)?;
     assert!(rt; handle.is_empty() && handle.is_inline());
+    let text = shown(&mut HipByt::<B>::inline(b"ab"), alloc)?;
+    assert_eq!(rt; text.as_str(), "[97, 98]");
+    Ok(())
+}
+
+fn lends_a_shared_list<B: Backend>(rt: &impl Abort, alloc: Global) -> Result<(), Fail> {
     let many = [b'a'; 42];
     let mut handle = HipByt::<B>::from_slice(alloc, &many)?;
     let clone = handle.clone(alloc)?;
@@ -180,6 +217,24 @@ fn lends_a_vector<B: Backend>(rt: &impl Abort, alloc: Global) -> Result<(), Fail
     lets_go(&mut handle, alloc)?;
     assert!(rt; handle.is_empty() && handle.is_inline());
     assert!(rt; clone.eq_slice(&many));
+    Ok(())
+}
+
+fn lends_a_sole_list<B: Backend>(rt: &impl Abort, alloc: Global) -> Result<(), Fail> {
+    let mut handle = HipByt::<B>::from_slice(alloc, LETTERS)?;
+    assert_eq!(rt; adds(&mut handle, alloc, b'1')?, 27);
+    let mut tail = without_first(handle, alloc)?;
+    assert_eq!(rt; adds(&mut tail, alloc, b'2')?, 27);
+    assert!(rt; tail.eq_slice(b"bcdefghijklmnopqrstuvwxyz12"));
+    tail.truncate(24);
+    assert_eq!(rt; adds(&mut tail, alloc, b'3')?, 25);
+    assert!(rt; tail.eq_slice(b"bcdefghijklmnopqrstuvwxy3"));
+    assert_eq!(rt; tail.kind(), Kind::Allocated);
+    shortens(&mut tail, alloc)?;
+    assert_eq!(rt;
+        (tail.as_slice(), tail.kind()),
+        (b"bcdef".as_slice(), Kind::Inline)
+    );
     Ok(())
 }
 
@@ -218,6 +273,11 @@ fn joins<B: Backend>(rt: &impl Abort, alloc: Global) -> Result<(), Fail> {
     };
     assert!(rt; part.eq_slice(b", ab"));
     assert!(rt; joined == HipByt::join_slices(alloc, &lines, b", ")?);
+    Ok(())
+}
+
+fn counted_joins<B: Backend>(rt: &impl Abort, alloc: Global) -> Result<(), Fail> {
+    let lines: [&[u8]; 2] = [LETTERS, LETTERS];
     let mut meter = Meter::new();
     let counted = HipByt::<B>::join_slices_metered(alloc, &lines, b", ", &mut meter)?;
     assert_eq!(rt; (counted.len(), meter.copied()), (54, 54));
@@ -272,8 +332,11 @@ fn all<B: Backend>(rt: &impl Abort, alloc: Global) -> Result<(), Fail> {
     writes::<B>(rt, alloc)?;
     mutations::<B>(rt, alloc)?;
     lends_a_vector::<B>(rt, alloc)?;
+    lends_a_shared_list::<B>(rt, alloc)?;
+    lends_a_sole_list::<B>(rt, alloc)?;
     repetitions::<B>(rt, alloc)?;
     joins::<B>(rt, alloc)?;
+    counted_joins::<B>(rt, alloc)?;
     shrinks::<B>(rt, alloc)?;
     comparisons::<B>(rt, alloc)
 }

@@ -1,0 +1,20 @@
+//! What is left of an owner without its bytes.
+ghost use Rattle.hip_raw.specs.Block.{IsNoBlock};
+
+use std::rc;
+
+/// The block of an owner whose vector was taken out, or none. An owner that is made in it takes no memory of its own.
+#[derive(Drop)]
+pub struct Block {
+    pub(crate) place: Option<rc::Rc<Vec<u8>>>,
+}
+
+impl Block {
+    /// No block.
+    #[inline]
+    pub fn none() -> Self
+        ensures { IsNoBlock result }
+    {
+        Block { place: None }
+    }
+}
