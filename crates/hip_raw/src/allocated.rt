@@ -260,25 +260,11 @@ impl<B: Backend> Allocated<B> {
         ensures handed_back { IfErr result (λ back. back ≡ self) }
         ensures refused_copies_nothing { OnErr result (meter.new ≡ meter.old) }
     {
-        if self.start != 0 {
-            return Err(self);
-        }
-        let Allocated {
-            mut owner,
-            start,
-            len,
-        } = self;
-        cut(&mut owner, len);
-        match owner.try_into_vec(alloc, meter) {
-            Ok(mut vec) => {
-                vec.truncate(len);
-                Ok(vec)
-            }
-            Err(owner) => Err(Allocated { owner, start, len }),
-        }
+        let (vec, _block) = self.try_take_vec_metered(alloc, meter)?;
+        Ok(vec)
     }
 
-    /// [`Allocated::try_into_vec_metered`] that keeps the owner's block, for [`Allocated::new_in_metered`].
+    /// [`Allocated::try_into_vec_metered`], and the block that the vector lay in, for [`Allocated::new_in_metered`].
     #[inline]
     pub fn try_take_vec_metered(
         self,
@@ -290,7 +276,7 @@ impl<B: Backend> Allocated<B> {
         ensures handed_back { IfErr result (λ back. back ≡ self) }
         ensures refused_copies_nothing { OnErr result (meter.new ≡ meter.old) }
     {
-        if self.start > 0 {
+        if self.start != 0 {
             return Err(self);
         }
         let Allocated {
@@ -300,9 +286,9 @@ impl<B: Backend> Allocated<B> {
         } = self;
         cut(&mut owner, len);
         match owner.try_take_vec(alloc, meter) {
-            Ok((mut bytes, block)) => {
-                bytes.truncate(len);
-                Ok((bytes, block))
+            Ok((mut vec, block)) => {
+                vec.truncate(len);
+                Ok((vec, block))
             }
             Err(owner) => Err(Allocated { owner, start, len }),
         }

@@ -14,7 +14,7 @@
 //!
 //! The words of the contracts stand in `specs/`: `Held` (what a contract sees of an owner and of an allocated handle), `Meter` (what is
 //! copied), `Window` (a part of a list), `Appended` (facts by the answer of an append), `Allocated` (what holds of a handle's range),
-//! `Borrowed` and `Inline`.
+//! `Block`, `Borrowed` and `Inline`.
 #![tactic(auto)]
 
 mod allocated;

@@ -57,8 +57,9 @@ impl<'b, B: Backend> Source for HipByt<'b, B> {
 }
 
 impl<'b, B: Backend> HipByt<'b, B> {
-    /// Lends the bytes out in a vector, which [`RefMut::finish`] writes back. Until then the value is empty. A refused call changes
-    /// nothing, as [`HipByt::take_vec`] says of its own.
+    /// Lends the bytes out in a vector, which [`RefMut::finish`] writes back. Until then the value is empty. Where the bytes begin the
+    /// list of an owner that no other handle shares, neither call takes memory of its own. A refused call changes nothing, as
+    /// [`Source::lend_vec_metered`] says of its own.
     pub fn mutate(&mut self, alloc: Global) -> Result<RefMut<'_, Self>, AllocError>
         ensures items { IfOk result (λ guard. lent_items guard ≡ self.old.items) }
         ensures emptied { IfOk result (λ guard. IsEmptyInline (lent_source guard)) }
