@@ -2,7 +2,14 @@
 use Rattle.std.proofs.Common.{◌≡◌, ◌∙◌, ℕ, zero, suc, ◌+◌, ◌*◌, ◌-◌, ◌≤◌, List, [], ◌∷◌, ◌++◌, length, take, refl, sym, ap, append_assoc, length-append, arith}
 use Rattle.std.proofs.Math.Nat.{add-mul, suc-mul, mul-le-mul_right}
 use Rattle.std.proofs.Math.Seq.{take-append_seam}
+use Rattle.std.proofs.Common.{◌<◌, ◌^◌, subst, rules, Result, Ok, Err, IfErr}
 use Rattle.std.specs.List.{repeat}
+use Rattle.hip_bytes.specs.Handle.{Handle}
+use Rattle.hip_bytes.specs.Join.{repeated_kind, RepeatNeedsMemory}
+use Rattle.hip_bytes.specs.Kinds.{Holds}
+use Rattle.hip_bytes.specs.Made.{CloneAnswers, RepeatAnswers}
+use Rattle.hip_bytes.specs.declared.grow_fault.GrowFault.{GrowFault}
+use Rattle.hip_bytes.specs.declared.grow_fault.GrowFault.TheVariants.{Memory, TooLong}
 
 -- the list so many times, and then some more times
 pub repeat-append : (m n : ℕ) (xs : List ℕ) → repeat m xs ++ repeat n xs ≡ repeat (m + n) xs
@@ -32,3 +39,17 @@ pub repeat-nothing : (n : ℕ) (xs : List ℕ) → length xs ≡ 0 → xs ≡ re
 repeat-nothing zero [] none = refl
 repeat-nothing (suc n) [] none = repeat-nothing n [] none
 repeat-nothing n (x ∷ xs) none = absurd (omega arith)
+
+-- a clone of nothing is nothing, however often
+pub clone-of-nothing : (source : Handle) (n : ℕ) (result : Result Handle GrowFault) → length source.items ≡ 0 → CloneAnswers source result
+    → IfErr result (λ fault. fault ≡ Memory) → RepeatAnswers source n result
+clone-of-nothing source n (Ok copy) none clone memory = (
+  subst (λ items. Holds copy (repeated_kind source.kind (length source.items) n) items) (repeat-nothing n source.items none)
+      (subst (λ len. Holds copy (repeated_kind source.kind len n) source.items) (sym none) clone),
+  subst (λ len. n * len < 2 ^ 64) (sym none) (omega arith),
+)
+clone-of-nothing source n (Err Memory) none clone memory = (
+  subst (λ len. RepeatNeedsMemory source.kind len n) (sym none) clone,
+  subst (λ len. n * len < 2 ^ 64) (sym none) (omega arith),
+)
+clone-of-nothing source n (Err TooLong) none clone memory = search rules

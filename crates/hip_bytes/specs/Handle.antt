@@ -1,15 +1,9 @@
 -- What a clause sees of a handle. Bytes are a list of numbers below 256 (Rust's `[u8]`).
-use Rattle.std.specs.Prelude.{◌≡◌, ℕ, List, []}
+use Rattle.std.specs.Prelude.{ℕ, List}
 use Rattle.hip_bytes.specs.declared.kind.Kind.{Kind}
-use Rattle.hip_bytes.specs.declared.kind.Kind.TheVariants.{Inline}
-use Rattle.hip_bytes.specs.declared.kind.TheConstants.{INLINE_CAPACITY}
 
 -- a handle: where its bytes lie, the bytes, and how many it can hold with no new memory
 pub record Handle : Type 0 where
   pub kind : Kind
   pub items : List ℕ
   pub capacity : ℕ
-
--- no bytes, in the handle itself
-abbrev pub IsEmptyInline : Handle → Type 0
-IsEmptyInline handle = (handle.kind ≡ Inline) × (handle.items ≡ []) × (handle.capacity ≡ INLINE_CAPACITY)

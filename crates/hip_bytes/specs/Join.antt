@@ -1,5 +1,6 @@
 -- Lists made of others (Rust's `[u8]::repeat`, `[[u8]]::concat` and `[[u8]]::join`).
-use Rattle.std.specs.Prelude.{◌≡◌, ℕ, zero, suc, ◌+◌, ◌*◌, ◌<◌, Bool, true, List, [], ◌∷◌, if◌then◌else◌, ◌||◌, ◌==◌, MatchBool, codes, refl}
+use Rattle.std.specs.Prelude.{◌≡◌, ℕ, zero, suc, ◌+◌, ◌*◌, ◌<◌, Bool, true, List, [], ◌∷◌, if◌then◌else◌, ◌||◌, ◌==◌, MatchBool, Option, codes, refl}
+use Rattle.std.specs.Iterator.{Drains, Yields}
 use Rattle.std.specs.List.{join_by}
 use Rattle.std.specs.Borrow.{Bor}
 use Rattle.hip_raw.specs.Meter.{times_copied}
@@ -17,6 +18,14 @@ joined sep slices = join_by (λ slice. slice.now) sep slices
 abbrev pub gap_at : ℕ → List ℕ → List ℕ
 gap_at zero sep = []
 gap_at (suc i) sep = sep
+
+-- the iterator that the value becomes gives these items and then ends, and P holds of them
+abbrev pub GivesAll : {I T A : Type 0} → (I → T → Type 0) → (T → Option A → T → Type 0) → I → (List A → Type 0) → Type 0
+GivesAll {I} {T} {A} into steps value P = (it : T) × (xs : List A) × into value it × Drains steps it xs × P xs
+
+-- it gives these items first, and P holds of them
+abbrev pub GivesFirst : {I T A : Type 0} → (I → T → Type 0) → (T → Option A → T → Type 0) → I → (List A → Type 0) → Type 0
+GivesFirst {I} {T} {A} into steps value P = (it : T) × (xs : List A) × (later : T) × into value it × Yields steps it xs later × P xs
 
 -- how many bytes a join of a result of `len` bytes copies at most
 abbrev pub join_cost : Bool → ℕ → ℕ

@@ -1,5 +1,5 @@
 -- The kind that a call gives its handle, by the kind and the length that there were, and the capacity of each kind.
-use Rattle.std.specs.Prelude.{◌≡◌, ℕ, ◌≤◌, Bool, true, false, List, length, if◌then◌else◌, nat_le, refl}
+use Rattle.std.specs.Prelude.{◌≡◌, ℕ, ◌≤◌, Bool, true, false, List, [], length, if◌then◌else◌, nat_le, refl}
 use Rattle.hip_bytes.specs.Handle.{Handle}
 use Rattle.hip_bytes.specs.declared.kind.Kind.{Kind}
 use Rattle.hip_bytes.specs.declared.kind.Kind.TheVariants.{Inline, Borrowed, Allocated}
@@ -43,6 +43,20 @@ kept_capacity Inline len capacity = INLINE_CAPACITY
 kept_capacity Borrowed len capacity = len
 kept_capacity Allocated len capacity = if nat_le len INLINE_CAPACITY then INLINE_CAPACITY else capacity
 
+-- the handle holds these items in this kind
+pub record Holds (handle : Handle) (kind : Kind) (items : List ℕ) : Type 0 where
+  pub kind_is : handle.kind ≡ kind
+  pub items_are : handle.items ≡ items
+  pub capacity : HasCapacity kind (length items) handle.capacity
+
+-- by length
+abbrev pub HoldsByLength : Handle → List ℕ → Type 0
+HoldsByLength handle items = Holds handle (by_length (length items)) items
+
+-- no bytes, in the handle itself
+abbrev pub IsEmptyInline : Handle → Type 0
+IsEmptyInline handle = Holds handle Inline []
+
 -- 23 bytes are inline, 24 are allocated
 pub at_the_limit : by_length 23 ≡ Inline
 at_the_limit = refl
@@ -53,7 +67,3 @@ past_the_limit = refl
 -- a short part of borrowed bytes stays borrowed
 pub borrowed_part : cut_kind Borrowed 3 ≡ Borrowed
 borrowed_part = refl
-
--- the handle holds these bytes, by length
-abbrev pub HoldsByLength : Handle → List ℕ → Type 0
-HoldsByLength handle items = (handle.items ≡ items) × (handle.kind ≡ by_length (length items)) × HasCapacity handle.kind (length items) handle.capacity

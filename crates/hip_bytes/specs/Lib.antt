@@ -1,12 +1,17 @@
+pub mod Change
 pub mod Cost
 pub mod Gathering
 pub mod GrowFault
 pub mod Handle
 pub mod Join
 pub mod Kinds
+pub mod Made
 pub mod Range
 pub mod RefMut
 pub mod Repr
 pub mod Slice
 pub mod SliceError
+pub use Rattle.hip_raw.specs.Appended
+pub use Rattle.hip_raw.specs.Held
 pub use Rattle.hip_raw.specs.Meter
+pub use Rattle.hip_raw.specs.Window

@@ -1,21 +1,15 @@
 -- What a call that slices may answer.
-use Rattle.std.specs.Prelude.{◌≡◌, ℕ, List, length, Bool, Some, None, Result, Ok, Err, is_none, if◌then◌else◌}
+use Rattle.std.specs.Prelude.{◌≡◌, ℕ, length, Bool, Some, None, Result, Ok, Err, is_none, if◌then◌else◌}
 use Rattle.std.specs.Range.Bound.{start_index, end_index}
 use Rattle.std.specs.declared.ops.Bound.{Bound}
 use Rattle.hip_bytes.specs.Handle.{Handle}
-use Rattle.hip_bytes.specs.Kinds.{cut_kind, HasCapacity}
 use Rattle.hip_bytes.specs.Cost.{CutNeedsMemory, cut_cost}
+use Rattle.hip_bytes.specs.Made.{IsPart}
 use Rattle.hip_bytes.specs.Range.{slice_fault, slice_of}
 use Rattle.hip_bytes.specs.SliceError.{error_kind, error_start, error_end, error_source, kept_number}
 use Rattle.hip_bytes.specs.declared.slice_error.SliceError.{SliceError}
 use Rattle.hip_bytes.specs.declared.slice_error.SliceRefusal.{SliceRefusal}
 use Rattle.hip_bytes.specs.declared.slice_error.SliceRefusal.TheVariants.{Slice, Memory}
-
--- the part is a handle of these items, cut from the source
-pub record IsPart (source part : Handle) (items : List ℕ) : Type 0 where
-  pub items_are : part.items ≡ items
-  pub kind : part.kind ≡ cut_kind source.kind (length items)
-  pub capacity : HasCapacity part.kind (length items) part.capacity
 
 -- the error says why these bounds are no range of the source
 pub record IsErrorOf {B S : Type 0} (error : SliceError B S) (source : Handle) (low high : Bound ℕ) : Type 0 where

@@ -6,15 +6,18 @@
 //! - [`Kind`] says where the bytes of a handle lie.
 //! - [`SliceError`] says why a range is none of a handle's bytes, [`SliceRefusal`] why a call gave no slice, [`GrowFault`] why a list
 //!   wasn't made.
-//! - [`RefMut`] lends a value of a [`Source`], as a handle is one, as a vector.
+//! - [`RefMut`] lends a value of a [`Source`], as a handle is one, as a vector; [`mutate`] makes one in functions that are generic in
+//!   the source.
+//! - What an implementor of [`Backend`], or a caller of the representations, names is handed on: [`Room`], [`Appended`], [`Block`],
+//!   [`Inline`], [`Borrowed`], [`Allocated`], [`fill_counted`], [`copy_counted`].
 //!
 //! A call that copies has a form with the suffix `_metered` and a last argument `&mut Meter`; the plain call is that form with a
 //! fresh meter. Conversions from a `Cow`, and into a vector or a `Cow`, have none. A call that may want memory takes the allocator first,
 //! and a refused one changes nothing.
 //!
 //! The words of the contracts stand in `specs/`: `Handle` (a handle as clauses see it), `Kinds` (the kind and the capacity that a call
-//! gives), `Cost` (what it copies, and where it may want memory), `Range`, `Slice` and `SliceError` (ranges and their faults), `Join`
-//! (joins and repetitions), `GrowFault` and `RefMut`.
+//! gives), `Made` and `Change` (what a call that makes or changes a handle may answer), `Cost` (what it copies, and where it may want
+//! memory), `Range`, `Slice` and `SliceError` (ranges and their faults), `Join` (joins and repetitions), `GrowFault` and `RefMut`.
 #![tactic(auto)]
 
 mod gathering;
@@ -27,7 +30,10 @@ mod slice_error;
 
 pub use grow_fault::GrowFault;
 pub use hip_byt::HipByt;
-pub use hip_raw::{Backend, Block, Meter, Rc, Unique};
+pub use hip_raw::{
+    Allocated, Appended, Backend, Block, Borrowed, Inline, Meter, Rc, Room, Unique, copy_counted,
+    fill_counted,
+};
 pub use kind::{INLINE_CAPACITY, Kind};
-pub use ref_mut::{RefMut, Source};
+pub use ref_mut::{RefMut, Source, mutate, mutate_metered};
 pub use slice_error::{SliceError, SliceErrorKind, SliceRefusal};

@@ -1,6 +1,9 @@
 //! A value lent out as a vector.
-ghost use Rattle.std.specs.Prelude.{◌≡◌, ℕ, List, length, vec_len, IfOk, IfErr, OnOk, OnErr};
+ghost use Rattle.std.specs.Prelude.{◌≡◌, ℕ, List, [], length, vec_len, IfOk, IfErr, OnOk, OnErr};
+ghost use Rattle.std.specs.Borrow.{sem, follows};
 ghost use Rattle.hip_raw.specs.Meter.{RisesAtMost};
+ghost use Rattle.hip_bytes.specs.RefMut.{lender, lent_items, lent_source};
+ghost use mir.Syntax.{named};
 
 use hip_raw::{Block, Meter};
 use std::alloc::{AllocError, Global};
@@ -20,6 +23,9 @@ pub trait Source: Drop {
     /// How many bytes are copied at most where so many are put.
     ghost put_cost: { ℕ → ℕ };
 
+    /// So many bytes may want memory where they are put.
+    ghost put_needs_memory: { ℕ → Type 0 };
+
     /// Takes the bytes out in a vector, and leaves none. The block that held the vector, if one did, goes with it. After a refusal the
     /// value is as it was.
     fn lend_vec_metered(
@@ -36,14 +42,40 @@ pub trait Source: Drop {
     fn put_back_metered(
         &mut self,
         alloc: Global,
-        vec: Vec<u8>,
         block: Block,
+        vec: Vec<u8>,
         meter: &mut Meter,
     ) -> Result<(), Vec<u8>>
         ensures put { OnOk result (has_put self.new vec.items) }
+        ensures memory { OnErr result (put_needs_memory (vec_len vec)) }
         ensures counted { RisesAtMost meter.old meter.new (put_cost (vec_len vec)) }
         ensures err { OnErr result (self.new ≡ self.old) }
         ensures handed_back { IfErr result (λ back. back ≡ vec) };
+}
+
+/// Lends a value's bytes out in a vector, which [`RefMut::finish`] writes back. Until then the value is empty. A refused call changes
+/// nothing, as [`Source::lend_vec_metered`] says, which is all that this calls.
+pub fn mutate<S: Source>(source: &mut S, alloc: Global) -> Result<RefMut<'_, S>, AllocError>
+    ensures same_reference { IfOk result (λ guard. lender guard ≡ source.entry.ghost_name) }
+    ensures items { IfOk result (λ guard. lent_items guard ≡ S.items source.old) }
+    ensures emptied { IfOk result (λ guard. S.is_emptied (lent_source guard)) }
+{
+    mutate_metered(source, alloc, &mut Meter::new())
+}
+
+/// [`mutate`], counted.
+pub fn mutate_metered<'a, S: Source>(
+    source: &'a mut S,
+    alloc: Global,
+    meter: &mut Meter,
+) -> Result<RefMut<'a, S>, AllocError>
+    ensures same_reference { IfOk result (λ guard. lender guard ≡ source.entry.ghost_name) }
+    ensures items { IfOk result (λ guard. lent_items guard ≡ S.items source.old) }
+    ensures emptied { IfOk result (λ guard. S.is_emptied (lent_source guard)) }
+    ensures counted { RisesAtMost meter.old meter.new (length (S.items source.old)) }
+{
+    let (vec, block) = source.lend_vec_metered(alloc, meter)?;
+    Ok(RefMut::new(source, vec, block))
 }
 
 /// A value's bytes in a vector, to be written back by [`RefMut::finish`]. While it lives the value is empty, and where it is dropped
@@ -56,12 +88,15 @@ pub struct RefMut<'a, S: Source, V: Drop = Vec<u8>, P: Drop = Block> {
 }
 
 impl<'a, S: Source> RefMut<'a, S, Vec<u8>, Block> {
-    ghost use Rattle.hip_bytes.specs.RefMut.{lent_items, lent_source};
+    ghost use Rattle.hip_raw.specs.contracts.block.Block.{the_row as block_row};
+    ghost use Rattle.hip_bytes.specs.RefMut.{bytes_row, lent_vec, with_vec};
+    ghost use Rattle.hip_bytes.specs.contracts.ref_mut.RefMut.{the_row};
 
-    pub(crate) fn new(source: &'a mut S, vec: Vec<u8>, block: Block) -> Self
-        ensures items { lent_items result ≡ vec.items }
+    /// A guard that writes this vector back, in the block where there is one: what [`Source::lend_vec_metered`] lent.
+    pub fn new(source: &'a mut S, vec: Vec<u8>, block: Block) -> Self
+        ensures same_reference { lender result ≡ source.entry.ghost_name }
+        ensures vec { lent_vec result ≡ vec }
         ensures source { lent_source result ≡ source.old }
-        ensures same_reference { result.source.ghost_name ≡ source.entry.ghost_name }
     {
         RefMut { source, vec, block }
     }
@@ -69,7 +104,7 @@ impl<'a, S: Source> RefMut<'a, S, Vec<u8>, Block> {
     /// The lent vector.
     #[inline]
     pub fn as_vec(&self) -> &Vec<u8>
-        ensures { result.now.items ≡ lent_items self.now }
+        ensures { result.now ≡ lent_vec self.now }
     {
         &self.vec
     }
@@ -77,7 +112,8 @@ impl<'a, S: Source> RefMut<'a, S, Vec<u8>, Block> {
     /// The lent vector, for writing.
     #[inline]
     pub fn as_mut_vec(&mut self) -> &mut Vec<u8>
-        ensures items { result.now.items ≡ lent_items self.old }
+        ensures* writes_back { sem 𝓛 (follows (the_row (record { mir = named 1; lft = [] }) S.row bytes_row block_row) bytes_row self.entry.ghost_name result.ghost_name (with_vec self.old)) }
+        ensures items { result.now ≡ lent_vec self.old }
     {
         &mut self.vec
     }
@@ -85,8 +121,9 @@ impl<'a, S: Source> RefMut<'a, S, Vec<u8>, Block> {
     /// Writes the vector's bytes back. A refused vector is handed back, and the value stays empty.
     pub fn finish(self, alloc: Global) -> Result<(), Vec<u8>>
         ensures put { OnOk result (S.has_put (self.exit.0.now) (lent_items self.entry)) }
+        ensures memory { OnErr result (S.put_needs_memory (length (lent_items self.entry))) }
         ensures err { OnErr result (self.exit.0.now ≡ lent_source self.entry) }
-        ensures handed_back { IfErr result (λ back. back.items ≡ lent_items self.entry) }
+        ensures handed_back { IfErr result (λ back. back ≡ lent_vec self.entry) }
     {
         self.finish_metered(alloc, &mut Meter::new())
     }
@@ -94,12 +131,13 @@ impl<'a, S: Source> RefMut<'a, S, Vec<u8>, Block> {
     /// [`RefMut::finish`], counted.
     pub fn finish_metered(self, alloc: Global, meter: &mut Meter) -> Result<(), Vec<u8>>
         ensures put { OnOk result (S.has_put (self.exit.0.now) (lent_items self.entry)) }
+        ensures memory { OnErr result (S.put_needs_memory (length (lent_items self.entry))) }
         ensures counted { RisesAtMost meter.old meter.new (S.put_cost (length (lent_items self.entry))) }
         ensures err { OnErr result (self.exit.0.now ≡ lent_source self.entry) }
-        ensures handed_back { IfErr result (λ back. back.items ≡ lent_items self.entry) }
+        ensures handed_back { IfErr result (λ back. back ≡ lent_vec self.entry) }
     {
         let RefMut { source, vec, block } = self;
-        source.put_back_metered(alloc, vec, block, meter)
+        source.put_back_metered(alloc, block, vec, meter)
     }
 }
 

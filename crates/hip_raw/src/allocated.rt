@@ -1,8 +1,9 @@
 //! Bytes that an owner holds.
-ghost use Rattle.std.specs.Prelude.{◌≡◌, ◌+◌, ◌-◌, ◌^◌, ◌<◌, ◌≤◌, ◌==◌, ◌++◌, max, min, map, false, true, length, take, vec_len, vec_capacity, IsSome, IfSome, IfOk, IfErr, OnErr, slice_range, slice_set, if◌then◌else◌, IsOk};
+ghost use Rattle.std.specs.Prelude.{◌≡◌, ◌+◌, ◌-◌, ◌^◌, ◌<◌, ◌≤◌, ◌==◌, ◌++◌, max, min, map, false, true, length, take, vec_len, IsSome, IfSome, IfOk, IfErr, OnErr, slice_range, slice_set, if◌then◌else◌, IsOk};
 ghost use Rattle.std.specs.Char.{to_ascii_lowercase, to_ascii_uppercase};
 ghost use Rattle.std.specs.Fn.{FnOnceReturnsAtMut, FnOnceTakesAtMut};
 ghost use Rattle.hip_raw.specs.Appended.{OnDone, OnShared, OnMemory, OnRefused};
+ghost use Rattle.hip_raw.specs.Held.{held_items, held_capacity, OwnAnswers};
 ghost use Rattle.hip_raw.specs.Meter.{RisesAtMost, times_copied, unless_shared};
 
 use crate::appended::Appended;
@@ -42,10 +43,7 @@ impl<B: Backend> Allocated<B> {
     /// All bytes of a vector, which is taken over.
     #[inline]
     pub fn new(alloc: Global, vec: Vec<u8>) -> Result<Self, Vec<u8>>
-        ensures items { IfOk result (λ made. made.items ≡ vec.items) }
-        ensures fits { IfOk result (λ made. length made.items ≤ made.capacity) }
-        ensures capacity { IfOk result (λ made. vec_capacity vec ≤ made.capacity) }
-        ensures handed_back { IfErr result (λ back. back ≡ vec) }
+        ensures owned { OwnAnswers held_items held_capacity vec result }
     {
         Self::new_metered(alloc, vec, &mut Meter::new())
     }
@@ -53,11 +51,8 @@ impl<B: Backend> Allocated<B> {
     /// [`Allocated::new`], counted.
     #[inline]
     pub fn new_metered(alloc: Global, vec: Vec<u8>, meter: &mut Meter) -> Result<Self, Vec<u8>>
-        ensures items { IfOk result (λ made. made.items ≡ vec.items) }
-        ensures fits { IfOk result (λ made. length made.items ≤ made.capacity) }
-        ensures capacity { IfOk result (λ made. vec_capacity vec ≤ made.capacity) }
+        ensures owned { OwnAnswers held_items held_capacity vec result }
         ensures counted { RisesAtMost meter.old meter.new (unless_shared B.SHARES (vec_len vec)) }
-        ensures handed_back { IfErr result (λ back. back ≡ vec) }
         ensures refused_copies_nothing { OnErr result (meter.new ≡ meter.old) }
     {
         let len = vec.len();
@@ -72,20 +67,17 @@ impl<B: Backend> Allocated<B> {
     /// [`Allocated::new_metered`], in a block that an owner left.
     #[inline]
     pub fn new_in_metered(
-        block: Block,
         alloc: Global,
+        block: Block,
         vec: Vec<u8>,
         meter: &mut Meter,
     ) -> Result<Self, Vec<u8>>
-        ensures items { IfOk result (λ made. made.items ≡ vec.items) }
-        ensures fits { IfOk result (λ made. length made.items ≤ made.capacity) }
-        ensures capacity { IfOk result (λ made. vec_capacity vec ≤ made.capacity) }
+        ensures owned { OwnAnswers held_items held_capacity vec result }
         ensures counted { RisesAtMost meter.old meter.new (unless_shared B.SHARES (vec_len vec)) }
-        ensures handed_back { IfErr result (λ back. back ≡ vec) }
         ensures refused_copies_nothing { OnErr result (meter.new ≡ meter.old) }
     {
         let (start, len) = (0, vec.len());
-        let owner = B::own_in(block, alloc, vec, meter)?;
+        let owner = B::own_in(alloc, block, vec, meter)?;
         Ok(Allocated { owner, start, len })
     }
 

@@ -1,7 +1,8 @@
 //! What an owner of bytes promises.
-ghost use Rattle.std.specs.Prelude.{◌≡◌, ℕ, ◌+◌, ◌^◌, ◌<◌, ◌≤◌, Bool, false, true, List, ◌++◌, length, take, vec_len, vec_capacity, IsSome, IfOk, IfErr, IfSome, OnErr};
+ghost use Rattle.std.specs.Prelude.{◌≡◌, ℕ, ◌+◌, ◌^◌, ◌<◌, ◌≤◌, Bool, false, true, List, ◌++◌, length, take, vec_len, IsSome, IfOk, IfErr, IfSome, OnErr};
 ghost use Rattle.std.specs.Borrow.{sem, LendsIf};
 ghost use Rattle.hip_raw.specs.Appended.{OnDone, OnShared, OnMemory, OnRefused};
+ghost use Rattle.hip_raw.specs.Held.{OwnAnswers};
 ghost use Rattle.hip_raw.specs.Meter.{RisesAtMost, unless_shared};
 ghost use Rattle.hip_raw.specs.Window.{window};
 
@@ -52,25 +53,16 @@ pub trait Backend: Drop + Sized {
 
     /// An owner of the vector's bytes. A refused vector is handed back.
     fn own(alloc: Global, vec: Vec<u8>, meter: &mut Meter) -> Result<Self, Vec<u8>>
-        ensures items { IfOk result (λ owner. items owner ≡ vec.items) }
-        ensures capacity { IfOk result (λ owner. vec_capacity vec ≤ capacity owner) }
-        ensures fits { IfOk result (λ owner. length (items owner) ≤ capacity owner) }
-        ensures bound { IfOk result (λ owner. length (items owner) < 2 ^ 64) }
+        ensures owned { OwnAnswers items capacity vec result }
         ensures counted { RisesAtMost meter.old meter.new (unless_shared SHARES (vec_len vec)) }
-        ensures handed_back { IfErr result (λ back. back ≡ vec) }
         ensures refused_copies_nothing { OnErr result (meter.new ≡ meter.old) };
 
     /// The bytes in a vector, unless the owner is shared. A refused owner is handed back.
-    #[inline]
     fn try_into_vec(self, alloc: Global, meter: &mut Meter) -> Result<Vec<u8>, Self>
         ensures items { IfOk result (λ vec. vec.items ≡ items self) }
         ensures counted { RisesAtMost meter.old meter.new (unless_shared SHARES (length (items self))) }
         ensures handed_back { IfErr result (λ back. back ≡ self) }
-        ensures refused_copies_nothing { OnErr result (meter.new ≡ meter.old) }
-    {
-        let (vec, _block) = self.try_take_vec(alloc, meter)?;
-        Ok(vec)
-    }
+        ensures refused_copies_nothing { OnErr result (meter.new ≡ meter.old) };
 
     /// The bytes.
     fn as_slice(&self) -> &[u8]
@@ -104,23 +96,33 @@ pub trait Backend: Drop + Sized {
         ensures refused { OnRefused result ((items self.new ≡ items self.old) × (capacity self.new ≡ capacity self.old)) }
         ensures refused_copies_nothing { OnRefused result (meter.new ≡ meter.old) };
 
-    /// [`Backend::own`] in a block that an owner left, for which no memory is taken.
-    fn own_in(block: Block, alloc: Global, vec: Vec<u8>, meter: &mut Meter) -> Result<Self, Vec<u8>>
-        ensures items { IfOk result (λ owner. items owner ≡ vec.items) }
-        ensures capacity { IfOk result (λ owner. vec_capacity vec ≤ capacity owner) }
-        ensures fits { IfOk result (λ owner. length (items owner) ≤ capacity owner) }
-        ensures bound { IfOk result (λ owner. length (items owner) < 2 ^ 64) }
+    /// [`Backend::own`] in a block that an owner left, for which no memory is taken. Where owners have no blocks, it is that call.
+    #[inline]
+    fn own_in(
+        alloc: Global,
+        _block: Block,
+        vec: Vec<u8>,
+        meter: &mut Meter,
+    ) -> Result<Self, Vec<u8>>
+        ensures owned { OwnAnswers items capacity vec result }
         ensures counted { RisesAtMost meter.old meter.new (unless_shared SHARES (vec_len vec)) }
-        ensures handed_back { IfErr result (λ back. back ≡ vec) }
-        ensures refused_copies_nothing { OnErr result (meter.new ≡ meter.old) };
+        ensures refused_copies_nothing { OnErr result (meter.new ≡ meter.old) }
+    {
+        Self::own(alloc, vec, meter)
+    }
 
-    /// The bytes in a vector, and the block that it lay in, for [`Backend::own_in`]; unless the owner is shared. A refused owner is
-    /// handed back.
+    /// [`Backend::try_into_vec`], and the block that the vector lay in, for [`Backend::own_in`]. Where owners have no blocks, there is
+    /// none.
+    #[inline]
     fn try_take_vec(self, alloc: Global, meter: &mut Meter) -> Result<(Vec<u8>, Block), Self>
         ensures items { IfOk result (λ taken. taken.0.items ≡ items self) }
         ensures counted { RisesAtMost meter.old meter.new (unless_shared SHARES (length (items self))) }
         ensures handed_back { IfErr result (λ back. back ≡ self) }
-        ensures refused_copies_nothing { OnErr result (meter.new ≡ meter.old) };
+        ensures refused_copies_nothing { OnErr result (meter.new ≡ meter.old) }
+    {
+        let vec = self.try_into_vec(alloc, meter)?;
+        Ok((vec, Block::none()))
+    }
 
     // What the sole owner has when the loan ends is what this owner has.
     ghost sole_items: { (owner : Self) (sole : Self.Sole) → items (with_sole owner sole) ≡ Self.Sole.items sole };

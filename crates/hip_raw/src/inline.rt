@@ -1,5 +1,5 @@
 //! Bytes that lie in the handle itself.
-ghost use Rattle.std.specs.Prelude.{⊤, ◌≡◌, ◌+◌, ◌≤◌, ◌==◌, ◌++◌, ◌↔◌, [], length, take, IsSome, IfSome, IfNone};
+ghost use Rattle.std.specs.Prelude.{⊤, ◌≡◌, ◌+◌, ◌≤◌, ◌==◌, ◌++◌, ◌↔◌, [], length, replicate, take, IsSome, IfSome, IfNone};
 ghost use Rattle.std.specs.Borrow.{sem};
 ghost use Rattle.hip_raw.specs.Meter.{RisesAtMost, count_from};
 
@@ -38,6 +38,18 @@ impl<const N: usize> Inline<N> {
         Inline {
             cells: Cells { items: [0; N] },
             len: 0,
+        }
+    }
+
+    /// So many zeros.
+    #[inline]
+    pub fn zeroed(len: usize) -> Self
+        requires { len ≤ N }
+        ensures { result ≡ replicate len 0 }
+    {
+        Inline {
+            cells: Cells { items: [0; N] },
+            len,
         }
     }
 

@@ -1,6 +1,6 @@
 //! The lowest layer of hipstr: **an owner is a list of bytes and a capacity, and every byte that is copied is counted.**
 //!
-//! - [`Meter`] counts copied bytes. [`fill_counted`] is the one function that copies them. By it [`extend_counted`] appends to a vector,
+//! - [`Meter`] counts copied bytes. [`fill_counted`] copies them, all but those of a cloned [`Inline`], which is copied whole. By it [`extend_counted`] appends to a vector,
 //!   [`copy_counted`] and [`copy_with_capacity`] make one, and a [`Filling`] gathers many parts.
 //! - [`Backend`] is what an owner promises, to this crate and to any other implementor: [`Rc`], which many handles share, and
 //!   [`Unique`], which has one. A sole owner lends a [`Room`], an append answers [`Appended`], and a vector that was taken out

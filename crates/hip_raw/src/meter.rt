@@ -1,4 +1,4 @@
-//! The meter, and the one function that copies bytes.
+//! The meter, and the function by which bytes are copied.
 ghost use Rattle.std.specs.Prelude.{◌≡◌, ◌+◌, ◌-◌, ◌^◌, ◌<◌, ◌≤◌, ◌++◌, length, take, vec_len, vec_capacity, IfOk, IsOk, OnOk, OnErr};
 ghost use Rattle.hip_raw.specs.Meter.{RisesAtMost, count_from};
 
@@ -66,7 +66,8 @@ impl Default for Meter {
     }
 }
 
-/// Copies `from` over `to` and counts its bytes. It is the one function of the product that copies bytes.
+/// Copies `from` over `to` and counts its bytes. All bytes that the product copies go through it, but those of an
+/// [`Inline`](crate::Inline) that is cloned: its array is copied whole, as by a move, and its length is counted.
 #[inline(always)]
 pub fn fill_counted(to: &mut [u8], from: &[u8], meter: &mut Meter)
     requires { length to.old ≡ length from.now }

@@ -49,6 +49,12 @@ impl Backend for Rc {
     }
 
     #[inline]
+    fn try_into_vec(self, alloc: Global, meter: &mut Meter) -> Result<Vec<u8>, Self> {
+        let (vec, _block) = self.try_take_vec(alloc, meter)?;
+        Ok(vec)
+    }
+
+    #[inline]
     fn as_slice(&self) -> &[u8] {
         self.vec.as_slice()
     }
@@ -91,8 +97,8 @@ impl Backend for Rc {
 
     #[inline]
     fn own_in(
-        block: Block,
         alloc: Global,
+        block: Block,
         vec: Vec<u8>,
         meter: &mut Meter,
     ) -> Result<Self, Vec<u8>> {

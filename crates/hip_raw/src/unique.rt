@@ -3,7 +3,6 @@ ghost use Rattle.std.specs.Prelude.{false, vec_capacity, refl};
 
 use crate::appended::{Appended, append_to};
 use crate::backend::Backend;
-use crate::block::Block;
 use crate::meter::{Meter, copy_counted};
 use std::alloc::{AllocError, Global};
 use std::marker::Model;
@@ -42,6 +41,12 @@ impl Backend for Unique {
     }
 
     #[inline]
+    fn try_into_vec(self, _alloc: Global, _meter: &mut Meter) -> Result<Vec<u8>, Self> {
+        let Unique { vec } = self;
+        Ok(vec)
+    }
+
+    #[inline]
     fn as_slice(&self) -> &[u8] {
         self.vec.as_slice()
     }
@@ -77,22 +82,6 @@ impl Backend for Unique {
         meter: &mut Meter,
     ) -> Appended {
         append_to(&mut self.vec, keep, addition, meter)
-    }
-
-    #[inline]
-    fn own_in(
-        _block: Block,
-        alloc: Global,
-        vec: Vec<u8>,
-        meter: &mut Meter,
-    ) -> Result<Self, Vec<u8>> {
-        Self::own(alloc, vec, meter)
-    }
-
-    #[inline]
-    fn try_take_vec(self, _alloc: Global, _meter: &mut Meter) -> Result<(Vec<u8>, Block), Self> {
-        let Unique { vec } = self;
-        Ok((vec, Block::none()))
     }
 
     ghost sole_items = { λ owner sole. refl };

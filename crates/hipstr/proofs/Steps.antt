@@ -1,9 +1,7 @@
 -- Lemmas on single steps of the list machine.
-use Rattle.std.proofs.Common.{◌≡◌, ℕ, ◌<◌, ◌≤◌, Bool, List, length, take, Option, Some, None, if◌then◌else◌, MatchOption, ap, subst, sym}
+use Rattle.std.proofs.Common.{◌≡◌, ℕ, ◌<◌, Bool, List, length, Option, Some, None, if◌then◌else◌, MatchOption, ap, subst, sym}
 use Rattle.std.proofs.lemmas.Bool.{lt-ltb}
 use Rattle.hip_bytes.specs.Handle.{Handle}
-use Rattle.hip_bytes.specs.Kinds.{cut_kind, kept_capacity}
-use Rattle.hipstr.specs.Slot.{SlotState, bytes_slot, IsShortened}
 use Rattle.hipstr.specs.Step.{Step, Performs, fault_of, slot_fault}
 use Rattle.hipstr.specs.declared.command.Command.{Command}
 use Rattle.hipstr.specs.declared.command.Answer.{Answer}
@@ -12,23 +10,12 @@ use Rattle.hipstr.specs.declared.command.Reason.{Reason}
 use Rattle.hipstr.specs.declared.command.Reason.TheVariants.{NoSlot}
 
 -- a slot that is there is no fault
-pub slot_fault-within : (slots : List SlotState) (t : ℕ) → t < length slots → slot_fault slots t ≡ None
+pub slot_fault-within : (slots : List Handle) (t : ℕ) → t < length slots → slot_fault slots t ≡ None
 slot_fault-within slots t within = ap (λ b. if b then None else Some NoSlot) (lt-ltb t (length slots) within)
 
 -- a command without a fault is performed
-pub Step-performed : (shares : Bool) (old : List SlotState) (command : Command) (answer : Answer) (new : List SlotState)
+pub Step-performed : (shares : Bool) (old : List Handle) (command : Command) (answer : Answer) (new : List Handle)
     → fault_of old command ≡ None → Performs shares old command answer new → Step shares old command answer new
 Step-performed shares old command answer new none performed =
     subst (λ (fault : Option Reason). MatchOption fault (Performs shares old command answer new) (λ reason. (answer ≡ Refused reason) × (new ≡ old)))
     (sym none) performed
-
--- a handle that was shortened is a slot that was
-pub IsShortened-bytes : (slot : SlotState) (old new : Handle) (len : ℕ) → bytes_slot old ≡ slot
-    → new.items ≡ take len old.items
-    → (len < length old.items → new.kind ≡ cut_kind old.kind len)
-    → (len < length old.items → new.capacity ≡ kept_capacity old.kind len old.capacity)
-    → (length old.items ≤ len → new ≡ old)
-    → IsShortened slot (bytes_slot new) len
-IsShortened-bytes slot old new len is items kind capacity unchanged =
-    subst (λ (s : SlotState). IsShortened s (bytes_slot new) len) is
-    (record { items = items; kind = kind; capacity = capacity; unchanged = λ h. ap bytes_slot (unchanged h) })

@@ -1,11 +1,17 @@
 pub mod Slot
 pub mod Step
 pub mod Run
+pub use Rattle.hip_bytes.specs.Change
 pub use Rattle.hip_bytes.specs.Cost
 pub use Rattle.hip_bytes.specs.Handle
 pub use Rattle.hip_bytes.specs.Join
 pub use Rattle.hip_bytes.specs.Kinds
+pub use Rattle.hip_bytes.specs.Made
 pub use Rattle.hip_bytes.specs.Range
 pub use Rattle.hip_bytes.specs.Slice
 pub use Rattle.hip_bytes.specs.SliceError
+pub use Rattle.hip_bytes.specs.Appended
+pub use Rattle.hip_bytes.specs.Held
 pub use Rattle.hip_bytes.specs.Meter
+pub use Rattle.hip_bytes.specs.RefMut
+pub use Rattle.hip_bytes.specs.Window

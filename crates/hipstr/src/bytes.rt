@@ -6,5 +6,5 @@ mod tests;
 
 pub use hip_bytes::{
     Block, GrowFault, HipByt, INLINE_CAPACITY, Kind, RefMut, SliceError, SliceErrorKind,
-    SliceRefusal, Source,
+    SliceRefusal, Source, mutate, mutate_metered,
 };

@@ -6,7 +6,8 @@
 //! that no more bytes are copied than the run costs.
 //!
 //! [`bytes`] has the byte strings themselves, [`HipByt`](bytes::HipByt) generic in the [`Backend`]: owners are shared on [`Rc`],
-//! and not on [`Unique`].
+//! and not on [`Unique`]. Anyone may implement [`Backend`]; the names that this takes, and the three representations of a byte string
+//! ([`Inline`], [`Borrowed`], [`Allocated`]), are handed on here.
 //!
 //! What the clauses of `run` say in words is defined in `specs/`: `Slot` (the machine's state), `Step` (one command: its fault, its
 //! answer, what it leaves, its cost) and `Run` (many commands).
@@ -18,7 +19,10 @@ mod machine;
 mod pool;
 
 pub use command::{Answer, Command, Reason};
-pub use hip_bytes::{Backend, Kind, Meter, Rc, Unique};
+pub use hip_bytes::{
+    Allocated, Appended, Backend, Block, Borrowed, Inline, Kind, Meter, Rc, Room, Unique,
+    copy_counted, fill_counted,
+};
 pub use machine::run;
 pub use pool::{MAX_SLOTS, Pool, Slot};
 

@@ -1,5 +1,5 @@
 ghost use Rattle.std.specs.Prelude.{◌≡◌, ◌≤◌, ◌<◌, ◌==◌, ◌↔◌, replicate, length, slice_set, IfOk, IfSome, IsSome};
-ghost use Rattle.hipstr.specs.Slot.{state_of, bytes_slot, slot_at, empty_slot};
+ghost use Rattle.hipstr.specs.Slot.{state_of, slot_at, empty_slot};
 
 use hip_bytes::{Backend, HipByt, Kind};
 use std::alloc::{AllocError, Global};
@@ -46,9 +46,10 @@ pub struct Pool<'b, B: Backend> {
 
 impl<'b, B: Backend> Model for Pool<'b, B> {
     ghost use Rattle.std.specs.Prelude.{List, map};
-    ghost use Rattle.hipstr.specs.Slot.{SlotState, state_of};
+    ghost use Rattle.hip_bytes.specs.Handle.{Handle};
+    ghost use Rattle.hipstr.specs.Slot.{state_of};
 
-    ghost Value = { List SlotState };
+    ghost Value = { List Handle };
 
     ghost view = { λ p. map state_of p.slots.items };
 }
@@ -95,7 +96,7 @@ impl<'b, B: Backend> Pool<'b, B> {
     #[inline]
     pub(crate) fn bytes(&self, i: usize) -> &HipByt<'b, B>
         requires { i < length self.now }
-        ensures { bytes_slot result.now ≡ slot_at self.now i }
+        ensures { result.now ≡ slot_at self.now i }
     {
         match &self.slots[i] {
             Slot::Bytes(handle) => handle,
@@ -106,7 +107,7 @@ impl<'b, B: Backend> Pool<'b, B> {
     #[inline]
     pub(crate) fn take(&mut self, i: usize) -> HipByt<'b, B>
         requires { i < length self.old }
-        ensures taken { bytes_slot result ≡ slot_at self.old i }
+        ensures taken { result ≡ slot_at self.old i }
         ensures emptied { self.new ≡ slice_set self.old i empty_slot }
     {
         let Slot::Bytes(handle) = mem::replace(&mut self.slots[i], Slot::Bytes(HipByt::new()));
@@ -117,7 +118,7 @@ impl<'b, B: Backend> Pool<'b, B> {
     #[inline]
     pub(crate) fn put(&mut self, i: usize, handle: HipByt<'b, B>)
         requires { i < length self.old }
-        ensures { self.new ≡ slice_set self.old i (bytes_slot handle.entry) }
+        ensures { self.new ≡ slice_set self.old i handle.entry }
     {
         self.slots[i] = Slot::Bytes(handle);
     }

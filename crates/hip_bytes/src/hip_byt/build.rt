@@ -1,28 +1,24 @@
 //! Values that are made of others.
-ghost use Rattle.std.specs.Prelude.{◌≡◌, ◌↔◌, ◌≤◌, ◌<◌, ◌+◌, ◌*◌, ◌^◌, [], ◌++◌, nat_le, length, take, IfOk, IfErr, OnErr};
+ghost use Rattle.std.specs.Prelude.{◌≡◌, ◌≤◌, ◌<◌, ◌+◌, ◌*◌, ◌^◌, [], ◌++◌, nat_le, length, take, IfOk, IfErr, OnErr};
 ghost use Rattle.std.specs.List.{repeat};
 ghost use Rattle.std.specs.Option.{SomeIff};
 ghost use Rattle.hip_raw.specs.Meter.{RisesAtMost};
 ghost use Rattle.hip_bytes.specs.Cost.{clone_cost};
-ghost use Rattle.hip_bytes.specs.Join.{gap_at, joined, join_cost, repeated_kind, repeat_cost, RepeatNeedsMemory};
-ghost use Rattle.hip_bytes.specs.Kinds.{by_length, HasCapacity};
+ghost use Rattle.hip_bytes.specs.Join.{gap_at, joined, join_cost, repeat_cost};
+ghost use Rattle.hip_bytes.specs.Made.{CloneAnswers, JoinAnswers, RepeatAnswers};
 ghost use Rattle.hip_bytes.specs.declared.kind.TheConstants.{INLINE_CAPACITY};
 
 use super::HipByt;
 use crate::gathering::Gathering;
 use crate::grow_fault::GrowFault;
-use crate::kind::{INLINE_CAPACITY, Kind};
+use crate::kind::INLINE_CAPACITY;
 use hip_raw::{Backend, Filling, Inline, Meter};
 use std::alloc::{AllocError, Global};
 
 impl<'b, B: Backend> HipByt<'b, B> {
     /// The bytes `n` times.
     pub fn repeat(&self, alloc: Global, n: usize) -> Result<Self, GrowFault>
-        ensures items { IfOk result (λ handle. handle.items ≡ repeat n self.now.items) }
-        ensures kind { IfOk result (λ handle. handle.kind ≡ repeated_kind self.now.kind (length self.now.items) n) }
-        ensures capacity { IfOk result (λ handle. HasCapacity handle.kind (length handle.items) handle.capacity) }
-        ensures too_long { (result ≡ Err GrowFault.TooLong) ↔ (2 ^ 64 ≤ n * length self.now.items) }
-        ensures memory { result ≡ Err GrowFault.Memory → RepeatNeedsMemory self.now.kind (length self.now.items) n }
+        ensures repeated { RepeatAnswers self.now n result }
     {
         self.repeat_metered(alloc, n, &mut Meter::new())
     }
@@ -34,11 +30,7 @@ impl<'b, B: Backend> HipByt<'b, B> {
         n: usize,
         meter: &mut Meter,
     ) -> Result<Self, GrowFault>
-        ensures items { IfOk result (λ handle. handle.items ≡ repeat n self.now.items) }
-        ensures kind { IfOk result (λ handle. handle.kind ≡ repeated_kind self.now.kind (length self.now.items) n) }
-        ensures capacity { IfOk result (λ handle. HasCapacity handle.kind (length handle.items) handle.capacity) }
-        ensures too_long { (result ≡ Err GrowFault.TooLong) ↔ (2 ^ 64 ≤ n * length self.now.items) }
-        ensures memory { result ≡ Err GrowFault.Memory → RepeatNeedsMemory self.now.kind (length self.now.items) n }
+        ensures repeated { RepeatAnswers self.now n result }
         ensures counted { RisesAtMost meter.old meter.new (repeat_cost B.SHARES self.now.kind (length self.now.items) n) }
         ensures refused_counts_none { result ≡ Err GrowFault.TooLong → meter.new ≡ meter.old }
     {
@@ -57,11 +49,7 @@ impl<'b, B: Backend> HipByt<'b, B> {
 
     /// The slices one behind another: [`HipByt::join_slices`] with nothing between them.
     pub fn concat_slices(alloc: Global, slices: &[&[u8]]) -> Result<Self, GrowFault>
-        ensures items { IfOk result (λ handle. handle.items ≡ joined [] slices.now) }
-        ensures kind { IfOk result (λ handle. handle.kind ≡ by_length (length (joined [] slices.now))) }
-        ensures capacity { IfOk result (λ handle. HasCapacity handle.kind (length handle.items) handle.capacity) }
-        ensures too_long { (result ≡ Err GrowFault.TooLong) ↔ (2 ^ 64 ≤ length (joined [] slices.now)) }
-        ensures memory { result ≡ Err GrowFault.Memory → INLINE_CAPACITY < length (joined [] slices.now) }
+        ensures joined { JoinAnswers (joined [] slices.now) result }
     {
         Self::join_slices(alloc, slices, &[])
     }
@@ -72,11 +60,7 @@ impl<'b, B: Backend> HipByt<'b, B> {
         slices: &[&[u8]],
         meter: &mut Meter,
     ) -> Result<Self, GrowFault>
-        ensures items { IfOk result (λ handle. handle.items ≡ joined [] slices.now) }
-        ensures kind { IfOk result (λ handle. handle.kind ≡ by_length (length (joined [] slices.now))) }
-        ensures capacity { IfOk result (λ handle. HasCapacity handle.kind (length handle.items) handle.capacity) }
-        ensures too_long { (result ≡ Err GrowFault.TooLong) ↔ (2 ^ 64 ≤ length (joined [] slices.now)) }
-        ensures memory { result ≡ Err GrowFault.Memory → INLINE_CAPACITY < length (joined [] slices.now) }
+        ensures joined { JoinAnswers (joined [] slices.now) result }
         ensures counted { RisesAtMost meter.old meter.new (join_cost B.SHARES (length (joined [] slices.now))) }
         ensures refused_counts_none { result ≡ Err GrowFault.TooLong → meter.new ≡ meter.old }
     {
@@ -85,11 +69,7 @@ impl<'b, B: Backend> HipByt<'b, B> {
 
     /// The slices one behind another, with the separator between each two.
     pub fn join_slices(alloc: Global, slices: &[&[u8]], sep: &[u8]) -> Result<Self, GrowFault>
-        ensures items { IfOk result (λ handle. handle.items ≡ joined sep.now slices.now) }
-        ensures kind { IfOk result (λ handle. handle.kind ≡ by_length (length (joined sep.now slices.now))) }
-        ensures capacity { IfOk result (λ handle. HasCapacity handle.kind (length handle.items) handle.capacity) }
-        ensures too_long { (result ≡ Err GrowFault.TooLong) ↔ (2 ^ 64 ≤ length (joined sep.now slices.now)) }
-        ensures memory { result ≡ Err GrowFault.Memory → INLINE_CAPACITY < length (joined sep.now slices.now) }
+        ensures joined { JoinAnswers (joined sep.now slices.now) result }
     {
         Self::join_slices_metered(alloc, slices, sep, &mut Meter::new())
     }
@@ -101,11 +81,7 @@ impl<'b, B: Backend> HipByt<'b, B> {
         sep: &[u8],
         meter: &mut Meter,
     ) -> Result<Self, GrowFault>
-        ensures items { IfOk result (λ handle. handle.items ≡ joined sep.now slices.now) }
-        ensures kind { IfOk result (λ handle. handle.kind ≡ by_length (length (joined sep.now slices.now))) }
-        ensures capacity { IfOk result (λ handle. HasCapacity handle.kind (length handle.items) handle.capacity) }
-        ensures too_long { (result ≡ Err GrowFault.TooLong) ↔ (2 ^ 64 ≤ length (joined sep.now slices.now)) }
-        ensures memory { result ≡ Err GrowFault.Memory → INLINE_CAPACITY < length (joined sep.now slices.now) }
+        ensures joined { JoinAnswers (joined sep.now slices.now) result }
         ensures counted { RisesAtMost meter.old meter.new (join_cost B.SHARES (length (joined sep.now slices.now))) }
         ensures refused_counts_none { result ≡ Err GrowFault.TooLong → meter.new ≡ meter.old }
     {
@@ -173,10 +149,8 @@ impl<'b, B: Backend> HipByt<'b, B> {
     /// A clone, where a refusal has to say that the length isn't at fault.
     #[inline]
     fn cloned(&self, alloc: Global, meter: &mut Meter) -> Result<Self, GrowFault>
-        ensures items { IfOk result (λ handle. handle.items ≡ self.now.items) }
-        ensures kind { IfOk result (λ handle. handle.kind ≡ self.now.kind) }
-        ensures capacity { IfOk result (λ handle. HasCapacity self.now.kind (length self.now.items) handle.capacity) }
-        ensures memory { IfErr result (λ fault. (fault ≡ GrowFault.Memory) × (self.now.kind ≡ Kind.Allocated)) }
+        ensures clone { CloneAnswers self.now result }
+        ensures memory { IfErr result (λ fault. fault ≡ GrowFault.Memory) }
         ensures counted { RisesAtMost meter.old meter.new (clone_cost B.SHARES self.now.kind (length self.now.items)) }
         ensures bound { length self.now.items < 2 ^ 64 }
     {

@@ -1,28 +1,22 @@
 //! Conversions.
-ghost use Rattle.std.specs.Prelude.{◌≡◌, ◌<◌, length, vec_len, IsOkAnd, IfOk, IfErr, OnOk, OnErr};
+ghost use Rattle.std.specs.Prelude.{◌≡◌, ◌<◌, length, IsOkAnd, IfOk, IfErr, OnOk, OnErr};
 ghost use Rattle.std.specs.Cow.{cow_slice_items, IsBorrowedSlice, IsOwnedSlice};
 ghost use Rattle.hip_raw.specs.Meter.{RisesAtMost};
-ghost use Rattle.hip_bytes.specs.Cost.{owned_cost, taken_cost, OwnNeedsMemory};
-ghost use Rattle.hip_bytes.specs.Handle.{IsEmptyInline};
-ghost use Rattle.hip_bytes.specs.Kinds.{by_length, owned_kind, HasCapacity};
+ghost use Rattle.hip_bytes.specs.Cost.{owned_cost};
+ghost use Rattle.hip_bytes.specs.Kinds.{by_length, HasCapacity};
+ghost use Rattle.hip_bytes.specs.Made.{OwnedAnswers};
 
 use super::{HipByt, Repr};
 use crate::kind::{INLINE_CAPACITY, Kind};
 use hip_raw::{Backend, Meter, copy_counted};
 use std::alloc::{AllocError, Global};
 use std::borrow::CowSlice;
-use std::mem;
 
 impl<'b, B: Backend> HipByt<'b, B> {
     /// Equal bytes that no other value lends. Only lent bytes are copied. A refused value is handed back.
     #[inline]
     pub fn into_owned(self, alloc: Global) -> Result<HipByt<'static, B>, Self>
-        ensures items { IfOk result (λ handle. handle.items ≡ self.entry.items) }
-        ensures kind { IfOk result (λ handle. handle.kind ≡ owned_kind self.entry.kind (length self.entry.items)) }
-        ensures capacity { IfOk result (λ handle. HasCapacity handle.kind (length self.entry.items) handle.capacity) }
-        ensures kept { IfOk result (λ handle. self.entry.kind ≡ Kind.Allocated → handle.capacity ≡ self.entry.capacity) }
-        ensures memory { OnErr result (OwnNeedsMemory self.entry.kind (length self.entry.items)) }
-        ensures handed_back { IfErr result (λ back. back ≡ self.entry) }
+        ensures owned { OwnedAnswers self.entry result }
     {
         self.into_owned_metered(alloc, &mut Meter::new())
     }
@@ -34,13 +28,8 @@ impl<'b, B: Backend> HipByt<'b, B> {
         alloc: Global,
         meter: &mut Meter,
     ) -> Result<HipByt<'static, B>, Self>
-        ensures items { IfOk result (λ handle. handle.items ≡ self.entry.items) }
-        ensures kind { IfOk result (λ handle. handle.kind ≡ owned_kind self.entry.kind (length self.entry.items)) }
-        ensures capacity { IfOk result (λ handle. HasCapacity handle.kind (length self.entry.items) handle.capacity) }
-        ensures kept { IfOk result (λ handle. self.entry.kind ≡ Kind.Allocated → handle.capacity ≡ self.entry.capacity) }
-        ensures memory { OnErr result (OwnNeedsMemory self.entry.kind (length self.entry.items)) }
+        ensures owned { OwnedAnswers self.entry result }
         ensures counted { RisesAtMost meter.old meter.new (owned_cost B.SHARES self.entry.kind (length self.entry.items)) }
-        ensures handed_back { IfErr result (λ back. back ≡ self.entry) }
     {
         let _capacity = self.capacity();
         match self.bare.repr {
@@ -138,66 +127,5 @@ impl<'b, B: Backend> HipByt<'b, B> {
             Some(bytes) => Ok(CowSlice::Borrowed(bytes)),
             None => Ok(CowSlice::Owned(self.into_vec_copied(alloc)?)),
         }
-    }
-
-    /// Takes the bytes out in a vector, and leaves none, in the handle itself. [`HipByt::put_vec`] is the way back. After a refusal
-    /// the value is as it was.
-    pub fn take_vec(&mut self, alloc: Global) -> Result<Vec<u8>, AllocError>
-        ensures items { IfOk result (λ vec. vec.items ≡ self.old.items) }
-        ensures emptied { OnOk result (IsEmptyInline self.new) }
-        ensures err { OnErr result (self.new ≡ self.old) }
-    {
-        self.take_vec_metered(alloc, &mut Meter::new())
-    }
-
-    /// [`HipByt::take_vec`], counted.
-    pub fn take_vec_metered(
-        &mut self,
-        alloc: Global,
-        meter: &mut Meter,
-    ) -> Result<Vec<u8>, AllocError>
-        ensures items { IfOk result (λ vec. vec.items ≡ self.old.items) }
-        ensures emptied { OnOk result (IsEmptyInline self.new) }
-        ensures counted { RisesAtMost meter.old meter.new (length self.old.items) }
-        ensures err { OnErr result (self.new ≡ self.old) }
-    {
-        match mem::take(self).into_vec_copied_metered(alloc, meter) {
-            Ok(vec) => Ok(vec),
-            Err(back) => {
-                *self = back;
-                Err(AllocError)
-            }
-        }
-    }
-
-    /// Makes the value that of the vector, as by [`HipByt::from_vec`]. A refused vector is handed back, and the value is as it was.
-    pub fn put_vec(&mut self, alloc: Global, vec: Vec<u8>) -> Result<(), Vec<u8>>
-        ensures items { OnOk result (self.new.items ≡ vec.items) }
-        ensures kind { OnOk result (self.new.kind ≡ by_length (vec_len vec)) }
-        ensures capacity { OnOk result (HasCapacity self.new.kind (vec_len vec) self.new.capacity) }
-        ensures memory { OnErr result (INLINE_CAPACITY < vec_len vec) }
-        ensures err { OnErr result (self.new ≡ self.old) }
-        ensures handed_back { IfErr result (λ back. back ≡ vec) }
-    {
-        self.put_vec_metered(alloc, vec, &mut Meter::new())
-    }
-
-    /// [`HipByt::put_vec`], counted.
-    pub fn put_vec_metered(
-        &mut self,
-        alloc: Global,
-        vec: Vec<u8>,
-        meter: &mut Meter,
-    ) -> Result<(), Vec<u8>>
-        ensures items { OnOk result (self.new.items ≡ vec.items) }
-        ensures kind { OnOk result (self.new.kind ≡ by_length (vec_len vec)) }
-        ensures capacity { OnOk result (HasCapacity self.new.kind (vec_len vec) self.new.capacity) }
-        ensures memory { OnErr result (INLINE_CAPACITY < vec_len vec) }
-        ensures counted { RisesAtMost meter.old meter.new (taken_cost B.SHARES (vec_len vec)) }
-        ensures err { OnErr result (self.new ≡ self.old) }
-        ensures handed_back { IfErr result (λ back. back ≡ vec) }
-    {
-        *self = HipByt::from_vec_metered(alloc, vec, meter)?;
-        Ok(())
     }
 }

@@ -1,13 +1,13 @@
 //! Clones and parts.
-ghost use Rattle.std.specs.Prelude.{◌≡◌, ◌≤◌, ◌-◌, length, slice_range, IfOk, OnErr, None};
+ghost use Rattle.std.specs.Prelude.{◌≡◌, ◌≤◌, ◌-◌, length, slice_range, None};
 ghost use Rattle.hip_raw.specs.Meter.{RisesAtMost};
-ghost use Rattle.hip_bytes.specs.Cost.{clone_cost, cut_cost, CutNeedsMemory};
-ghost use Rattle.hip_bytes.specs.Kinds.{HasCapacity};
+ghost use Rattle.hip_bytes.specs.Cost.{clone_cost, cut_cost};
+ghost use Rattle.hip_bytes.specs.Made.{CloneAnswers, CutAnswers};
 ghost use Rattle.hip_bytes.specs.Range.{slice_fault, slice_of};
-ghost use Rattle.hip_bytes.specs.Slice.{IsPart, SliceAnswers, slice_cost};
+ghost use Rattle.hip_bytes.specs.Slice.{SliceAnswers, slice_cost};
 
 use super::{HipByt, Repr};
-use crate::kind::{INLINE_CAPACITY, Kind};
+use crate::kind::INLINE_CAPACITY;
 use crate::range::{bound_of, range_of, sound_range};
 use crate::slice_error::{SliceError, SliceRefusal};
 use hip_raw::{Backend, Borrowed, Inline, Meter};
@@ -18,10 +18,7 @@ impl<'b, B: Backend> HipByt<'b, B> {
     /// A handle of the same bytes and kind. On a backend that shares owners no byte of an owner is copied.
     #[inline]
     pub fn clone(&self, alloc: Global) -> Result<Self, AllocError>
-        ensures items { IfOk result (λ handle. handle.items ≡ self.now.items) }
-        ensures kind { IfOk result (λ handle. handle.kind ≡ self.now.kind) }
-        ensures capacity { IfOk result (λ handle. HasCapacity self.now.kind (length self.now.items) handle.capacity) }
-        ensures memory { OnErr result (self.now.kind ≡ Kind.Allocated) }
+        ensures clone { CloneAnswers self.now result }
     {
         self.clone_metered(alloc, &mut Meter::new())
     }
@@ -29,10 +26,7 @@ impl<'b, B: Backend> HipByt<'b, B> {
     /// [`HipByt::clone`], counted.
     #[inline]
     pub fn clone_metered(&self, alloc: Global, meter: &mut Meter) -> Result<Self, AllocError>
-        ensures items { IfOk result (λ handle. handle.items ≡ self.now.items) }
-        ensures kind { IfOk result (λ handle. handle.kind ≡ self.now.kind) }
-        ensures capacity { IfOk result (λ handle. HasCapacity self.now.kind (length self.now.items) handle.capacity) }
-        ensures memory { OnErr result (self.now.kind ≡ Kind.Allocated) }
+        ensures clone { CloneAnswers self.now result }
         ensures counted { RisesAtMost meter.old meter.new (clone_cost B.SHARES self.now.kind (length self.now.items)) }
     {
         let repr = match &self.bare.repr {
@@ -57,8 +51,7 @@ impl<'b, B: Backend> HipByt<'b, B> {
     ) -> Result<Self, AllocError>
         requires ordered { start ≤ end }
         requires in_bounds { end ≤ length self.now.items }
-        ensures part { IfOk result (λ part. IsPart self.now part (slice_range self.now.items start end)) }
-        ensures memory { OnErr result (CutNeedsMemory self.now.kind (end - start)) }
+        ensures part { CutAnswers self.now (slice_range self.now.items start end) result }
         ensures counted { RisesAtMost meter.old meter.new (cut_cost B.SHARES self.now.kind (end - start)) }
     {
         let repr = match &self.bare.repr {
@@ -149,8 +142,7 @@ impl<'b, B: Backend> HipByt<'b, B> {
     pub fn slice<R: RangeBounds<usize>>(&self, alloc: Global, range: R) -> Result<Self, AllocError>
         requires bounds { R.has_bounds range }
         requires valid { slice_fault (R.start_bound range) (R.end_bound range) (length self.now.items) ≡ None }
-        ensures part { IfOk result (λ part. IsPart self.now part (slice_of (R.start_bound range) (R.end_bound range) self.now.items)) }
-        ensures memory { OnErr result (CutNeedsMemory self.now.kind (length (slice_of (R.start_bound range) (R.end_bound range) self.now.items))) }
+        ensures part { CutAnswers self.now (slice_of (R.start_bound range) (R.end_bound range) self.now.items) result }
     {
         self.slice_metered(alloc, range, &mut Meter::new())
     }
@@ -165,8 +157,7 @@ impl<'b, B: Backend> HipByt<'b, B> {
     ) -> Result<Self, AllocError>
         requires bounds { R.has_bounds range }
         requires valid { slice_fault (R.start_bound range) (R.end_bound range) (length self.now.items) ≡ None }
-        ensures part { IfOk result (λ part. IsPart self.now part (slice_of (R.start_bound range) (R.end_bound range) self.now.items)) }
-        ensures memory { OnErr result (CutNeedsMemory self.now.kind (length (slice_of (R.start_bound range) (R.end_bound range) self.now.items))) }
+        ensures part { CutAnswers self.now (slice_of (R.start_bound range) (R.end_bound range) self.now.items) result }
         ensures counted { RisesAtMost meter.old meter.new (cut_cost B.SHARES self.now.kind (length (slice_of (R.start_bound range) (R.end_bound range) self.now.items))) }
     {
         let (start, end) = sound_range(
@@ -186,8 +177,7 @@ impl<'b, B: Backend> HipByt<'b, B> {
     ) -> Result<Self, AllocError>
         requires bounds { R.has_bounds range }
         requires valid { slice_fault (R.start_bound range) (R.end_bound range) (length self.now.items) ≡ None }
-        ensures part { IfOk result (λ part. IsPart self.now part (slice_of (R.start_bound range) (R.end_bound range) self.now.items)) }
-        ensures memory { OnErr result (CutNeedsMemory self.now.kind (length (slice_of (R.start_bound range) (R.end_bound range) self.now.items))) }
+        ensures part { CutAnswers self.now (slice_of (R.start_bound range) (R.end_bound range) self.now.items) result }
     {
         self.slice_metered(alloc, range, &mut Meter::new())
     }
@@ -202,8 +192,7 @@ impl<'b, B: Backend> HipByt<'b, B> {
     ) -> Result<Self, AllocError>
         requires bounds { R.has_bounds range }
         requires valid { slice_fault (R.start_bound range) (R.end_bound range) (length self.now.items) ≡ None }
-        ensures part { IfOk result (λ part. IsPart self.now part (slice_of (R.start_bound range) (R.end_bound range) self.now.items)) }
-        ensures memory { OnErr result (CutNeedsMemory self.now.kind (length (slice_of (R.start_bound range) (R.end_bound range) self.now.items))) }
+        ensures part { CutAnswers self.now (slice_of (R.start_bound range) (R.end_bound range) self.now.items) result }
         ensures counted { RisesAtMost meter.old meter.new (cut_cost B.SHARES self.now.kind (length (slice_of (R.start_bound range) (R.end_bound range) self.now.items))) }
     {
         self.slice_metered(alloc, range, meter)

@@ -2,6 +2,7 @@
 ghost use Rattle.std.specs.Prelude.{◌≡◌, ◌≤◌, ◌<◌, ◌+◌, ◌↔◌, ◌∷◌, [], ◌++◌, length, take, max, min, IfOk, IfNone, IsSome, OnOk, OnErr, OnSome};
 ghost use Rattle.std.specs.Option.{option_to_list};
 ghost use Rattle.hip_raw.specs.Meter.{RisesAtMost, times_copied};
+ghost use Rattle.hip_bytes.specs.Change.{IsShortened, PopAnswers, PushAnswers, ShrinkAnswers};
 ghost use Rattle.hip_bytes.specs.Cost.{CutNeedsMemory, PushNeedsMemory, shortened_cost, shrink_cost};
 ghost use Rattle.hip_bytes.specs.Repr.{handle_of};
 ghost use Rattle.hip_bytes.specs.Kinds.{by_length, cut_kind, kept_capacity, PushedKind, HasCapacity};
@@ -49,11 +50,7 @@ impl<'b, B: Backend> HipByt<'b, B> {
     /// Adds bytes at the end: in place where they fit the handle itself or its owner is not shared, else in a copy.
     #[inline(always)]
     pub fn push_slice(&mut self, alloc: Global, addition: &[u8]) -> Result<(), AllocError>
-        ensures items { OnOk result (self.new.items ≡ self.old.items ++ addition.now) }
-        ensures kind { OnOk result (PushedKind B.SHARES self.old.kind (length self.new.items) self.new.kind) }
-        ensures capacity { OnOk result (HasCapacity self.new.kind (length self.new.items) self.new.capacity) }
-        ensures memory { OnErr result (PushNeedsMemory self.old.kind (length self.old.items + length addition.now)) }
-        ensures err { OnErr result (self.new ≡ self.old) }
+        ensures push { PushAnswers B.SHARES self.old addition.now result self.new }
     {
         self.push_slice_metered(alloc, addition, &mut Meter::new())
     }
@@ -66,12 +63,8 @@ impl<'b, B: Backend> HipByt<'b, B> {
         addition: &[u8],
         meter: &mut Meter,
     ) -> Result<(), AllocError>
-        ensures items { OnOk result (self.new.items ≡ self.old.items ++ addition.now) }
-        ensures kind { OnOk result (PushedKind B.SHARES self.old.kind (length self.new.items) self.new.kind) }
-        ensures capacity { OnOk result (HasCapacity self.new.kind (length self.new.items) self.new.capacity) }
-        ensures memory { OnErr result (PushNeedsMemory self.old.kind (length self.old.items + length addition.now)) }
+        ensures push { PushAnswers B.SHARES self.old addition.now result self.new }
         ensures counted { RisesAtMost meter.old meter.new (times_copied B.SHARES (length self.old.items + length addition.now)) }
-        ensures err { OnErr result (self.new ≡ self.old) }
     {
         match &mut self.bare.repr {
             Repr::Inline(inline) if addition.len() <= INLINE_CAPACITY - inline.len() => {
@@ -116,11 +109,7 @@ impl<'b, B: Backend> HipByt<'b, B> {
     /// Adds a byte at the end.
     #[inline(always)]
     pub fn push(&mut self, alloc: Global, byte: u8) -> Result<(), AllocError>
-        ensures items { OnOk result (self.new.items ≡ self.old.items ++ byte ∷ []) }
-        ensures kind { OnOk result (PushedKind B.SHARES self.old.kind (length self.new.items) self.new.kind) }
-        ensures capacity { OnOk result (HasCapacity self.new.kind (length self.new.items) self.new.capacity) }
-        ensures memory { OnErr result (PushNeedsMemory self.old.kind (length self.old.items + 1)) }
-        ensures err { OnErr result (self.new ≡ self.old) }
+        ensures push { PushAnswers B.SHARES self.old (byte ∷ []) result self.new }
     {
         self.push_slice(alloc, &[byte])
     }
@@ -133,12 +122,8 @@ impl<'b, B: Backend> HipByt<'b, B> {
         byte: u8,
         meter: &mut Meter,
     ) -> Result<(), AllocError>
-        ensures items { OnOk result (self.new.items ≡ self.old.items ++ byte ∷ []) }
-        ensures kind { OnOk result (PushedKind B.SHARES self.old.kind (length self.new.items) self.new.kind) }
-        ensures capacity { OnOk result (HasCapacity self.new.kind (length self.new.items) self.new.capacity) }
-        ensures memory { OnErr result (PushNeedsMemory self.old.kind (length self.old.items + 1)) }
+        ensures push { PushAnswers B.SHARES self.old (byte ∷ []) result self.new }
         ensures counted { RisesAtMost meter.old meter.new (times_copied B.SHARES (length self.old.items + 1)) }
-        ensures err { OnErr result (self.new ≡ self.old) }
     {
         self.push_slice_metered(alloc, &[byte], meter)
     }
@@ -146,10 +131,7 @@ impl<'b, B: Backend> HipByt<'b, B> {
     /// Keeps the first bytes, as many as are told, or all where there are no more.
     #[inline]
     pub fn truncate(&mut self, len: usize)
-        ensures items { self.new.items ≡ take len self.old.items }
-        ensures kind { len < length self.old.items → self.new.kind ≡ cut_kind self.old.kind len }
-        ensures capacity { len < length self.old.items → self.new.capacity ≡ kept_capacity self.old.kind len self.old.capacity }
-        ensures unchanged { length self.old.items ≤ len → self.new ≡ self.old }
+        ensures shortened { IsShortened self.old self.new len }
     {
         self.truncate_metered(len, &mut Meter::new());
     }
@@ -157,10 +139,7 @@ impl<'b, B: Backend> HipByt<'b, B> {
     /// [`HipByt::truncate`], counted.
     #[inline]
     pub fn truncate_metered(&mut self, len: usize, meter: &mut Meter)
-        ensures items { self.new.items ≡ take len self.old.items }
-        ensures kind { len < length self.old.items → self.new.kind ≡ cut_kind self.old.kind len }
-        ensures capacity { len < length self.old.items → self.new.capacity ≡ kept_capacity self.old.kind len self.old.capacity }
-        ensures unchanged { length self.old.items ≤ len → self.new ≡ self.old }
+        ensures shortened { IsShortened self.old self.new len }
         ensures counted { RisesAtMost meter.old meter.new (shortened_cost self.old.kind) }
     {
         match &mut self.bare.repr {
@@ -178,10 +157,7 @@ impl<'b, B: Backend> HipByt<'b, B> {
     /// Lets go of all bytes.
     #[inline]
     pub fn clear(&mut self)
-        ensures items { self.new.items ≡ [] }
-        ensures kind { 0 < length self.old.items → self.new.kind ≡ cut_kind self.old.kind 0 }
-        ensures capacity { 0 < length self.old.items → self.new.capacity ≡ kept_capacity self.old.kind 0 self.old.capacity }
-        ensures unchanged { self.old.items ≡ [] → self.new ≡ self.old }
+        ensures shortened { IsShortened self.old self.new 0 }
     {
         self.clear_metered(&mut Meter::new());
     }
@@ -189,10 +165,7 @@ impl<'b, B: Backend> HipByt<'b, B> {
     /// [`HipByt::clear`], counted.
     #[inline]
     pub fn clear_metered(&mut self, meter: &mut Meter)
-        ensures items { self.new.items ≡ [] }
-        ensures kind { 0 < length self.old.items → self.new.kind ≡ cut_kind self.old.kind 0 }
-        ensures capacity { 0 < length self.old.items → self.new.capacity ≡ kept_capacity self.old.kind 0 self.old.capacity }
-        ensures unchanged { self.old.items ≡ [] → self.new ≡ self.old }
+        ensures shortened { IsShortened self.old self.new 0 }
         ensures counted { RisesAtMost meter.old meter.new (shortened_cost self.old.kind) }
     {
         self.truncate_metered(0, meter);
@@ -201,12 +174,7 @@ impl<'b, B: Backend> HipByt<'b, B> {
     /// Takes the last byte off.
     #[inline]
     pub fn pop(&mut self) -> Option<u8>
-        ensures items { self.old.items ≡ self.new.items ++ option_to_list result }
-        ensures some { IsSome result ↔ (0 < length self.old.items) }
-        ensures kind { OnSome result (self.new.kind ≡ cut_kind self.old.kind (length self.new.items)) }
-        ensures capacity { OnSome result (self.new.capacity ≡ kept_capacity self.old.kind (length self.new.items) self.old.capacity) }
-        ensures empty { IfNone result (self.old.items ≡ []) }
-        ensures none { IfNone result (self.new ≡ self.old) }
+        ensures pop { PopAnswers self.old result self.new }
     {
         self.pop_metered(&mut Meter::new())
     }
@@ -214,12 +182,7 @@ impl<'b, B: Backend> HipByt<'b, B> {
     /// [`HipByt::pop`], counted.
     #[inline]
     pub fn pop_metered(&mut self, meter: &mut Meter) -> Option<u8>
-        ensures items { self.old.items ≡ self.new.items ++ option_to_list result }
-        ensures some { IsSome result ↔ (0 < length self.old.items) }
-        ensures kind { OnSome result (self.new.kind ≡ cut_kind self.old.kind (length self.new.items)) }
-        ensures capacity { OnSome result (self.new.capacity ≡ kept_capacity self.old.kind (length self.new.items) self.old.capacity) }
-        ensures empty { IfNone result (self.old.items ≡ []) }
-        ensures none { IfNone result (self.new ≡ self.old) }
+        ensures pop { PopAnswers self.old result self.new }
         ensures counted { RisesAtMost meter.old meter.new (shortened_cost self.old.kind) }
     {
         match &mut self.bare.repr {
@@ -236,12 +199,7 @@ impl<'b, B: Backend> HipByt<'b, B> {
     // The same where the bytes may become few enough for the handle itself, or don't lie with an owner.
     #[inline(never)]
     fn pop_short(&mut self, meter: &mut Meter) -> Option<u8>
-        ensures items { self.old.items ≡ self.new.items ++ option_to_list result }
-        ensures some { IsSome result ↔ (0 < length self.old.items) }
-        ensures kind { OnSome result (self.new.kind ≡ cut_kind self.old.kind (length self.new.items)) }
-        ensures capacity { OnSome result (self.new.capacity ≡ kept_capacity self.old.kind (length self.new.items) self.old.capacity) }
-        ensures empty { IfNone result (self.old.items ≡ []) }
-        ensures none { IfNone result (self.new ≡ self.old) }
+        ensures pop { PopAnswers self.old result self.new }
         ensures counted { RisesAtMost meter.old meter.new (shortened_cost self.old.kind) }
     {
         let (last, rest) = self.as_slice().split_last()?;
@@ -253,13 +211,7 @@ impl<'b, B: Backend> HipByt<'b, B> {
     /// Gives room back: to the handle itself where `least` and the bytes fit it, else to no less than both. Bytes that lie in the handle
     /// itself or with another value stay as they are.
     pub fn shrink_to(&mut self, alloc: Global, least: usize) -> Result<(), AllocError>
-        ensures items { self.new.items ≡ self.old.items }
-        ensures kind { OnOk result (self.new.kind ≡ cut_kind self.old.kind (max least (length self.old.items))) }
-        ensures capacity { OnOk result (HasCapacity self.new.kind (length self.new.items) self.new.capacity) }
-        ensures kept { OnOk result (self.new.kind ≡ Kind.Allocated → min self.old.capacity (max least (length self.old.items)) ≤ self.new.capacity) }
-        ensures shrunk { self.new.kind ≡ Kind.Allocated → self.new.capacity ≤ self.old.capacity }
-        ensures memory { OnErr result (CutNeedsMemory self.old.kind (max least (length self.old.items))) }
-        ensures err { OnErr result (self.new ≡ self.old) }
+        ensures shrink { ShrinkAnswers self.old (max least (length self.old.items)) result self.new }
     {
         self.shrink_to_metered(alloc, least, &mut Meter::new())
     }
@@ -271,14 +223,8 @@ impl<'b, B: Backend> HipByt<'b, B> {
         least: usize,
         meter: &mut Meter,
     ) -> Result<(), AllocError>
-        ensures items { self.new.items ≡ self.old.items }
-        ensures kind { OnOk result (self.new.kind ≡ cut_kind self.old.kind (max least (length self.old.items))) }
-        ensures capacity { OnOk result (HasCapacity self.new.kind (length self.new.items) self.new.capacity) }
-        ensures kept { OnOk result (self.new.kind ≡ Kind.Allocated → min self.old.capacity (max least (length self.old.items)) ≤ self.new.capacity) }
-        ensures shrunk { self.new.kind ≡ Kind.Allocated → self.new.capacity ≤ self.old.capacity }
-        ensures memory { OnErr result (CutNeedsMemory self.old.kind (max least (length self.old.items))) }
+        ensures shrink { ShrinkAnswers self.old (max least (length self.old.items)) result self.new }
         ensures counted { RisesAtMost meter.old meter.new (shrink_cost B.SHARES self.old.kind (length self.old.items)) }
-        ensures err { OnErr result (self.new ≡ self.old) }
     {
         match &mut self.bare.repr {
             Repr::Inline(_) | Repr::Borrowed(_) => Ok(()),
@@ -293,12 +239,7 @@ impl<'b, B: Backend> HipByt<'b, B> {
 
     /// [`HipByt::shrink_to`] as far as it goes.
     pub fn shrink_to_fit(&mut self, alloc: Global) -> Result<(), AllocError>
-        ensures items { self.new.items ≡ self.old.items }
-        ensures kind { OnOk result (self.new.kind ≡ cut_kind self.old.kind (length self.old.items)) }
-        ensures capacity { OnOk result (HasCapacity self.new.kind (length self.new.items) self.new.capacity) }
-        ensures shrunk { self.new.kind ≡ Kind.Allocated → self.new.capacity ≤ self.old.capacity }
-        ensures memory { OnErr result (CutNeedsMemory self.old.kind (length self.old.items)) }
-        ensures err { OnErr result (self.new ≡ self.old) }
+        ensures shrink { ShrinkAnswers self.old (length self.old.items) result self.new }
     {
         self.shrink_to(alloc, 0)
     }

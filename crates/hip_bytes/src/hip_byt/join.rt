@@ -1,10 +1,9 @@
 //! Values that are made of the items of an iterator, which is read once.
-ghost use Rattle.std.specs.Prelude.{◌≡◌, ◌≤◌, ◌<◌, ◌+◌, ◌^◌, List, ℕ, [], nat_le, length, IfOk, OnErr};
-ghost use Rattle.std.specs.Borrow.{Bor};
-ghost use Rattle.std.specs.Iterator.{IsFinite, Drains, Yields};
+ghost use Rattle.std.specs.Prelude.{◌≡◌, ◌≤◌, ◌<◌, ◌+◌, ◌^◌, [], nat_le, length, IfOk, OnErr};
+ghost use Rattle.std.specs.Iterator.{IsFinite};
 ghost use Rattle.hip_raw.specs.Meter.{RisesAtMost};
-ghost use Rattle.hip_bytes.specs.Join.{joined, join_cost};
-ghost use Rattle.hip_bytes.specs.Kinds.{by_length, HasCapacity};
+ghost use Rattle.hip_bytes.specs.Join.{joined, GivesAll, GivesFirst};
+ghost use Rattle.hip_bytes.specs.Made.{GatherAnswers, GatherCosts};
 ghost use Rattle.hip_bytes.specs.declared.kind.TheConstants.{INLINE_CAPACITY};
 
 use super::HipByt;
@@ -20,14 +19,7 @@ impl<'b, B: Backend> HipByt<'b, B> {
         pieces: I,
     ) -> Result<Self, GrowFault>
         requires { (it : I.IntoIter) → I.into_iter_gives pieces it → I.IntoIter.can_next it × IsFinite (I.IntoIter.remaining it) }
-        ensures items { IfOk result (λ handle. (it : I.IntoIter) × (xs : List (Bor (List ℕ)))
-            × I.into_iter_gives pieces it × Drains I.IntoIter.next_gives it xs × (handle.items ≡ joined [] xs)) }
-        ensures kind { IfOk result (λ handle. handle.kind ≡ by_length (length handle.items)) }
-        ensures capacity { IfOk result (λ handle. HasCapacity handle.kind (length handle.items) handle.capacity) }
-        ensures too_long { result ≡ Err GrowFault.TooLong → (it : I.IntoIter) × (xs : List (Bor (List ℕ))) × (later : I.IntoIter)
-            × I.into_iter_gives pieces it × Yields I.IntoIter.next_gives it xs later × (2 ^ 64 ≤ length (joined [] xs)) }
-        ensures memory { result ≡ Err GrowFault.Memory → (it : I.IntoIter) × (xs : List (Bor (List ℕ))) × (later : I.IntoIter)
-            × I.into_iter_gives pieces it × Yields I.IntoIter.next_gives it xs later × (INLINE_CAPACITY < length (joined [] xs)) }
+        ensures joined { GatherAnswers I.into_iter_gives I.IntoIter.next_gives pieces [] result }
     {
         Self::join(alloc, pieces, &[])
     }
@@ -39,18 +31,8 @@ impl<'b, B: Backend> HipByt<'b, B> {
         meter: &mut Meter,
     ) -> Result<Self, GrowFault>
         requires { (it : I.IntoIter) → I.into_iter_gives pieces it → I.IntoIter.can_next it × IsFinite (I.IntoIter.remaining it) }
-        ensures items { IfOk result (λ handle. (it : I.IntoIter) × (xs : List (Bor (List ℕ)))
-            × I.into_iter_gives pieces it × Drains I.IntoIter.next_gives it xs × (handle.items ≡ joined [] xs)) }
-        ensures kind { IfOk result (λ handle. handle.kind ≡ by_length (length handle.items)) }
-        ensures capacity { IfOk result (λ handle. HasCapacity handle.kind (length handle.items) handle.capacity) }
-        ensures too_long { result ≡ Err GrowFault.TooLong → (it : I.IntoIter) × (xs : List (Bor (List ℕ))) × (later : I.IntoIter)
-            × I.into_iter_gives pieces it × Yields I.IntoIter.next_gives it xs later × (2 ^ 64 ≤ length (joined [] xs)) }
-        ensures memory { result ≡ Err GrowFault.Memory → (it : I.IntoIter) × (xs : List (Bor (List ℕ))) × (later : I.IntoIter)
-            × I.into_iter_gives pieces it × Yields I.IntoIter.next_gives it xs later × (INLINE_CAPACITY < length (joined [] xs)) }
-        ensures counted { IfOk result (λ handle. RisesAtMost meter.old meter.new (join_cost B.SHARES (length handle.items))) }
-        ensures refused_counts { OnErr result ((it : I.IntoIter) × (xs : List (Bor (List ℕ))) × (later : I.IntoIter)
-            × I.into_iter_gives pieces it × Yields I.IntoIter.next_gives it xs later
-            × RisesAtMost meter.old meter.new (join_cost B.SHARES (length (joined [] xs)))) }
+        ensures joined { GatherAnswers I.into_iter_gives I.IntoIter.next_gives pieces [] result }
+        ensures counted { GatherCosts B.SHARES I.into_iter_gives I.IntoIter.next_gives pieces [] result meter.old meter.new }
     {
         Self::join_metered(alloc, pieces, &[], meter)
     }
@@ -62,14 +44,7 @@ impl<'b, B: Backend> HipByt<'b, B> {
         sep: &[u8],
     ) -> Result<Self, GrowFault>
         requires { (it : I.IntoIter) → I.into_iter_gives pieces it → I.IntoIter.can_next it × IsFinite (I.IntoIter.remaining it) }
-        ensures items { IfOk result (λ handle. (it : I.IntoIter) × (xs : List (Bor (List ℕ)))
-            × I.into_iter_gives pieces it × Drains I.IntoIter.next_gives it xs × (handle.items ≡ joined sep.now xs)) }
-        ensures kind { IfOk result (λ handle. handle.kind ≡ by_length (length handle.items)) }
-        ensures capacity { IfOk result (λ handle. HasCapacity handle.kind (length handle.items) handle.capacity) }
-        ensures too_long { result ≡ Err GrowFault.TooLong → (it : I.IntoIter) × (xs : List (Bor (List ℕ))) × (later : I.IntoIter)
-            × I.into_iter_gives pieces it × Yields I.IntoIter.next_gives it xs later × (2 ^ 64 ≤ length (joined sep.now xs)) }
-        ensures memory { result ≡ Err GrowFault.Memory → (it : I.IntoIter) × (xs : List (Bor (List ℕ))) × (later : I.IntoIter)
-            × I.into_iter_gives pieces it × Yields I.IntoIter.next_gives it xs later × (INLINE_CAPACITY < length (joined sep.now xs)) }
+        ensures joined { GatherAnswers I.into_iter_gives I.IntoIter.next_gives pieces sep.now result }
     {
         Self::join_metered(alloc, pieces, sep, &mut Meter::new())
     }
@@ -82,18 +57,8 @@ impl<'b, B: Backend> HipByt<'b, B> {
         meter: &mut Meter,
     ) -> Result<Self, GrowFault>
         requires { (it : I.IntoIter) → I.into_iter_gives pieces it → I.IntoIter.can_next it × IsFinite (I.IntoIter.remaining it) }
-        ensures items { IfOk result (λ handle. (it : I.IntoIter) × (xs : List (Bor (List ℕ)))
-            × I.into_iter_gives pieces it × Drains I.IntoIter.next_gives it xs × (handle.items ≡ joined sep.now xs)) }
-        ensures kind { IfOk result (λ handle. handle.kind ≡ by_length (length handle.items)) }
-        ensures capacity { IfOk result (λ handle. HasCapacity handle.kind (length handle.items) handle.capacity) }
-        ensures too_long { result ≡ Err GrowFault.TooLong → (it : I.IntoIter) × (xs : List (Bor (List ℕ))) × (later : I.IntoIter)
-            × I.into_iter_gives pieces it × Yields I.IntoIter.next_gives it xs later × (2 ^ 64 ≤ length (joined sep.now xs)) }
-        ensures memory { result ≡ Err GrowFault.Memory → (it : I.IntoIter) × (xs : List (Bor (List ℕ))) × (later : I.IntoIter)
-            × I.into_iter_gives pieces it × Yields I.IntoIter.next_gives it xs later × (INLINE_CAPACITY < length (joined sep.now xs)) }
-        ensures counted { IfOk result (λ handle. RisesAtMost meter.old meter.new (join_cost B.SHARES (length handle.items))) }
-        ensures refused_counts { OnErr result ((it : I.IntoIter) × (xs : List (Bor (List ℕ))) × (later : I.IntoIter)
-            × I.into_iter_gives pieces it × Yields I.IntoIter.next_gives it xs later
-            × RisesAtMost meter.old meter.new (join_cost B.SHARES (length (joined sep.now xs)))) }
+        ensures joined { GatherAnswers I.into_iter_gives I.IntoIter.next_gives pieces sep.now result }
+        ensures counted { GatherCosts B.SHARES I.into_iter_gives I.IntoIter.next_gives pieces sep.now result meter.old meter.new }
     {
         // A meter of its own, since what was lent to a call that isn't inlined lies in memory.
         let mut apart = Meter::new();
@@ -112,17 +77,12 @@ fn gathered<'s, I: IntoIterator<Item = &'s [u8]>>(
     meter: &mut Meter,
 ) -> Result<Gathering, GrowFault>
     requires { (it : I.IntoIter) → I.into_iter_gives pieces it → I.IntoIter.can_next it × IsFinite (I.IntoIter.remaining it) }
-    ensures items { IfOk result (λ made. (it : I.IntoIter) × (xs : List (Bor (List ℕ)))
-        × I.into_iter_gives pieces it × Drains I.IntoIter.next_gives it xs × (made.items ≡ joined sep.now xs)) }
+    ensures items { IfOk result (λ made. GivesAll I.into_iter_gives I.IntoIter.next_gives pieces (λ xs. made.items ≡ joined sep.now xs)) }
     ensures place { IfOk result (λ made. made.in_handle ≡ nat_le (length made.items) INLINE_CAPACITY) }
-    ensures too_long { result ≡ Err GrowFault.TooLong → (it : I.IntoIter) × (xs : List (Bor (List ℕ))) × (later : I.IntoIter)
-        × I.into_iter_gives pieces it × Yields I.IntoIter.next_gives it xs later × (2 ^ 64 ≤ length (joined sep.now xs)) }
-    ensures memory { result ≡ Err GrowFault.Memory → (it : I.IntoIter) × (xs : List (Bor (List ℕ))) × (later : I.IntoIter)
-        × I.into_iter_gives pieces it × Yields I.IntoIter.next_gives it xs later × (INLINE_CAPACITY < length (joined sep.now xs)) }
+    ensures too_long { result ≡ Err GrowFault.TooLong → GivesFirst I.into_iter_gives I.IntoIter.next_gives pieces (λ xs. 2 ^ 64 ≤ length (joined sep.now xs)) }
+    ensures memory { result ≡ Err GrowFault.Memory → GivesFirst I.into_iter_gives I.IntoIter.next_gives pieces (λ xs. INLINE_CAPACITY < length (joined sep.now xs)) }
     ensures counted { IfOk result (λ made. RisesAtMost meter.old meter.new (length made.items + INLINE_CAPACITY)) }
-    ensures refused_counts { OnErr result ((it : I.IntoIter) × (xs : List (Bor (List ℕ))) × (later : I.IntoIter)
-        × I.into_iter_gives pieces it × Yields I.IntoIter.next_gives it xs later
-        × RisesAtMost meter.old meter.new (length (joined sep.now xs) + INLINE_CAPACITY)) }
+    ensures refused_counts { OnErr result (GivesFirst I.into_iter_gives I.IntoIter.next_gives pieces (λ xs. RisesAtMost meter.old meter.new (length (joined sep.now xs) + INLINE_CAPACITY))) }
 {
     let mut made = Gathering::new();
     let mut gap: &[u8] = &[];

@@ -2,8 +2,8 @@
 ghost use Rattle.std.specs.Prelude.{◌≡◌, ◌≤◌, ◌<◌, ◌↔◌, [], length, vec_len, IsSome, IfSome, IfNone, IfOk, IfErr, OnErr};
 ghost use Rattle.hip_raw.specs.Meter.{RisesAtMost, times_copied};
 ghost use Rattle.hip_bytes.specs.Cost.{taken_cost};
-ghost use Rattle.hip_bytes.specs.Handle.{IsEmptyInline};
-ghost use Rattle.hip_bytes.specs.Kinds.{by_length, HasCapacity};
+ghost use Rattle.hip_bytes.specs.Kinds.{by_length, Holds, IsEmptyInline};
+ghost use Rattle.hip_bytes.specs.Made.{MakeAnswers};
 
 use super::{HipByt, Repr};
 use crate::kind::{INLINE_CAPACITY, Kind};
@@ -14,9 +14,7 @@ impl<'b, B: Backend> HipByt<'b, B> {
     /// No bytes.
     #[inline]
     pub fn new() -> Self
-        ensures items { result.items ≡ [] }
-        ensures kind { result.kind ≡ Kind.Inline }
-        ensures capacity { result.capacity ≡ INLINE_CAPACITY }
+        ensures holds { IsEmptyInline result }
     {
         HipByt::of(Repr::Inline(Inline::empty()))
     }
@@ -25,9 +23,7 @@ impl<'b, B: Backend> HipByt<'b, B> {
     #[inline]
     pub fn inline(bytes: &[u8]) -> Self
         requires { length bytes.now ≤ INLINE_CAPACITY }
-        ensures items { result.items ≡ bytes.now }
-        ensures kind { result.kind ≡ Kind.Inline }
-        ensures capacity { result.capacity ≡ INLINE_CAPACITY }
+        ensures holds { Holds result Kind.Inline bytes.now }
     {
         Self::inline_metered(bytes, &mut Meter::new())
     }
@@ -36,9 +32,7 @@ impl<'b, B: Backend> HipByt<'b, B> {
     #[inline]
     pub fn inline_metered(bytes: &[u8], meter: &mut Meter) -> Self
         requires { length bytes.now ≤ INLINE_CAPACITY }
-        ensures items { result.items ≡ bytes.now }
-        ensures kind { result.kind ≡ Kind.Inline }
-        ensures capacity { result.capacity ≡ INLINE_CAPACITY }
+        ensures holds { Holds result Kind.Inline bytes.now }
         ensures counted { RisesAtMost meter.old meter.new (length bytes.now) }
     {
         HipByt::of(Repr::Inline(Inline::new_unchecked_metered(bytes, meter)))
@@ -48,9 +42,7 @@ impl<'b, B: Backend> HipByt<'b, B> {
     #[inline]
     pub fn try_inline(bytes: &[u8]) -> Option<Self>
         ensures fits { IsSome result ↔ (length bytes.now ≤ INLINE_CAPACITY) }
-        ensures items { IfSome result (λ handle. handle.items ≡ bytes.now) }
-        ensures kind { IfSome result (λ handle. handle.kind ≡ Kind.Inline) }
-        ensures capacity { IfSome result (λ handle. handle.capacity ≡ INLINE_CAPACITY) }
+        ensures holds { IfSome result (λ handle. Holds handle Kind.Inline bytes.now) }
     {
         Self::try_inline_metered(bytes, &mut Meter::new())
     }
@@ -59,9 +51,7 @@ impl<'b, B: Backend> HipByt<'b, B> {
     #[inline]
     pub fn try_inline_metered(bytes: &[u8], meter: &mut Meter) -> Option<Self>
         ensures fits { IsSome result ↔ (length bytes.now ≤ INLINE_CAPACITY) }
-        ensures items { IfSome result (λ handle. handle.items ≡ bytes.now) }
-        ensures kind { IfSome result (λ handle. handle.kind ≡ Kind.Inline) }
-        ensures capacity { IfSome result (λ handle. handle.capacity ≡ INLINE_CAPACITY) }
+        ensures holds { IfSome result (λ handle. Holds handle Kind.Inline bytes.now) }
         ensures counted { RisesAtMost meter.old meter.new (length bytes.now) }
         ensures none { IfNone result (meter.new ≡ meter.old) }
     {
@@ -75,9 +65,7 @@ impl<'b, B: Backend> HipByt<'b, B> {
     /// No bytes, with room for so many.
     #[inline]
     pub fn with_capacity(alloc: Global, capacity: usize) -> Result<Self, AllocError>
-        ensures items { IfOk result (λ handle. handle.items ≡ []) }
-        ensures kind { IfOk result (λ handle. handle.kind ≡ by_length capacity) }
-        ensures capacity { IfOk result (λ handle. HasCapacity handle.kind 0 handle.capacity) }
+        ensures holds { IfOk result (λ handle. Holds handle (by_length capacity) []) }
         ensures room { IfOk result (λ handle. capacity ≤ handle.capacity) }
         ensures memory { OnErr result (INLINE_CAPACITY < capacity) }
     {
@@ -94,9 +82,7 @@ impl<'b, B: Backend> HipByt<'b, B> {
     /// These bytes, none copied.
     #[inline]
     pub fn borrowed(bytes: &'b [u8]) -> Self
-        ensures items { result.items ≡ bytes.entry.now }
-        ensures kind { result.kind ≡ Kind.Borrowed }
-        ensures capacity { result.capacity ≡ length bytes.entry.now }
+        ensures holds { Holds result Kind.Borrowed bytes.entry.now }
     {
         HipByt::of(Repr::Borrowed(Borrowed::new(bytes)))
     }
@@ -104,9 +90,7 @@ impl<'b, B: Backend> HipByt<'b, B> {
     /// These bytes, which live as long as the program. None is copied.
     #[inline]
     pub fn from_static(bytes: &'static [u8]) -> Self
-        ensures items { result.items ≡ bytes.now }
-        ensures kind { result.kind ≡ Kind.Borrowed }
-        ensures capacity { result.capacity ≡ length bytes.now }
+        ensures holds { Holds result Kind.Borrowed bytes.now }
     {
         Self::borrowed(bytes)
     }
@@ -114,10 +98,7 @@ impl<'b, B: Backend> HipByt<'b, B> {
     /// A copy of these bytes.
     #[inline]
     pub fn from_slice(alloc: Global, bytes: &[u8]) -> Result<Self, AllocError>
-        ensures items { IfOk result (λ handle. handle.items ≡ bytes.now) }
-        ensures kind { IfOk result (λ handle. handle.kind ≡ by_length (length bytes.now)) }
-        ensures capacity { IfOk result (λ handle. HasCapacity handle.kind (length bytes.now) handle.capacity) }
-        ensures memory { OnErr result (INLINE_CAPACITY < length bytes.now) }
+        ensures made { MakeAnswers bytes.now result }
     {
         Self::from_slice_metered(alloc, bytes, &mut Meter::new())
     }
@@ -129,10 +110,7 @@ impl<'b, B: Backend> HipByt<'b, B> {
         bytes: &[u8],
         meter: &mut Meter,
     ) -> Result<Self, AllocError>
-        ensures items { IfOk result (λ handle. handle.items ≡ bytes.now) }
-        ensures kind { IfOk result (λ handle. handle.kind ≡ by_length (length bytes.now)) }
-        ensures capacity { IfOk result (λ handle. HasCapacity handle.kind (length bytes.now) handle.capacity) }
-        ensures memory { OnErr result (INLINE_CAPACITY < length bytes.now) }
+        ensures made { MakeAnswers bytes.now result }
         ensures counted { RisesAtMost meter.old meter.new (times_copied B.SHARES (length bytes.now)) }
     {
         if bytes.len() <= INLINE_CAPACITY {
@@ -144,10 +122,7 @@ impl<'b, B: Backend> HipByt<'b, B> {
     /// The bytes of a vector, which is taken over where they are too many for the handle itself. A refused vector is handed back.
     #[inline]
     pub fn from_vec(alloc: Global, vec: Vec<u8>) -> Result<Self, Vec<u8>>
-        ensures items { IfOk result (λ handle. handle.items ≡ vec.items) }
-        ensures kind { IfOk result (λ handle. handle.kind ≡ by_length (vec_len vec)) }
-        ensures capacity { IfOk result (λ handle. HasCapacity handle.kind (vec_len vec) handle.capacity) }
-        ensures memory { OnErr result (INLINE_CAPACITY < vec_len vec) }
+        ensures made { MakeAnswers vec.items result }
         ensures handed_back { IfErr result (λ back. back ≡ vec) }
     {
         Self::from_vec_metered(alloc, vec, &mut Meter::new())
@@ -156,10 +131,7 @@ impl<'b, B: Backend> HipByt<'b, B> {
     /// [`HipByt::from_vec`], counted.
     #[inline]
     pub fn from_vec_metered(alloc: Global, vec: Vec<u8>, meter: &mut Meter) -> Result<Self, Vec<u8>>
-        ensures items { IfOk result (λ handle. handle.items ≡ vec.items) }
-        ensures kind { IfOk result (λ handle. handle.kind ≡ by_length (vec_len vec)) }
-        ensures capacity { IfOk result (λ handle. HasCapacity handle.kind (vec_len vec) handle.capacity) }
-        ensures memory { OnErr result (INLINE_CAPACITY < vec_len vec) }
+        ensures made { MakeAnswers vec.items result }
         ensures counted { RisesAtMost meter.old meter.new (taken_cost B.SHARES (vec_len vec)) }
         ensures handed_back { IfErr result (λ back. back ≡ vec) }
     {

@@ -1,19 +1,20 @@
 //! Writing through a vector.
-ghost use Rattle.std.specs.Prelude.{◌≡◌, length, IfOk};
+ghost use Rattle.std.specs.Prelude.{◌≡◌, ◌<◌, length, IfOk};
 ghost use Rattle.hip_raw.specs.Meter.{RisesAtMost};
 ghost use Rattle.hip_bytes.specs.Cost.{taken_cost};
-ghost use Rattle.hip_bytes.specs.Handle.{IsEmptyInline};
-ghost use Rattle.hip_bytes.specs.Kinds.{HoldsByLength};
-ghost use Rattle.hip_bytes.specs.RefMut.{lent_items, lent_source};
+ghost use Rattle.hip_bytes.specs.Kinds.{HoldsByLength, IsEmptyInline};
+ghost use Rattle.hip_bytes.specs.RefMut.{lender, lent_items, lent_source};
 
 use super::{HipByt, Repr};
 use crate::kind::INLINE_CAPACITY;
-use crate::ref_mut::{RefMut, Source};
-use hip_raw::{Allocated, Backend, Block, Meter};
+use crate::ref_mut::{RefMut, Source, mutate_metered};
+use hip_raw::{Allocated, Backend, Block, Meter, copy_counted};
 use std::alloc::{AllocError, Global};
 use std::mem;
 
 impl<'b, B: Backend> Source for HipByt<'b, B> {
+    ghost use Rattle.hip_bytes.specs.declared.kind.TheConstants.{INLINE_CAPACITY};
+
     ghost items = { λ handle. handle.items };
 
     ghost is_emptied = { IsEmptyInline };
@@ -21,6 +22,8 @@ impl<'b, B: Backend> Source for HipByt<'b, B> {
     ghost has_put = { HoldsByLength };
 
     ghost put_cost = { taken_cost B.SHARES };
+
+    ghost put_needs_memory = { λ len. INLINE_CAPACITY < len };
 
     #[inline]
     fn lend_vec_metered(
@@ -35,7 +38,8 @@ impl<'b, B: Backend> Source for HipByt<'b, B> {
             },
             repr => *self = HipByt::of(repr),
         }
-        let vec = self.take_vec_metered(alloc, meter)?;
+        let vec = copy_counted(alloc, self.as_slice(), meter)?;
+        *self = HipByt::new();
         Ok((vec, Block::none()))
     }
 
@@ -43,15 +47,15 @@ impl<'b, B: Backend> Source for HipByt<'b, B> {
     fn put_back_metered(
         &mut self,
         alloc: Global,
-        vec: Vec<u8>,
         block: Block,
+        vec: Vec<u8>,
         meter: &mut Meter,
     ) -> Result<(), Vec<u8>> {
-        if vec.len() <= INLINE_CAPACITY {
-            return self.put_vec_metered(alloc, vec, meter);
-        }
-        let allocated = Allocated::new_in_metered(block, alloc, vec, meter)?;
-        *self = HipByt::of(Repr::Allocated(allocated));
+        *self = if vec.len() <= INLINE_CAPACITY {
+            HipByt::inline_metered(vec.as_slice(), meter)
+        } else {
+            HipByt::of(Repr::Allocated(Allocated::new_in_metered(alloc, block, vec, meter)?))
+        };
         Ok(())
     }
 }
@@ -59,8 +63,9 @@ impl<'b, B: Backend> Source for HipByt<'b, B> {
 impl<'b, B: Backend> HipByt<'b, B> {
     /// Lends the bytes out in a vector, which [`RefMut::finish`] writes back. Until then the value is empty. Where the bytes begin the
     /// list of an owner that no other handle shares, neither call takes memory of its own. A refused call changes nothing, as
-    /// [`Source::lend_vec_metered`] says of its own.
+    /// [`Source::lend_vec_metered`] says of its own. What a guard leaves is known in functions that are generic in the [`Source`].
     pub fn mutate(&mut self, alloc: Global) -> Result<RefMut<'_, Self>, AllocError>
+        ensures same_reference { IfOk result (λ guard. lender guard ≡ self.entry.ghost_name) }
         ensures items { IfOk result (λ guard. lent_items guard ≡ self.old.items) }
         ensures emptied { IfOk result (λ guard. IsEmptyInline (lent_source guard)) }
     {
@@ -73,11 +78,11 @@ impl<'b, B: Backend> HipByt<'b, B> {
         alloc: Global,
         meter: &mut Meter,
     ) -> Result<RefMut<'_, Self>, AllocError>
+        ensures same_reference { IfOk result (λ guard. lender guard ≡ self.entry.ghost_name) }
         ensures items { IfOk result (λ guard. lent_items guard ≡ self.old.items) }
         ensures emptied { IfOk result (λ guard. IsEmptyInline (lent_source guard)) }
         ensures counted { RisesAtMost meter.old meter.new (length self.old.items) }
     {
-        let (vec, block) = self.lend_vec_metered(alloc, meter)?;
-        Ok(RefMut::new(self, vec, block))
+        mutate_metered(self, alloc, meter)
     }
 }

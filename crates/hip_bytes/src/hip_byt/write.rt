@@ -4,8 +4,10 @@ ghost use Rattle.std.specs.Char.{to_ascii_lowercase, to_ascii_uppercase};
 ghost use Rattle.std.specs.Fn.{FnOnceReturnsAtMut, FnOnceTakesAtMut};
 ghost use Rattle.hip_raw.specs.Meter.{RisesAtMost, times_copied};
 ghost use Rattle.hip_bytes.specs.Repr.{handle_of};
-ghost use Rattle.hip_bytes.specs.Cost.{write_cost, clone_cost, WriteNeedsMemory, CopyNeedsMemory};
+ghost use Rattle.hip_bytes.specs.Change.{WriteAnswers};
+ghost use Rattle.hip_bytes.specs.Cost.{write_cost, clone_cost, WriteNeedsMemory};
 ghost use Rattle.hip_bytes.specs.Kinds.{owned_kind, HasCapacity};
+ghost use Rattle.hip_bytes.specs.Made.{CopyAnswers};
 
 use super::{Bare, HipByt, Repr};
 use crate::kind::{INLINE_CAPACITY, Kind};
@@ -140,12 +142,7 @@ impl<'b, B: Backend> HipByt<'b, B> {
     /// Moves the letters `A` to `Z` to `a` to `z`, and keeps every other byte.
     #[inline]
     pub fn make_ascii_lowercase(&mut self, alloc: Global) -> Result<(), AllocError>
-        ensures items { OnOk result (self.new.items ≡ map to_ascii_lowercase self.old.items) }
-        ensures kind { OnOk result (self.new.kind ≡ owned_kind self.old.kind (length self.old.items)) }
-        ensures capacity { OnOk result (HasCapacity self.new.kind (length self.new.items) self.new.capacity) }
-        ensures kept { B.SHARES ≡ false → self.old.kind ≡ Kind.Allocated → self.new.capacity ≡ self.old.capacity }
-        ensures memory { OnErr result (WriteNeedsMemory B.SHARES self.old.kind (length self.old.items)) }
-        ensures err { OnErr result (self.new ≡ self.old) }
+        ensures write { WriteAnswers B.SHARES self.old (map to_ascii_lowercase self.old.items) result self.new }
     {
         self.make_ascii_lowercase_metered(alloc, &mut Meter::new())
     }
@@ -157,13 +154,8 @@ impl<'b, B: Backend> HipByt<'b, B> {
         alloc: Global,
         meter: &mut Meter,
     ) -> Result<(), AllocError>
-        ensures items { OnOk result (self.new.items ≡ map to_ascii_lowercase self.old.items) }
-        ensures kind { OnOk result (self.new.kind ≡ owned_kind self.old.kind (length self.old.items)) }
-        ensures capacity { OnOk result (HasCapacity self.new.kind (length self.new.items) self.new.capacity) }
-        ensures kept { B.SHARES ≡ false → self.old.kind ≡ Kind.Allocated → self.new.capacity ≡ self.old.capacity }
-        ensures memory { OnErr result (WriteNeedsMemory B.SHARES self.old.kind (length self.old.items)) }
+        ensures write { WriteAnswers B.SHARES self.old (map to_ascii_lowercase self.old.items) result self.new }
         ensures counted { RisesAtMost meter.old meter.new (write_cost B.SHARES self.old.kind (length self.old.items)) }
-        ensures err { OnErr result (self.new ≡ self.old) }
     {
         self.with_to_mut_slice_metered(alloc, |bytes| bytes.make_ascii_lowercase(), meter)
     }
@@ -171,10 +163,7 @@ impl<'b, B: Backend> HipByt<'b, B> {
     /// The same bytes with the letters `A` to `Z` moved to `a` to `z`.
     #[inline]
     pub fn to_ascii_lowercase(&self, alloc: Global) -> Result<Self, AllocError>
-        ensures items { IfOk result (λ handle. handle.items ≡ map to_ascii_lowercase self.now.items) }
-        ensures kind { IfOk result (λ handle. handle.kind ≡ owned_kind self.now.kind (length self.now.items)) }
-        ensures capacity { IfOk result (λ handle. HasCapacity handle.kind (length self.now.items) handle.capacity) }
-        ensures memory { OnErr result (CopyNeedsMemory self.now.kind (length self.now.items)) }
+        ensures copy { CopyAnswers self.now (map to_ascii_lowercase self.now.items) result }
     {
         self.to_ascii_lowercase_metered(alloc, &mut Meter::new())
     }
@@ -186,10 +175,7 @@ impl<'b, B: Backend> HipByt<'b, B> {
         alloc: Global,
         meter: &mut Meter,
     ) -> Result<Self, AllocError>
-        ensures items { IfOk result (λ handle. handle.items ≡ map to_ascii_lowercase self.now.items) }
-        ensures kind { IfOk result (λ handle. handle.kind ≡ owned_kind self.now.kind (length self.now.items)) }
-        ensures capacity { IfOk result (λ handle. HasCapacity handle.kind (length self.now.items) handle.capacity) }
-        ensures memory { OnErr result (CopyNeedsMemory self.now.kind (length self.now.items)) }
+        ensures copy { CopyAnswers self.now (map to_ascii_lowercase self.now.items) result }
         ensures counted { RisesAtMost meter.old meter.new (clone_cost B.SHARES self.now.kind (length self.now.items) + write_cost B.SHARES self.now.kind (length self.now.items)) }
     {
         let mut copy = self.clone_metered(alloc, meter)?;
@@ -200,12 +186,7 @@ impl<'b, B: Backend> HipByt<'b, B> {
     /// Moves the letters `a` to `z` to `A` to `Z`, and keeps every other byte.
     #[inline]
     pub fn make_ascii_uppercase(&mut self, alloc: Global) -> Result<(), AllocError>
-        ensures items { OnOk result (self.new.items ≡ map to_ascii_uppercase self.old.items) }
-        ensures kind { OnOk result (self.new.kind ≡ owned_kind self.old.kind (length self.old.items)) }
-        ensures capacity { OnOk result (HasCapacity self.new.kind (length self.new.items) self.new.capacity) }
-        ensures kept { B.SHARES ≡ false → self.old.kind ≡ Kind.Allocated → self.new.capacity ≡ self.old.capacity }
-        ensures memory { OnErr result (WriteNeedsMemory B.SHARES self.old.kind (length self.old.items)) }
-        ensures err { OnErr result (self.new ≡ self.old) }
+        ensures write { WriteAnswers B.SHARES self.old (map to_ascii_uppercase self.old.items) result self.new }
     {
         self.make_ascii_uppercase_metered(alloc, &mut Meter::new())
     }
@@ -217,13 +198,8 @@ impl<'b, B: Backend> HipByt<'b, B> {
         alloc: Global,
         meter: &mut Meter,
     ) -> Result<(), AllocError>
-        ensures items { OnOk result (self.new.items ≡ map to_ascii_uppercase self.old.items) }
-        ensures kind { OnOk result (self.new.kind ≡ owned_kind self.old.kind (length self.old.items)) }
-        ensures capacity { OnOk result (HasCapacity self.new.kind (length self.new.items) self.new.capacity) }
-        ensures kept { B.SHARES ≡ false → self.old.kind ≡ Kind.Allocated → self.new.capacity ≡ self.old.capacity }
-        ensures memory { OnErr result (WriteNeedsMemory B.SHARES self.old.kind (length self.old.items)) }
+        ensures write { WriteAnswers B.SHARES self.old (map to_ascii_uppercase self.old.items) result self.new }
         ensures counted { RisesAtMost meter.old meter.new (write_cost B.SHARES self.old.kind (length self.old.items)) }
-        ensures err { OnErr result (self.new ≡ self.old) }
     {
         self.with_to_mut_slice_metered(alloc, |bytes| bytes.make_ascii_uppercase(), meter)
     }
@@ -231,10 +207,7 @@ impl<'b, B: Backend> HipByt<'b, B> {
     /// The same bytes with the letters `a` to `z` moved to `A` to `Z`.
     #[inline]
     pub fn to_ascii_uppercase(&self, alloc: Global) -> Result<Self, AllocError>
-        ensures items { IfOk result (λ handle. handle.items ≡ map to_ascii_uppercase self.now.items) }
-        ensures kind { IfOk result (λ handle. handle.kind ≡ owned_kind self.now.kind (length self.now.items)) }
-        ensures capacity { IfOk result (λ handle. HasCapacity handle.kind (length self.now.items) handle.capacity) }
-        ensures memory { OnErr result (CopyNeedsMemory self.now.kind (length self.now.items)) }
+        ensures copy { CopyAnswers self.now (map to_ascii_uppercase self.now.items) result }
     {
         self.to_ascii_uppercase_metered(alloc, &mut Meter::new())
     }
@@ -246,10 +219,7 @@ impl<'b, B: Backend> HipByt<'b, B> {
         alloc: Global,
         meter: &mut Meter,
     ) -> Result<Self, AllocError>
-        ensures items { IfOk result (λ handle. handle.items ≡ map to_ascii_uppercase self.now.items) }
-        ensures kind { IfOk result (λ handle. handle.kind ≡ owned_kind self.now.kind (length self.now.items)) }
-        ensures capacity { IfOk result (λ handle. HasCapacity handle.kind (length self.now.items) handle.capacity) }
-        ensures memory { OnErr result (CopyNeedsMemory self.now.kind (length self.now.items)) }
+        ensures copy { CopyAnswers self.now (map to_ascii_uppercase self.now.items) result }
         ensures counted { RisesAtMost meter.old meter.new (clone_cost B.SHARES self.now.kind (length self.now.items) + write_cost B.SHARES self.now.kind (length self.now.items)) }
     {
         let mut copy = self.clone_metered(alloc, meter)?;

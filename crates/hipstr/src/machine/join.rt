@@ -2,7 +2,7 @@
 ghost use Rattle.std.specs.Prelude.{◌≡◌, ◌↔◌, ◌≤◌, ◌<◌, ◌+◌, ◌^◌, nat_le, length, take, drop, map, IfOk};
 ghost use Rattle.std.specs.Option.{SomeIff};
 ghost use Rattle.hip_bytes.specs.Join.{gap_at, join_cost};
-ghost use Rattle.hip_bytes.specs.Kinds.{by_length, HasCapacity};
+ghost use Rattle.hip_bytes.specs.Kinds.{HoldsByLength};
 ghost use Rattle.hip_bytes.specs.Meter.{RisesAtMost};
 ghost use Rattle.hipstr.specs.declared.command.Command.{Command};
 ghost use Rattle.hipstr.specs.Step.{Step, cost_of, items_of, joined_slots};
@@ -56,9 +56,7 @@ impl<'b, B: Backend> Pool<'b, B> {
     ) -> Result<HipByt<'b, B>, GrowFault>
         requires within { first + count ≤ length self.now }
         requires fits { first + count < 2 ^ 64 }
-        ensures items { IfOk result (λ handle. handle.items ≡ joined_slots self.now first count sep.now) }
-        ensures kind { IfOk result (λ handle. handle.kind ≡ by_length (length (joined_slots self.now first count sep.now))) }
-        ensures capacity { IfOk result (λ handle. HasCapacity handle.kind (length handle.items) handle.capacity) }
+        ensures holds { IfOk result (λ handle. HoldsByLength handle (joined_slots self.now first count sep.now)) }
         ensures too_long { (result ≡ Err GrowFault.TooLong) ↔ (2 ^ 64 ≤ length (joined_slots self.now first count sep.now)) }
         ensures counted { RisesAtMost meter.old meter.new (join_cost B.SHARES (length (joined_slots self.now first count sep.now))) }
         ensures refused_counts_none { result ≡ Err GrowFault.TooLong → meter.new ≡ meter.old }

@@ -1,11 +1,12 @@
 //! Commands that write over a slot's items.
+ghost use Rattle.std.specs.Prelude.{◌≡◌, ◌+◌, ◌++◌, ◌⊎◌, length, max, OnOk, OnErr};
 ghost use Rattle.hip_bytes.specs.Meter.{RisesAtMost};
 ghost use Rattle.hipstr.specs.declared.command.Command.{Command};
 ghost use Rattle.hipstr.specs.Step.{Step, cost_of};
 
 use crate::command::{Answer, Reason};
 use crate::pool::Pool;
-use hip_bytes::{Backend, Meter};
+use hip_bytes::{Backend, Meter, RefMut, Source};
 use std::alloc::{AllocError, Global};
 
 impl<'b, B: Backend> Pool<'b, B> {
@@ -128,16 +129,30 @@ impl<'b, B: Backend> Pool<'b, B> {
             return Answer::Refused(Reason::NoSlot);
         }
         let mut handle = self.take(t);
-        let Ok(mut vec) = handle.take_vec_metered(alloc, meter) else {
-            self.put(t, handle);
-            return Answer::Refused(Reason::Memory);
-        };
-        let added = vec.extend_from_slice(addition);
-        let written = handle.put_vec_metered(alloc, vec, meter);
+        let outcome = extend_lent(&mut handle, alloc, addition, meter);
         self.put(t, handle);
-        if added.is_err() || written.is_err() {
-            return Answer::Refused(Reason::Memory);
+        match outcome {
+            Ok(()) => Answer::Done,
+            Err(AllocError) => Answer::Refused(Reason::Memory),
         }
-        Answer::Done
     }
+}
+
+/// Adds bytes to a value by a guard: through the vector that it lends.
+fn extend_lent<S: Source>(
+    source: &mut S,
+    alloc: Global,
+    addition: &[u8],
+    meter: &mut Meter,
+) -> Result<(), AllocError>
+    ensures put { OnOk result (S.has_put source.new (S.items source.old ++ addition.now)) }
+    ensures err { OnErr result ((source.new ≡ source.old) ⊎ (S.has_put source.new (S.items source.old) ⊎ S.is_emptied source.new)) }
+    ensures counted { RisesAtMost meter.old meter.new (length (S.items source.old) + max (S.put_cost (length (S.items source.old))) (S.put_cost (length (S.items source.old) + length addition.now))) }
+{
+    let (vec, block) = source.lend_vec_metered(alloc, meter)?;
+    let mut guard = RefMut::new(source, vec, block);
+    let added = guard.as_mut_vec().extend_from_slice(addition);
+    let written = guard.finish_metered(alloc, meter);
+    added?;
+    written.or(Err(AllocError))
 }
