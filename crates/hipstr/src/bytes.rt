@@ -1,8 +1,6 @@
 //! Byte strings.
 #[cfg(test)]
 mod growth_tests;
-#[cfg(test)]
-mod tests;
 
 pub use hip_bytes::{
     Block, GrowFault, HipByt, INLINE_CAPACITY, Kind, RefMut, SliceError, SliceErrorKind,
