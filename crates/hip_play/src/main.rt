@@ -1,21 +1,12 @@
-//! `hip_play` reads lines of commands from standard input, gives them to [`hipstr::run`] and
-//! prints the answers.
+//! `hip_play` reads lines of commands from standard input, gives them to `hipstr::run` and prints the answers.
 //!
-//! The work is in [`play`], which is generic in the backend, the reader and the writer.
+//! The work is in [`hip_script`], whose [`play`] is generic in the backend, the reader and the writer.
 #![tactic(auto)]
 
+use hip_script::play::play;
 use hipstr::Rc;
-use play::play;
 use std::io;
 use std::process::ExitCode;
-
-mod fault;
-mod line;
-mod literal;
-mod play;
-mod print;
-mod script;
-mod words;
 
 fn main(rt: HostRuntime) -> ExitCode {
     match play::<Rc, _, _>(rt.alloc(), rt.reader(), io::writer(&rt)) {

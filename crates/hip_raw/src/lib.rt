@@ -27,8 +27,6 @@ mod inline;
 mod meter;
 mod rc;
 mod room;
-#[cfg(test)]
-mod tests;
 mod unique;
 
 pub use allocated::Allocated;

@@ -1,9 +1,4 @@
 //! Byte strings.
-#[cfg(test)]
-mod growth_tests;
-#[cfg(test)]
-mod tests;
-
 pub use hip_bytes::{
     Block, GrowFault, HipByt, INLINE_CAPACITY, Kind, RefMut, SliceError, SliceErrorKind,
     SliceRefusal, Source, mutate, mutate_metered,

@@ -71,6 +71,3 @@ pub fn run<'b, B: Backend>(
     }
     Ok(answers)
 }
-
-#[cfg(test)]
-mod tests;

@@ -1,3 +1,4 @@
+//! Playing a script.
 use crate::fault::PlayFault;
 use crate::line::{Aside, Line};
 use crate::literal::Literals;
@@ -16,7 +17,7 @@ pub(crate) const SLOTS: usize = 16;
 ///
 /// A script with a line that is no command is refused before anything runs. What was written
 /// before a later fault stays written.
-pub(crate) fn play<B: Backend, R: Read + Drop, W: Write + Drop>(
+pub fn play<B: Backend, R: Read + Drop, W: Write + Drop>(
     alloc: Global,
     mut reader: R,
     writer: W,
@@ -118,6 +119,3 @@ fn leave<W: Write + Drop>(
     played?;
     flushed.map_err(|_| PlayFault::WriteFailed)
 }
-
-#[cfg(test)]
-mod tests;

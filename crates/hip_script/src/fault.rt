@@ -1,12 +1,12 @@
 ghost use Rattle.std.specs.Prelude.{◌≡◌};
-ghost use Rattle.hip_play.specs.Fault.{status_of};
+ghost use Rattle.hip_script.specs.Fault.{status_of};
 
 use std::alloc::{AllocError, AllocFailed};
 use std::fmt;
 
 /// Why a script was not played to its end.
 #[derive(Clone, Copy, Debug, PartialEq, Eq)]
-pub(crate) enum PlayFault {
+pub enum PlayFault {
     /// The line with this number, counted from 1, is not a command.
     NotACommand(usize),
     /// The script could not be read.
@@ -19,7 +19,7 @@ pub(crate) enum PlayFault {
 
 impl PlayFault {
     /// The exit status of a program that met the fault.
-    pub(crate) fn status(self) -> u8
+    pub fn status(self) -> u8
         ensures { result ≡ status_of self }
     {
         match self {
@@ -41,7 +41,7 @@ impl fmt::Display for PlayFault {
 }
 
 impl From<AllocError> for PlayFault {
-    ghost use Rattle.hip_play.specs.declared.fault.PlayFault.TheVariants.{Memory};
+    ghost use Rattle.hip_script.specs.declared.fault.PlayFault.TheVariants.{Memory};
 
     ghost from_gives = { λ _ fault. fault ≡ Memory };
 
@@ -51,7 +51,7 @@ impl From<AllocError> for PlayFault {
 }
 
 impl<T: Drop> From<AllocFailed<T>> for PlayFault {
-    ghost use Rattle.hip_play.specs.declared.fault.PlayFault.TheVariants.{Memory};
+    ghost use Rattle.hip_script.specs.declared.fault.PlayFault.TheVariants.{Memory};
 
     ghost from_gives = { λ _ fault. fault ≡ Memory };
 

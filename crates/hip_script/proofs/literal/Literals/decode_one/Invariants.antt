@@ -1,5 +1,5 @@
 use Rattle.std.proofs.Common.{◌<◌, length}
-use Rattle.hip_play.proofs.literal.Literals.decode_one.Given as goal
+use Rattle.hip_script.proofs.literal.Literals.decode_one.Given as goal
 
 -- what is left is shorter than the text
 abbrev pub invariant-loop-first : goal.invariant-loop-first

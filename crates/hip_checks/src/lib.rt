@@ -1,0 +1,12 @@
+//! Tests of `hipstr::run`, from outside of hipstr: lists of commands on a pool of handles, whose answers come from elsewhere.
+//!
+//! - `sessions`: the lists, on both backends of hipstr.
+//! - `own_backend`: the same on a backend that a user wrote.
+//!
+//! What costs the check and what saves it is told in `hip_bytes_tests`.
+#![tactic(auto)]
+
+#[cfg(test)]
+mod own_backend;
+#[cfg(test)]
+mod sessions;

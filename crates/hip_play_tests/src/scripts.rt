@@ -1,0 +1,181 @@
+//! Scripts and what they print, on either backend.
+use crate::support::{FIRST_ANSWERS, FIRST_RUN, played};
+use hipstr::{Backend, Rc, Unique};
+use std::alloc::Global;
+use std::process::Abort;
+
+/// A script, and what it prints.
+type Row = (&'static str, &'static str);
+
+/// Plays scripts on a backend, and compares what they print.
+fn print<B: Backend>(rt: &impl Abort, alloc: Global, rows: &[Row]) {
+    for (script, answers) in rows {
+        let (written, ended) = played::<B>(alloc, script);
+        assert_eq!(rt;
+            (written.as_slice(), ended),
+            (answers.as_bytes(), Ok(())),
+            "{script}"
+        );
+    }
+}
+
+/// A machine that refuses everything fails each row.
+const ANSWERS: &[Row] = &[
+    (FIRST_RUN, FIRST_ANSWERS),
+    // The first test that fails decides.
+    (
+        "copy 0 \"abc\"\nslice 0 1 4..2\nslice 0 1 2..1\nslice 0 1 ..=18446744073709551615\n",
+        "done\nrefused StartOutOfBounds\nrefused StartGreaterThanEnd\nrefused EndOutOfBounds\n",
+    ),
+    (
+        "copy 0 \"abc\"\nslice 0 0 1..\nslice 0 1 ..=18446744073709551615\nslice 16 1 ..\nshow 0\n",
+        "done\ndone\nrefused EndOutOfBounds\nrefused NoSlot\nbytes \"bc\"\n",
+    ),
+    // Every form of a range.
+    (
+        "copy 0 \"abcd\"\nslice 0 1 1..3\nshow 1\nslice 0 1 1..=2\nshow 1\nslice 0 1 3..\nshow 1\nslice 0 1 ..1\nshow 1\nslice 0 1 ..=1\nshow 1\nslice 0 1 ..\nshow 1\nslice 0 1 2..2\nshow 1\n",
+        "done\ndone\nbytes \"bc\"\ndone\nbytes \"bc\"\ndone\nbytes \"d\"\ndone\nbytes \"a\"\ndone\nbytes \"ab\"\ndone\nbytes \"abcd\"\ndone\nbytes \"\"\n",
+    ),
+    // A clone and its source don't see each other's writes.
+    (
+        "copy 0 \"ab\"\nclone 0 1\npush 1 \"c\"\ntruncate 0 1\nshow 0\nshow 1\ntruncate 1 9\nlen 1\n",
+        "done\ndone\ndone\ndone\nbytes \"a\"\nbytes \"abc\"\ndone\n3\n",
+    ),
+    // Slots that aren't there.
+    (
+        "new 16\ncopy 16 \"\"\nclone 0 16\nclone 16 0\nslice 0 16 9..\npush 16 \"\"\ntruncate 99 0\nlen 18446744073709551615\nshow 16\n",
+        "refused NoSlot\nrefused NoSlot\nrefused NoSlot\nrefused NoSlot\nrefused NoSlot\nrefused NoSlot\nrefused NoSlot\nrefused NoSlot\nrefused NoSlot\n",
+    ),
+    // Escapes of either case; how bytes are printed.
+    (
+        "copy 0 \"\\x00\\x0a\\xFF \\\"\\\\~\\x7F\"\nshow 0\nlen 0\n",
+        "done\nbytes \"\\x00\\x0a\\xff \\\"\\\\~\\x7f\"\n8\n",
+    ),
+    (
+        "copy 0 \"\\x9f\\xAe\\xbC\\xDd\"\nshow 0\n",
+        "done\nbytes \"\\x9f\\xae\\xbc\\xdd\"\n",
+    ),
+    // Empty lines, line ends of two bytes, no end of the last line, leading zeros.
+    ("\nnew 0\r\n\r\nlen 000", "done\n0\n"),
+    ("", ""),
+];
+
+#[test]
+fn answers(rt: HostRuntime) {
+    print::<Rc>(&rt, rt.alloc(), ANSWERS);
+    print::<Unique>(&rt, rt.alloc(), ANSWERS);
+}
+
+/// Kinds and capacities.
+const KINDS: &[Row] = &[
+    // A borrowed value: its clone is borrowed, and a push of nothing copies it.
+    (
+        "borrow 0 \"abc\"\nclone 0 1\nkind 1\npush 1 \"\"\nkind 1\ncopied\n",
+        "done\ndone\nborrowed\ndone\ninline\n3\n",
+    ),
+    // A slice outlives its source, and copies what fits the handle.
+    (
+        "copy 0 \"Hello John\"\nslice 0 1 6..\nnew 0\nshow 1\nkind 1\ncopied\n",
+        "done\ndone\ndone\nbytes \"John\"\ninline\n14\n",
+    ),
+    (
+        "new 0\npop 0\nlen 0\nkind 0\ncapacity 0\n",
+        "done\nnothing\n0\ninline\n23\n",
+    ),
+    // The limit of the handle itself.
+    (
+        "inline 0 \"aaaaaaaaaaaaaaaaaaaaaaa\"\ninline 1 \"aaaaaaaaaaaaaaaaaaaaaaaa\"\nkind 0\nlen 0\npush 0 \"b\"\nkind 0\nlen 0\npop 0\nkind 0\n",
+        "done\nrefused TooLong\ninline\n23\ndone\nallocated\n24\nbyte 98\ninline\n",
+    ),
+    // What follows a slice in its source doesn't come back.
+    (
+        "copy 0 \"abcdefghijklmnopqrstuvwxyz\"\nslice 0 1 0..24\nnew 0\npush 1 \"!\"\nshow 1\nkind 1\n",
+        "done\ndone\ndone\ndone\nbytes \"abcdefghijklmnopqrstuvwx!\"\nallocated\n",
+    ),
+    // Room stays until bytes go.
+    (
+        "room 0 42\nclear 0\nkind 0\nlen 0\nslice 0 1 0..0\nkind 1\nroom 2 23\nkind 2\nroom 3 18446744073709551615\n",
+        "done\ndone\nallocated\n0\ndone\ninline\ndone\ninline\nrefused Memory\n",
+    ),
+    // Borrowed bytes are cut with no copy, however few.
+    (
+        "borrow 0 \"abcdefghijklmnopqrstuvwxyzabcd\"\nslice 0 1 2..5\nkind 1\ntruncate 0 5\nkind 0\ncapacity 0\nclear 1\nkind 1\ncopied\n",
+        "done\ndone\nborrowed\ndone\nborrowed\n5\ndone\nborrowed\n0\n",
+    ),
+    // No write through one handle shows in another, whether owners are shared or not.
+    (
+        "copy 0 \"aaaaaaaaaaaaaaaaaaaaaaaaaaaaaa\"\nclone 0 1\nslice 0 2 3..30\npush 0 \"b\"\ntruncate 1 29\nshow 0\nshow 1\nshow 2\n",
+        "done\ndone\ndone\ndone\ndone\nbytes \"aaaaaaaaaaaaaaaaaaaaaaaaaaaaaab\"\nbytes \"aaaaaaaaaaaaaaaaaaaaaaaaaaaaa\"\nbytes \"aaaaaaaaaaaaaaaaaaaaaaaaaaa\"\n",
+    ),
+];
+
+#[test]
+fn kinds(rt: HostRuntime) {
+    print::<Rc>(&rt, rt.alloc(), KINDS);
+    print::<Unique>(&rt, rt.alloc(), KINDS);
+}
+
+/// What writes over a value, makes one of another, or compares two.
+const GROWTH: &[Row] = &[
+    (
+        "copy 0 \"ab\"\nrepeat 0 1 0\nkind 1\nrepeat 0 1 18446744073709551615\njoin 0 2 \"-\" 2\nshow 2\njoin 15 2 \"\" 0\n",
+        "done\ndone\ninline\nrefused TooLong\ndone\nbytes \"ab-\"\nrefused NoSlot\n",
+    ),
+    (
+        "copy 0 \"ab\"\nrepeat 0 1 3\nshow 1\njoin 0 3 \"; \" 0\nshow 0\njoin 16 0 \"-\" 1\nshow 1\njoin 0 16 \"-\" 16\n",
+        "done\ndone\nbytes \"ababab\"\ndone\nbytes \"ab; ababab; \"\ndone\nbytes \"\"\nrefused NoSlot\n",
+    ),
+    (
+        "copy 0 \"abc\"\ncopy 1 \"abd\"\ncompare 0 1\ncompare 1 0\ncompare 1 1\ncompare 0 16\n",
+        "done\ndone\nless\ngreater\nequal\nrefused NoSlot\n",
+    ),
+    // A write on a shared owner shows in one handle alone.
+    (
+        "copy 0 \"aaaaaaaaaaaaaaaaaaaaaaaaaa\"\nclone 0 1\nset 0 0 98\nset 0 26 98\nupper 1\nlower 1\nupper 1\nshow 0\nshow 1\nkind 0\n",
+        "done\ndone\ndone\nrefused OutOfRange\ndone\ndone\ndone\nbytes \"baaaaaaaaaaaaaaaaaaaaaaaaa\"\nbytes \"AAAAAAAAAAAAAAAAAAAAAAAAAA\"\nallocated\n",
+    ),
+    (
+        "copy 0 \"aaaaaaaaaaaaaaaaaaaaaaaaaaaaaa\"\nclone 0 1\nslice 0 2 3..30\nset 0 5 98\nshow 0\nshow 1\nshow 2\n",
+        "done\ndone\ndone\ndone\nbytes \"aaaaabaaaaaaaaaaaaaaaaaaaaaaaa\"\nbytes \"aaaaaaaaaaaaaaaaaaaaaaaaaaaaaa\"\nbytes \"aaaaaaaaaaaaaaaaaaaaaaaaaaa\"\n",
+    ),
+    // Room for 24 bytes isn't needed by 2.
+    (
+        "room 0 200\npush 0 \"ab\"\nshrink 0 24\nkind 0\nshrink 0 23\nkind 0\nborrow 1 \"xyz\"\nupper 1\nkind 1\nborrow 2 \"xyz\"\nowned 2\nkind 2\nshow 2\n",
+        "done\ndone\ndone\nallocated\ndone\ninline\ndone\ndone\ninline\ndone\ndone\ninline\nbytes \"xyz\"\n",
+    ),
+    (
+        "copy 0 \"Hello, World!\"\nmutate 0 \"!\"\nshow 0\nkind 0\nmutate 0 \"aaaaaaaaaaaa\"\nkind 0\nlen 0\nmutate 16 \"\"\n",
+        "done\ndone\nbytes \"Hello, World!!\"\ninline\ndone\nallocated\n26\nrefused NoSlot\n",
+    ),
+];
+
+#[test]
+fn growth(rt: HostRuntime) {
+    print::<Rc>(&rt, rt.alloc(), GROWTH);
+    print::<Unique>(&rt, rt.alloc(), GROWTH);
+}
+
+/// A sole owner is written in place, on either backend, and gives its room back. One that never wrote in place on `Rc` would copy
+/// what stands there at the second push and at the byte that is set.
+const IN_PLACE: &[Row] = &[(
+    "room 0 200\npush 0 \"aaaaaaaaaaaaaaaaaaaaaaaaaaaaaa\"\npush 0 \"aaaaaaaaaaaaaaaaaaaaaaaaaaaaaa\"\nset 0 0 98\ncopied\nshrink 0 0\nlen 0\ncapacity 0\n",
+    "done\ndone\ndone\ndone\n60\ndone\n60\n60\n",
+)];
+
+#[test]
+fn rc_never_in_place(rt: HostRuntime) {
+    print::<Rc>(&rt, rt.alloc(), IN_PLACE);
+    print::<Unique>(&rt, rt.alloc(), IN_PLACE);
+}
+
+const LIMIT: &str =
+    "borrow 0 \"abcdefghijklmnopqrstuvwxyz\"\ncopy 0 \"abcdefghijklmnopqrstuvwxyz\"\ncopied\nslice 0 1 0..23\nkind 1\ncopied\nslice 0 1 0..24\nkind 1\ncopied\nclone 0 2\ncopied\n";
+
+/// A slice of 23 bytes copies them; one of 24 copies none where owners are shared.
+#[test]
+fn inline_limit(rt: HostRuntime) {
+    let on_rc = "done\ndone\n26\ndone\ninline\n49\ndone\nallocated\n49\ndone\n49\n";
+    let on_unique = "done\ndone\n26\ndone\ninline\n49\ndone\nallocated\n73\ndone\n99\n";
+    print::<Rc>(&rt, rt.alloc(), &[(LIMIT, on_rc)]);
+    print::<Unique>(&rt, rt.alloc(), &[(LIMIT, on_unique)]);
+}

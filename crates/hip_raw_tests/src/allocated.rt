@@ -1,0 +1,210 @@
+//! Ranges of an owner's bytes.
+use hip_raw::{Allocated, Appended, Backend, Meter, Rc, Unique};
+use std::alloc::Global;
+use std::process::Abort;
+use std::test::Fail;
+
+const STARS: &[u8] = &[b'*'; 42];
+
+/// Asserts what a range holds.
+fn has<B: Backend>(rt: &impl Abort, bytes: &Allocated<B>, items: &[u8]) {
+    assert_eq!(rt;
+        (bytes.as_slice(), bytes.len(), bytes.is_empty()),
+        (items, items.len(), items.is_empty())
+    );
+}
+
+fn holds_none<B: Backend>(rt: &impl Abort, alloc: Global) -> Result<(), Fail> {
+    let empty = Allocated::<B>::new(alloc, Vec::new(alloc))?;
+    has(rt, &empty, b"");
+    Ok(())
+}
+
+/// Another range of the same bytes outlives the first, and takes on more. The meter is told after either.
+fn holds_bytes<B: Backend>(rt: &impl Abort, alloc: Global, copied: u128) -> Result<(), Fail> {
+    let mut meter = Meter::new();
+    let whole = Allocated::<B>::from_slice_metered(alloc, STARS, &mut meter)?;
+    has(rt, &whole, STARS);
+    assert_eq!(rt; meter.copied(), 42);
+    let copy = whole.slice_unchecked_metered(alloc, 0..42, &mut meter)?;
+    assert_eq!(rt; meter.copied(), copied);
+    drop(whole);
+    takes_one_more(rt, alloc, copy)
+}
+
+const STARS_AND_ONE: &[u8] = b"******************************************!";
+
+fn takes_one_more<B: Backend>(
+    rt: &impl Abort,
+    alloc: Global,
+    mut bytes: Allocated<B>,
+) -> Result<(), Fail> {
+    has(rt, &bytes, STARS);
+    assert_eq!(rt; bytes.push_slice(alloc, b"!"), Appended::Done);
+    has(rt, &bytes, STARS_AND_ONE);
+    bytes.shrink_to(alloc, 0)?;
+    has(rt, &bytes, STARS_AND_ONE);
+    Ok(())
+}
+
+#[test]
+fn each_backend_holds_bytes(rt: HostRuntime) -> Result<(), Fail> {
+    holds_none::<Rc>(&rt, rt.alloc())?;
+    holds_none::<Unique>(&rt, rt.alloc())?;
+    holds_bytes::<Rc>(&rt, rt.alloc(), 42)?;
+    holds_bytes::<Unique>(&rt, rt.alloc(), 84)
+}
+
+/// 42 bytes in a vector with room for 200.
+fn roomy(alloc: Global) -> Result<Vec<u8>, Fail> {
+    let mut vec = Vec::with_capacity(alloc, 200)?;
+    vec.extend_from_slice(STARS)?;
+    Ok(vec)
+}
+
+/// Writes the first byte by a closure, and the last by its position.
+fn writes_ends<B: Backend>(rt: &impl Abort, bytes: &mut Allocated<B>) {
+    assert_eq!(rt; bytes.len(), 42);
+    let written = bytes.with_mut_slice(|bytes| {
+        bytes[0] = 65;
+        bytes.len()
+    });
+    assert_eq!(rt; written.ok(), Some(42));
+    assert!(rt; bytes.set(41, 66));
+}
+
+fn changes_case<B: Backend>(rt: &impl Abort, bytes: &mut Allocated<B>) {
+    assert!(rt; bytes.make_ascii_lowercase());
+    has(rt, bytes, b"a****************************************b");
+    assert!(rt; bytes.make_ascii_uppercase());
+    has(rt, bytes, b"A****************************************B");
+}
+
+fn writes_lent<B: Backend>(rt: &impl Abort, bytes: &mut Allocated<B>) {
+    if let Some(lent) = bytes.as_mut_slice()
+        && lent.len() > 1
+    {
+        lent[1] = 67;
+    }
+    has(rt, bytes, b"AC***************************************B");
+}
+
+/// What stands behind the first two goes, and room is given back.
+fn cuts_and_shrinks<B: Backend>(
+    rt: &impl Abort,
+    alloc: Global,
+    bytes: &mut Allocated<B>,
+    meter: &mut Meter,
+) -> Result<(), Fail> {
+    bytes.truncate(2);
+    let answer = bytes.push_slice_metered(alloc, b"xyz", meter);
+    assert_eq!(rt;
+        (answer, meter.copied(), bytes.capacity() >= 200),
+        (Appended::Done, 3, true)
+    );
+    has(rt, bytes, b"ACxyz");
+    bytes.shrink_to_metered(alloc, 8, meter)?;
+    assert_eq!(rt;
+        (
+            bytes.capacity() >= 8,
+            bytes.capacity() < 200,
+            meter.copied()
+        ),
+        (true, true, 8)
+    );
+    has(rt, bytes, b"ACxyz");
+    Ok(())
+}
+
+fn is_written_in_place<B: Backend>(rt: &impl Abort, alloc: Global) -> Result<(), Fail> {
+    let mut meter = Meter::new();
+    let mut bytes = Allocated::<B>::new_metered(alloc, roomy(alloc)?, &mut meter)?;
+    has(rt, &bytes, STARS);
+    assert!(rt; bytes.capacity() >= 200);
+    writes_ends(rt, &mut bytes);
+    changes_case(rt, &mut bytes);
+    writes_lent(rt, &mut bytes);
+    cuts_and_shrinks(rt, alloc, &mut bytes, &mut meter)?;
+    hands_out(rt, alloc, bytes, b"ACxyz", meter)
+}
+
+/// Asserts that the only range of an owner hands out its vector, which copies nothing: the meter stays at 8.
+fn hands_out<B: Backend>(
+    rt: &impl Abort,
+    alloc: Global,
+    bytes: Allocated<B>,
+    items: &[u8],
+    mut meter: Meter,
+) -> Result<(), Fail> {
+    let vec = bytes
+        .try_into_vec_metered(alloc, &mut meter)
+        .ok()
+        .ok_or("it has one handle")?;
+    assert_eq!(rt; (vec.as_slice(), meter.copied()), (items, 8));
+    Ok(())
+}
+
+#[test]
+fn a_sole_owner_is_written_in_place(rt: HostRuntime) -> Result<(), Fail> {
+    is_written_in_place::<Rc>(&rt, rt.alloc())?;
+    is_written_in_place::<Unique>(&rt, rt.alloc())
+}
+
+/// Asserts that no byte is written, since another range shares the owner.
+fn is_not_written<B: Backend>(rt: &impl Abort, alloc: Global, bytes: &mut Allocated<B>) {
+    let mut meter = Meter::new();
+    let answer = bytes.push_slice_metered(alloc, b"x", &mut meter);
+    assert_eq!(rt; (answer, meter.copied()), (Appended::Shared, 0));
+    let is_refused = bytes.with_mut_slice(|_| ()).is_err();
+    let is_lent = bytes.as_mut_slice().is_some();
+    assert_eq!(rt; (is_refused, is_lent, bytes.len()), (true, false, 42));
+    assert!(rt; !bytes.set(0, 65));
+    has(rt, bytes, STARS);
+}
+
+#[test]
+fn a_shared_owner_is_not_written(rt: HostRuntime) -> Result<(), Fail> {
+    let mut bytes = Allocated::<Rc>::from_slice(rt.alloc(), STARS)?;
+    {
+        let _other = bytes.slice_unchecked(rt.alloc(), 0..5)?;
+        is_not_written(&rt, rt.alloc(), &mut bytes);
+    }
+    assert_eq!(rt; bytes.len(), 42);
+    assert!(rt; bytes.set(0, 65));
+    Ok(())
+}
+
+/// Asserts that a range hands out no vector, and gives it back.
+fn handed_back<B: Backend>(
+    rt: &impl Abort,
+    alloc: Global,
+    bytes: Allocated<B>,
+    items: &[u8],
+) -> Result<Allocated<B>, Fail> {
+    let Err(back) = bytes.try_into_vec(alloc) else {
+        return Err(Fail::from("it is handed back"));
+    };
+    has(rt, &back, items);
+    Ok(back)
+}
+
+/// A slice with a position is handed back, and so is a shared owner, until the slice is dropped.
+#[test]
+fn a_vector_comes_back(rt: HostRuntime) -> Result<(), Fail> {
+    let alloc = rt.alloc();
+    let whole = Allocated::<Rc>::new(alloc, vec![in alloc; 0, 1, 2]?)?;
+    let slice = whole.slice_unchecked(alloc, 1..2)?;
+    let slice = handed_back(&rt, alloc, slice, &[1])?;
+    let whole = handed_back(&rt, alloc, whole, &[0, 1, 2])?;
+    drop(slice);
+    is_whole(&rt, alloc, whole)
+}
+
+fn is_whole<B: Backend>(rt: &impl Abort, alloc: Global, whole: Allocated<B>) -> Result<(), Fail> {
+    let vec = whole
+        .try_into_vec(alloc)
+        .ok()
+        .ok_or("the slice was dropped")?;
+    assert_eq!(rt; vec.as_slice(), [0, 1, 2].as_slice());
+    Ok(())
+}

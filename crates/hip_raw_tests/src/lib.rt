@@ -1,0 +1,19 @@
+//! Tests of hip_raw, from outside of it: that its calls succeed where there is memory, that memory is really shared, that a sole owner
+//! is written in place, and values that come from elsewhere.
+//!
+//! - `copies`: counted copies and vectors that are filled.
+//! - `handles`: bytes in the handle itself, lent bytes.
+//! - `allocated`: ranges of an owner's bytes.
+//! - `owners`: what an owner promises.
+//!
+//! What costs the check and what saves it is told in `hip_bytes_tests`.
+#![tactic(auto)]
+
+#[cfg(test)]
+mod allocated;
+#[cfg(test)]
+mod copies;
+#[cfg(test)]
+mod handles;
+#[cfg(test)]
+mod owners;
