@@ -35,5 +35,6 @@ pub use hip_raw::{
     fill_counted,
 };
 pub use kind::{INLINE_CAPACITY, Kind};
+pub use range::{bound_of, end_of, range_of, start_of};
 pub use ref_mut::{RefMut, Source, mutate, mutate_metered};
 pub use slice_error::{SliceError, SliceErrorKind, SliceRefusal};

@@ -9,7 +9,7 @@ use std::ops::Bound;
 
 /// A bound by value.
 #[inline]
-pub(crate) fn bound_of(bound: Bound<&usize>) -> Bound<usize>
+pub fn bound_of(bound: Bound<&usize>) -> Bound<usize>
     ensures { result ≡ bound_map (λ number. number.now) bound.entry }
 {
     match bound {
@@ -21,7 +21,7 @@ pub(crate) fn bound_of(bound: Bound<&usize>) -> Bound<usize>
 
 /// The position at which a range starts, if it is a `usize`.
 #[inline]
-pub(crate) fn start_of(low: Bound<usize>) -> Option<usize>
+pub fn start_of(low: Bound<usize>) -> Option<usize>
     ensures { SomeIff result (start_index low < 2 ^ 64) (start_index low) }
 {
     match low {
@@ -33,7 +33,7 @@ pub(crate) fn start_of(low: Bound<usize>) -> Option<usize>
 
 /// The position before which a range of `len` items ends, if it is a `usize`.
 #[inline]
-pub(crate) fn end_of(high: Bound<usize>, len: usize) -> Option<usize>
+pub fn end_of(high: Bound<usize>, len: usize) -> Option<usize>
     ensures { SomeIff result (end_index high len < 2 ^ 64) (end_index high len) }
 {
     match high {
@@ -45,7 +45,7 @@ pub(crate) fn end_of(high: Bound<usize>, len: usize) -> Option<usize>
 
 /// The start and the end that two bounds have in a list of `len` items, or why they are no range of it.
 #[inline]
-pub(crate) fn range_of(
+pub fn range_of(
     low: Bound<usize>,
     high: Bound<usize>,
     len: usize,

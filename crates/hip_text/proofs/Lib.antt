@@ -1,0 +1,2 @@
+mod Cased
+mod Texts

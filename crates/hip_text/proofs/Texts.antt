@@ -1,0 +1,83 @@
+-- What keeps a text a text, and what shows that one is.
+use Rattle.std.proofs.Common.{◌≡◌, ◌∙◌, ℕ, ◌-◌, ◌≤◌, Bool, true, List, ◌++◌, ◌<◌, length, drop, take, slice_index, slice_range, Result, Ok, Err, ap, subst, sym, arith}
+use Rattle.std.proofs.lemmas.List.{get_or-drop, length-drop}
+use Rattle.std.proofs.Math.Decide.{dec_le}
+use Rattle.std.proofs.Math.Nat.{lt_of_not-le}
+use Rattle.std.proofs.Math.Seq.{take-append_seam}
+use Rattle.std.specs.Char.{encode_utf8}
+use Rattle.std.specs.Str.{IsCharBoundary}
+use Rattle.std.specs.Str.{is_utf8}
+use Rattle.std.proofs.lemmas.Str.{IsUtf8-append, IsUtf8-drop, IsUtf8-string_bytes, IsUtf8-take, IsUtf8-from_is_utf8, is_utf8-from_IsUtf8}
+use Rattle.std.specs.Prelude.{IsUtf8}
+use Rattle.std.specs.String.{string_vec}
+use Rattle.std.specs.declared.string.String.{String}
+use Rattle.std.specs.declared.vec.Vec.{Vec}
+use Rattle.hip_bytes.specs.Handle.{Handle}
+use Rattle.hip_bytes.specs.Change.{IsShortened, PushAnswers, ShrinkAnswers}
+use Rattle.hip_bytes.specs.Made.{IsPart}
+
+-- a text that another follows
+pub is_utf8-append : (front back : List ℕ) → is_utf8 front ≡ true → IsUtf8 back → is_utf8 (front ++ back) ≡ true
+is_utf8-append front back text more = is_utf8-from_IsUtf8 (front ++ back) (IsUtf8-append front back (IsUtf8-from_is_utf8 front text) more)
+
+-- a text that was pushed to
+pub is_utf8-pushed : {T E : Type 0} (shares : Bool) (old : Handle) (addition : List ℕ) (result : Result T E) (new : Handle)
+    → PushAnswers shares old addition result new → is_utf8 old.items ≡ true → IsUtf8 addition → is_utf8 new.items ≡ true
+is_utf8-pushed shares old addition (Ok done) new pushed text more = ap is_utf8 pushed.items ∙ is_utf8-append old.items addition text more
+is_utf8-pushed shares old addition (Err error) new refused text more = ap (λ (handle : Handle). is_utf8 handle.items) refused.1 ∙ text
+
+-- an end of a part, from where the part starts
+pub boundary-drop : (text : List ℕ) (start end : ℕ) → start ≤ end → IsCharBoundary text end → IsCharBoundary (drop start text) (end - start)
+boundary-drop text start end ordered at =
+    let there : slice_index (drop start text) (end - start) ≡ slice_index text end = get_or-drop start text (end - start) 0 ∙ ap (slice_index text) (omega arith) in
+    (
+      omega (arith, length-drop start text, at.0),
+      λ within high. subst (λ (byte : ℕ). 192 ≤ byte) (sym there) (at.1 (omega (arith, length-drop start text, within)) (subst (λ (byte : ℕ). 128 ≤ byte) there high)),
+    )
+
+-- the part of a text between two boundaries
+pub is_utf8-part : (text : List ℕ) (start end : ℕ) → is_utf8 text ≡ true → start ≤ end → IsCharBoundary text start → IsCharBoundary text end
+    → is_utf8 (slice_range text start end) ≡ true
+is_utf8-part text start end utf8 ordered at_start at_end =
+    is_utf8-from_IsUtf8 _ (IsUtf8-take (drop start text) (end - start) (IsUtf8-drop text start (IsUtf8-from_is_utf8 text utf8) at_start) (boundary-drop text start end ordered at_end))
+
+-- a handle that was cut so
+pub is_utf8-cut : (source part : Handle) (start end : ℕ) → is_utf8 source.items ≡ true → start ≤ end → IsCharBoundary source.items start → IsCharBoundary source.items end
+    → IsPart source part (slice_range source.items start end) → is_utf8 part.items ≡ true
+is_utf8-cut source part start end utf8 ordered at_start at_end cut = ap is_utf8 cut.items_are ∙ is_utf8-part source.items start end utf8 ordered at_start at_end
+
+-- a text that was shortened at a boundary
+pub is_utf8-shortened : (old new : Handle) (len : ℕ) → IsShortened old new len → is_utf8 old.items ≡ true
+    → (len ≤ length old.items → IsCharBoundary old.items len) → is_utf8 new.items ≡ true
+is_utf8-shortened old new len shortened utf8 at_boundary = by-length (dec_le len (length old.items)) where
+  by-length : Dec (len ≤ length old.items) → is_utf8 new.items ≡ true
+  by-length (yes within) = ap is_utf8 shortened.items ∙ is_utf8-from_IsUtf8 _ (IsUtf8-take old.items len (IsUtf8-from_is_utf8 old.items utf8) (at_boundary within))
+  by-length (no past) = ap (λ (handle : Handle). is_utf8 handle.items) (shortened.unchanged (omega (arith, lt_of_not-le past))) ∙ utf8
+
+-- a text that gave room back
+pub is_utf8-shrunk : {T E : Type 0} (old : Handle) (room : ℕ) (result : Result T E) (new : Handle) → ShrinkAnswers old room result new
+    → is_utf8 old.items ≡ true → is_utf8 new.items ≡ true
+is_utf8-shrunk old room (Ok done) new shrunk utf8 = ap is_utf8 shrunk.items ∙ utf8
+is_utf8-shrunk old room (Err error) new refused utf8 = ap (λ (handle : Handle). is_utf8 handle.items) refused.1 ∙ utf8
+
+-- a text whose last character was taken off
+pub is_utf8-popped : (old new : Handle) (rest : List ℕ) (c : ℕ) {kept : List ℕ} → IsShortened old new (length rest) → old.items ≡ kept ++ encode_utf8 c → rest ≡ kept
+    → IsUtf8 rest → is_utf8 new.items ≡ true
+is_utf8-popped old new rest c {kept} shortened whole same utf8 =
+    ap is_utf8 (shortened.items ∙ ap (take (length rest)) (whole ∙ ap (λ front. front ++ encode_utf8 c) (sym same)) ∙ take-append_seam rest (encode_utf8 c)) ∙ is_utf8-from_IsUtf8 rest utf8
+
+-- a handle of the bytes of a `String`
+pub is_utf8-taken : {Z : Type 0} (string : String Z) (vec : Vec ℕ Z) (bytes : Handle) → vec ≡ string_vec string → bytes.items ≡ vec.items → is_utf8 bytes.items ≡ true
+is_utf8-taken string vec bytes same holds = ap is_utf8 (holds ∙ ap (λ v. v.items) same) ∙ is_utf8-from_IsUtf8 _ (IsUtf8-string_bytes string)
+
+pub ruleset texts = (IsUtf8-from_is_utf8, is_utf8-from_IsUtf8)
+
+pub ruleset pushes = (texts, is_utf8-pushed)
+
+pub ruleset cuts = (texts, is_utf8-part)
+
+pub ruleset shortens = (texts, is_utf8-shortened)
+
+pub ruleset shrinks = (texts, is_utf8-shrunk)
+
+pub ruleset strings = (texts, IsUtf8-string_bytes)

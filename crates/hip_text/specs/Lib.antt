@@ -1,0 +1,12 @@
+pub mod Boundary
+pub mod Change
+pub mod Decode
+pub mod Slice
+pub mod SliceError
+pub use Rattle.hip_bytes.specs.Cost
+pub use Rattle.hip_bytes.specs.Handle
+pub use Rattle.hip_bytes.specs.Join
+pub use Rattle.hip_bytes.specs.Kinds
+pub use Rattle.hip_bytes.specs.Made
+pub use Rattle.hip_bytes.specs.Range
+pub use Rattle.hip_bytes.specs.Meter

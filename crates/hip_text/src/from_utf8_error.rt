@@ -1,0 +1,80 @@
+//! Bytes that aren't a text.
+ghost use Rattle.std.specs.Prelude.{◌≡◌, IfOk, OnErr};
+ghost use Rattle.hip_bytes.specs.Made.{CloneAnswers};
+ghost use Rattle.hip_text.specs.Decode.{error_bytes, error_cause};
+
+use hip_bytes::{Backend, HipByt, Kind};
+use std::alloc::{AllocError, Global};
+use std::error::Error;
+use std::fmt;
+use std::str::Utf8Error;
+
+/// Bytes that aren't UTF-8, and what is wrong with them.
+#[derive(Drop)]
+pub struct FromUtf8Error<'b, B: Backend> {
+    bytes: HipByt<'b, B>,
+    error: Utf8Error,
+}
+
+impl<'b, B: Backend> FromUtf8Error<'b, B> {
+    pub(crate) fn new(bytes: HipByt<'b, B>, error: Utf8Error) -> Self
+        ensures bytes { error_bytes result ≡ bytes.entry }
+        ensures cause { error_cause result ≡ error }
+    {
+        FromUtf8Error { bytes, error }
+    }
+
+    /// The bytes.
+    #[inline]
+    pub fn as_bytes(&self) -> &[u8]
+        ensures { result.now ≡ (error_bytes self.now).items }
+    {
+        self.bytes.as_slice()
+    }
+
+    /// The value that was refused.
+    #[inline]
+    pub fn into_bytes(self) -> HipByt<'b, B>
+        ensures { result ≡ error_bytes self.entry }
+    {
+        self.bytes
+    }
+
+    /// What is wrong with the bytes.
+    #[inline]
+    pub fn utf8_error(&self) -> Utf8Error
+        ensures { result ≡ error_cause self.now }
+    {
+        self.error
+    }
+
+    /// The same error again, with a clone of the bytes.
+    pub fn clone(&self, alloc: Global) -> Result<Self, AllocError>
+        ensures bytes { IfOk result (λ copy. (error_bytes copy).items ≡ (error_bytes self.now).items) }
+        ensures kind { IfOk result (λ copy. (error_bytes copy).kind ≡ (error_bytes self.now).kind) }
+        ensures cause { IfOk result (λ copy. error_cause copy ≡ error_cause self.now) }
+        ensures memory { OnErr result ((error_bytes self.now).kind ≡ Kind.Allocated) }
+    {
+        Ok(FromUtf8Error {
+            bytes: self.bytes.clone(alloc)?,
+            error: self.error,
+        })
+    }
+}
+
+impl<'b, B: Backend> fmt::Debug for FromUtf8Error<'b, B> {
+    fn fmt<W: fmt::Write>(&self, f: &mut fmt::Formatter<W>) -> fmt::Result {
+        f.debug_struct("FromUtf8Error")
+            .field("bytes", &self.bytes)
+            .field("error", &self.error)
+            .finish()
+    }
+}
+
+impl<'b, B: Backend> fmt::Display for FromUtf8Error<'b, B> {
+    fn fmt<W: fmt::Write>(&self, f: &mut fmt::Formatter<W>) -> fmt::Result {
+        fmt::Display::fmt(&self.error, f)
+    }
+}
+
+impl<'b, B: Backend> Error for FromUtf8Error<'b, B> {}

@@ -1,0 +1,53 @@
+ghost use Rattle.std.specs.Prelude.{◌≡◌, IsUtf8};
+
+use hip_bytes::{Backend, HipByt};
+use std::marker::Model;
+
+mod compare;
+mod convert;
+mod cuts;
+mod decode;
+mod growth;
+mod make;
+mod views;
+mod write;
+
+/// A text that is cheap to clone and to cut: a [`HipByt`] that is UTF-8.
+#[derive(Drop)]
+pub struct HipStr<'b, B: Backend> {
+    bytes: HipByt<'b, B>,
+}
+
+impl<'b, B: Backend> Model for HipStr<'b, B> {
+    ghost use Rattle.std.specs.Prelude.{◌≡◌, true};
+    ghost use Rattle.std.specs.Str.{is_utf8};
+    ghost use Rattle.hip_bytes.specs.Handle.{Handle};
+
+    ghost Value = { Handle };
+
+    ghost view = { λ text. text.bytes };
+
+    ghost invariant = { λ text. is_utf8 text.bytes.items ≡ true };
+}
+
+impl<'b, B: Backend> HipStr<'b, B> {
+    /// The text of these bytes, which are UTF-8. [`HipStr::from_utf8`] tests it.
+    #[tactic(auto, using(crate::proofs::Texts::texts))]
+    #[inline]
+    pub fn from_utf8_unchecked(bytes: HipByt<'b, B>) -> Self
+        requires { IsUtf8 bytes.items }
+        ensures { result ≡ bytes.entry }
+    {
+        HipStr { bytes }
+    }
+
+    /// The bytes.
+    #[tactic(auto, using(crate::proofs::Texts::texts))]
+    #[inline]
+    pub fn into_bytes(self) -> HipByt<'b, B>
+        ensures bytes { result ≡ self.entry }
+        ensures utf8 { IsUtf8 result.items }
+    {
+        self.bytes
+    }
+}

@@ -1,0 +1,114 @@
+//! Comparisons: they go by the bytes, whatever the kind.
+ghost use Rattle.std.specs.Prelude.{◌≡◌, ◌↔◌, nat_eq, refl, Some, IsTrue};
+ghost use Rattle.std.specs.Ordering.{nat_cmp};
+ghost use Rattle.std.specs.Hash as fed;
+ghost use Rattle.std.specs.Cmp.Lexicographic.{pointwise, slice_cmp, nat_list_eq_equiv, nat_list_cmp_total, texts_ties, texts_po};
+ghost use Rattle.std.specs.Cmp.{partial_equiv_from_equiv, on_per, on_equiv, on_po, on_total};
+ghost use Rattle.std.specs.Cmp.Rules.{hashing};
+ghost use Rattle.std.proofs.Common.{rules};
+
+use super::HipStr;
+use hip_bytes::Backend;
+use std::cmp::Ordering;
+use std::fmt;
+use std::hash::{Hash, Hasher};
+
+impl<'b, B: Backend> HipStr<'b, B> {
+    /// Whether the text is this one.
+    #[inline]
+    pub fn str_eq(&self, other: &str) -> bool
+        ensures { IsTrue result ↔ (self.now.items ≡ other.now) }
+    {
+        self.as_bytes() == other.as_bytes()
+    }
+
+    /// How the text stands to this one, in the order of their bytes.
+    #[inline]
+    pub fn str_cmp(&self, other: &str) -> Ordering
+        ensures { result ≡ slice_cmp nat_cmp self.now.items other.now }
+    {
+        self.as_bytes().cmp(other.as_bytes())
+    }
+
+    /// Whether the text is that of a value on another backend.
+    #[inline]
+    pub fn eq_with<B2: Backend>(&self, other: &HipStr<'_, B2>) -> bool
+        ensures { IsTrue result ↔ (self.now.items ≡ other.now.items) }
+    {
+        self.str_eq(other.as_str())
+    }
+
+    /// How the text stands to that of a value on another backend.
+    #[inline]
+    pub fn cmp_with<B2: Backend>(&self, other: &HipStr<'_, B2>) -> Ordering
+        ensures { result ≡ slice_cmp nat_cmp self.now.items other.now.items }
+    {
+        self.str_cmp(other.as_str())
+    }
+}
+
+impl<'b, B: Backend> PartialEq for HipStr<'b, B> {
+    ghost eq = { λ a b. pointwise nat_eq a.items b.items };
+
+    ghost laws = { on_per (λ a. a.items) (partial_equiv_from_equiv nat_list_eq_equiv) };
+
+    #[inline(always)]
+    fn eq(&self, other: &Self) -> bool {
+        self.as_bytes() == other.as_bytes()
+    }
+}
+
+impl<'b, B: Backend> Eq for HipStr<'b, B> {
+    ghost laws = { on_equiv (λ a. a.items) nat_list_eq_equiv };
+}
+
+impl<'b, B: Backend> PartialOrd for HipStr<'b, B> {
+    ghost partial_cmp = { λ a b. Some (slice_cmp nat_cmp a.items b.items) };
+
+    ghost laws = { on_po (λ a. a.items) texts_po };
+
+    #[inline]
+    fn partial_cmp(&self, other: &Self) -> Option<Ordering> {
+        Some(self.cmp(other))
+    }
+}
+
+impl<'b, B: Backend> Ord for HipStr<'b, B> {
+    ghost cmp = { λ a b. slice_cmp nat_cmp a.items b.items };
+
+    ghost total = { on_total (λ a. a.items) nat_list_cmp_total };
+
+    ghost matches_partial_cmp = { λ a b. refl };
+
+    ghost matches_eq = { λ a b. texts_ties a.items b.items };
+
+    #[inline(always)]
+    fn cmp(&self, other: &Self) -> Ordering {
+        self.as_bytes().cmp(other.as_bytes())
+    }
+}
+
+impl<'b, B: Backend> Hash for HipStr<'b, B> {
+    ghost hash_input = { λ a. fed.str a.items };
+
+    ghost respects_eq = { Prim.search (hashing, rules) };
+
+    #[inline]
+    fn hash<H: Hasher>(&self, state: &mut H) {
+        self.as_str().hash(state);
+    }
+}
+
+impl<'b, B: Backend> fmt::Debug for HipStr<'b, B> {
+    fn fmt<W: fmt::Write>(&self, f: &mut fmt::Formatter<W>) -> fmt::Result {
+        fmt::Debug::fmt(self.as_str(), f)
+    }
+}
+
+impl<'b, B: Backend> fmt::Display for HipStr<'b, B> {
+    ghost output = { λ text. Some text.items };
+
+    fn fmt<W: fmt::Write>(&self, f: &mut fmt::Formatter<W>) -> fmt::Result {
+        fmt::Display::fmt(self.as_str(), f)
+    }
+}

@@ -1,0 +1,23 @@
+//! Texts: **a text is a handle of bytes whose list is UTF-8, and each call says of it what the bytes' call says, and the boundary
+//! where there is one.**
+//!
+//! - [`HipStr`] is the text, generic in the [`Backend`] as [`HipByt`] is.
+//! - [`SliceError`] says why a range is none of a text, [`SliceRefusal`] why a call gave no slice.
+//!
+//! The words of the contracts are those of hip_bytes, and `Boundary` (where a text may be cut), `Slice` and `SliceError` (ranges of a
+//! text and their faults) of `specs/`.
+#![tactic(auto)]
+
+mod faults;
+mod from_utf8_error;
+mod hip_str;
+mod slice_error;
+
+pub use faults::BytesFault;
+pub use from_utf8_error::FromUtf8Error;
+pub use hip_bytes::{
+    Allocated, Appended, Backend, Block, Borrowed, GrowFault, HipByt, INLINE_CAPACITY, Inline,
+    Kind, Meter, Rc, Room, Unique, copy_counted, fill_counted,
+};
+pub use hip_str::HipStr;
+pub use slice_error::{SliceError, SliceErrorKind, SliceRefusal};
