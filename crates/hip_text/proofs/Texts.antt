@@ -1,5 +1,5 @@
 -- What keeps a text a text, and what shows that one is.
-use Rattle.std.proofs.Common.{◌≡◌, ◌∙◌, ℕ, ◌-◌, ◌≤◌, Bool, true, List, ◌++◌, ◌<◌, length, drop, take, slice_index, slice_range, Result, Ok, Err, ap, subst, sym, arith}
+use Rattle.std.proofs.Common.{◌≡◌, ◌∙◌, ℕ, ◌-◌, ◌≤◌, Bool, true, List, ◌++◌, length, drop, take, slice_index, slice_range, Result, Ok, Err, OnOk, OnErr, ap, subst, sym, arith}
 use Rattle.std.proofs.lemmas.List.{get_or-drop, length-drop}
 use Rattle.std.proofs.Math.Decide.{dec_le}
 use Rattle.std.proofs.Math.Nat.{lt_of_not-le}
@@ -14,6 +14,7 @@ use Rattle.std.specs.declared.string.String.{String}
 use Rattle.std.specs.declared.vec.Vec.{Vec}
 use Rattle.hip_bytes.specs.Handle.{Handle}
 use Rattle.hip_bytes.specs.Change.{IsShortened, PushAnswers, ShrinkAnswers}
+use Rattle.hip_bytes.specs.Kinds.{HoldsByLength}
 use Rattle.hip_bytes.specs.Made.{IsPart}
 
 -- a text that another follows
@@ -69,6 +70,12 @@ is_utf8-popped old new rest c {kept} shortened whole same utf8 =
 -- a handle of the bytes of a `String`
 pub is_utf8-taken : {Z : Type 0} (string : String Z) (vec : Vec ℕ Z) (bytes : Handle) → vec ≡ string_vec string → bytes.items ≡ vec.items → is_utf8 bytes.items ≡ true
 is_utf8-taken string vec bytes same holds = ap is_utf8 (holds ∙ ap (λ v. v.items) same) ∙ is_utf8-from_IsUtf8 _ (IsUtf8-string_bytes string)
+
+-- a text that was put back
+pub is_utf8-put : {T E : Type 0} (old new : Handle) (items : List ℕ) (result : Result T E) → OnOk result (HoldsByLength new items) → OnErr result (new ≡ old)
+    → is_utf8 old.items ≡ true → IsUtf8 items → is_utf8 new.items ≡ true
+is_utf8-put old new items (Ok done) put same utf8 over = ap is_utf8 put.items_are ∙ is_utf8-from_IsUtf8 items over
+is_utf8-put old new items (Err error) put same utf8 over = ap (λ (handle : Handle). is_utf8 handle.items) same ∙ utf8
 
 pub ruleset texts = (IsUtf8-from_is_utf8, is_utf8-from_IsUtf8)
 

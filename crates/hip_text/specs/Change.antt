@@ -1,5 +1,5 @@
 -- What a call that changes a text may answer, where it isn't what the bytes' call answers.
-use Rattle.std.specs.Prelude.{◌≡◌, ℕ, ◌-◌, List, [], ◌++◌, length, Option, Some, None}
+use Rattle.std.specs.Prelude.{◌≡◌, ℕ, ◌-◌, [], ◌++◌, length, Option, Some, None}
 use Rattle.std.specs.Char.{encode_utf8}
 use Rattle.hip_bytes.specs.Handle.{Handle}
 use Rattle.hip_bytes.specs.Change.{IsShortened}

@@ -1,6 +1,7 @@
 pub mod Boundary
 pub mod Change
 pub mod Decode
+pub mod RefMut
 pub mod Slice
 pub mod SliceError
 pub use Rattle.hip_bytes.specs.Cost

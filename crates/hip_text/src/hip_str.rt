@@ -9,6 +9,7 @@ mod cuts;
 mod decode;
 mod growth;
 mod make;
+mod mutate;
 mod views;
 mod write;
 

@@ -11,6 +11,7 @@
 mod faults;
 mod from_utf8_error;
 mod hip_str;
+mod ref_mut;
 mod slice_error;
 
 pub use faults::BytesFault;
@@ -20,4 +21,5 @@ pub use hip_bytes::{
     Kind, Meter, Rc, Room, Unique, copy_counted, fill_counted,
 };
 pub use hip_str::HipStr;
+pub use ref_mut::{RefMut, TextSource, mutate, mutate_metered};
 pub use slice_error::{SliceError, SliceErrorKind, SliceRefusal};

@@ -1,4 +1,4 @@
-use Rattle.std.proofs.Common.{◌≡◌, ◌∙◌, sym, ap}
+use Rattle.std.proofs.Common.{◌∙◌, sym, ap}
 use Rattle.hip_bytes.specs.Handle.{Handle}
 use Rattle.hip_text.proofs.Texts.{is_utf8-popped}
 use Rattle.hip_text.proofs.hip_str.HipStr.pop_metered.Goals as goal
