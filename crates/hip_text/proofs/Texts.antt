@@ -1,13 +1,14 @@
 -- What keeps a text a text, and what shows that one is.
-use Rattle.std.proofs.Common.{◌≡◌, ◌∙◌, ℕ, ◌-◌, ◌≤◌, Bool, true, List, ◌++◌, length, drop, take, slice_index, slice_range, Result, Ok, Err, OnOk, OnErr, ap, subst, sym, arith}
+use Rattle.std.proofs.Common.{◌≡◌, ◌∙◌, ℕ, zero, suc, ◌-◌, ◌≤◌, Bool, true, List, [], ◌++◌, length, drop, take, slice_index, slice_range, Result, Ok, Err, OnOk, OnErr, ap, subst, sym, arith}
 use Rattle.std.proofs.lemmas.List.{get_or-drop, length-drop}
 use Rattle.std.proofs.Math.Decide.{dec_le}
 use Rattle.std.proofs.Math.Nat.{lt_of_not-le}
 use Rattle.std.proofs.Math.Seq.{take-append_seam}
 use Rattle.std.specs.Char.{encode_utf8}
+use Rattle.std.specs.List.{repeat}
 use Rattle.std.specs.Str.{IsCharBoundary}
 use Rattle.std.specs.Str.{is_utf8}
-use Rattle.std.proofs.lemmas.Str.{IsUtf8-append, IsUtf8-drop, IsUtf8-string_bytes, IsUtf8-take, IsUtf8-from_is_utf8, is_utf8-from_IsUtf8}
+use Rattle.std.proofs.lemmas.Str.{IsUtf8-append, IsUtf8-drop, IsUtf8-nil, IsUtf8-string_bytes, IsUtf8-take, IsUtf8-from_is_utf8, is_utf8-from_IsUtf8}
 use Rattle.std.specs.Prelude.{IsUtf8}
 use Rattle.std.specs.String.{string_vec}
 use Rattle.std.specs.declared.string.String.{String}
@@ -77,6 +78,11 @@ pub is_utf8-put : {T E : Type 0} (old new : Handle) (items : List ℕ) (result :
 is_utf8-put old new items (Ok done) put same utf8 over = ap is_utf8 put.items_are ∙ is_utf8-from_IsUtf8 items over
 is_utf8-put old new items (Err error) put same utf8 over = ap (λ (handle : Handle). is_utf8 handle.items) same ∙ utf8
 
+-- a text so many times
+pub is_utf8-repeat : (n : ℕ) (text : List ℕ) → is_utf8 text ≡ true → is_utf8 (repeat n text) ≡ true
+is_utf8-repeat zero text utf8 = is_utf8-from_IsUtf8 [] IsUtf8-nil
+is_utf8-repeat (suc n) text utf8 = is_utf8-append text (repeat n text) utf8 (IsUtf8-from_is_utf8 (repeat n text) (is_utf8-repeat n text utf8))
+
 pub ruleset texts = (IsUtf8-from_is_utf8, is_utf8-from_IsUtf8)
 
 pub ruleset pushes = (texts, is_utf8-pushed)
@@ -88,3 +94,5 @@ pub ruleset shortens = (texts, is_utf8-shortened)
 pub ruleset shrinks = (texts, is_utf8-shrunk)
 
 pub ruleset strings = (texts, IsUtf8-string_bytes)
+
+pub ruleset repeats = (texts, is_utf8-repeat)

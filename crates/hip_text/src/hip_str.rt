@@ -3,6 +3,7 @@ ghost use Rattle.std.specs.Prelude.{◌≡◌, IsUtf8};
 use hip_bytes::{Backend, HipByt};
 use std::marker::Model;
 
+mod build;
 mod compare;
 mod convert;
 mod cuts;

@@ -1,13 +1,17 @@
 //! Texts of bytes that may not be one.
-ghost use Rattle.std.specs.Prelude.{◌≡◌, IfErr, IfNone, IfSome, IsUtf8};
-ghost use Rattle.std.specs.Str.{valid_up_to, IsValidUpTo};
+ghost use Rattle.std.specs.Prelude.{◌≡◌, IfErr, IfNone, IfOk, IfSome, IsOkAnd, IsUtf8};
+ghost use Rattle.std.specs.Str.{encode_utf8_all, valid_up_to, IsValidUpTo};
+ghost use Rattle.bstr.specs.Utf8.{lossy_chars};
+ghost use Rattle.hip_bytes.specs.Kinds.{HoldsByLength};
 ghost use Rattle.hip_text.specs.Decode.{FromUtf8Answers, ReadAnswers, refusal_of};
 
 use super::HipStr;
 use crate::faults::BytesFault;
 use crate::from_utf8_error::FromUtf8Error;
+use bstr::ByteSlice;
 use hip_bytes::{Backend, HipByt};
 use std::alloc::Global;
+use std::borrow::CowStr;
 use std::str;
 use std::str::Utf8Error;
 
@@ -21,6 +25,26 @@ impl<'b, B: Backend> HipStr<'b, B> {
         match fault_of(bytes.as_slice()) {
             None => Ok(HipStr { bytes }),
             Some(error) => Err(FromUtf8Error::new(bytes, error)),
+        }
+    }
+
+    /// The text of these bytes, in the same handle where they are UTF-8; else a new one, in which each longest front of a character
+    /// that isn't one, or byte that begins none, is U+FFFD. A refused value is handed back.
+    #[tactic(auto, using(crate::proofs::Texts::texts))]
+    pub fn from_utf8_lossy(alloc: Global, bytes: HipByt<'b, B>) -> Result<Self, HipByt<'b, B>>
+        ensures valid { IsUtf8 bytes.entry.items → IsOkAnd result (λ text. text ≡ bytes.entry) }
+        ensures repaired { ¬ (IsUtf8 bytes.entry.items) → IfOk result (λ text. HoldsByLength text (encode_utf8_all (lossy_chars bytes.entry.items))) }
+        ensures handed_back { IfErr result (λ back. back ≡ bytes.entry) }
+    {
+        if fault_of(bytes.as_slice()).is_none() {
+            return Ok(HipStr { bytes });
+        }
+        let Ok(CowStr::Owned(string)) = bytes.as_slice().to_str_lossy(alloc) else {
+            return Err(bytes);
+        };
+        match HipStr::from_string(alloc, string) {
+            Ok(text) => Ok(text),
+            Err(_) => Err(bytes),
         }
     }
 

@@ -4,6 +4,7 @@ ghost use Rattle.hip_bytes.specs.Kinds.{HasCapacity};
 
 use super::HipStr;
 use hip_bytes::{Backend, INLINE_CAPACITY, Kind};
+use std::convert::{AsSlice, AsStr};
 use std::str::from_utf8_unchecked;
 
 impl<'b, B: Backend> HipStr<'b, B> {
@@ -117,5 +118,23 @@ impl<'b, B: Backend> HipStr<'b, B> {
             Some(text) => Ok(text),
             None => Err(self),
         }
+    }
+}
+
+impl<'b, B: Backend> AsStr for HipStr<'b, B> {
+    ghost text = { λ text. text.items };
+
+    #[inline]
+    fn as_str(&self) -> &str {
+        HipStr::as_str(self)
+    }
+}
+
+impl<'b, B: Backend> AsSlice<u8> for HipStr<'b, B> {
+    ghost items = { λ text. text.items };
+
+    #[inline]
+    fn as_slice(&self) -> &[u8] {
+        self.as_bytes()
     }
 }
