@@ -1,0 +1,11 @@
+//! Tests of texts, from outside of hip_text: what no clause says, as that calls succeed where there is memory, exact texts, and values
+//! that come from elsewhere. On either backend.
+//!
+//! - `makers`: makers, conversions, pushes, `pop`, case, comparisons and guards.
+//! - `errors`: ranges that are refused, and bytes that aren't a text.
+#![tactic(auto)]
+
+#[cfg(test)]
+mod errors;
+#[cfg(test)]
+mod makers;
