@@ -10,7 +10,7 @@ use crate::chosen::{Chosen, choose};
 use crate::pattern::{DoubleEndedPattern, OneChar, Pattern, ReversePattern};
 
 /// The characters that a closure answers yes for.
-#[derive(Drop)]
+#[derive(Clone, Drop)]
 pub struct CharPred<F> {
     test: F,
     chosen: Chosen,

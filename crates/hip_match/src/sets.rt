@@ -157,13 +157,6 @@ impl<'a, const N: usize> ReversePattern for &'a [char; N] {
     ghost one_start = { λ s. char_ends-one_start (λ d. list_any (λ c. c == d) s.now) };
 }
 
-impl<'a, const N: usize> DoubleEndedPattern for &'a [char; N] {
-    #[inline]
-    fn starts_at(&self, text: &str, at: usize) -> bool {
-        self.match_at(text, at).is_some()
-    }
-}
-
 impl<'a, const N: usize> OneChar for &'a [char; N] {
     #[inline]
     fn ends_at(&self, text: &str, to: usize) -> bool {

@@ -8,15 +8,17 @@ use crate::each_way::{
     CUTS, DRAWN, Drawn, LEFTMOST, RIGHTMOST, TEXT, WALKS, draws_by_turns, searches,
     tests_at_a_place,
 };
-use crate::walks::{draws, walks, walk_by_script};
+use crate::walks::{draws, gives, walk_by_script, walks};
 use hip_match::chosen::Chosen;
 use hip_match::draw::{End, draw_into};
 use hip_match::matches::{MatchIndices, Matches};
 use hip_match::predicate::{CharPred, choose_by};
+use hip_match::ranges::Ranges;
 use hip_match::rmatches::{RMatchIndices, RMatches};
 use hip_match::split::Split;
 use hip_match::trim::trim_matches;
 use std::process::Abort;
+use std::test::Fail;
 
 // What the script draws of the pieces between digits.
 fn between_digits(text: &str, script: &[End], drawn: &mut [(usize, usize)]) -> usize
@@ -77,6 +79,19 @@ fn chosen_for(wanted: char) -> Chosen
     ensures { (c : ℕ) → IsScalar c → answer_at result.answers c ≡ (c == wanted) }
 {
     choose_by(&wanted)
+}
+
+#[test]
+fn cloned(rt: HostRuntime) -> Result<(), Fail> {
+    let text = "-ab-c";
+    let wanted = '-';
+    let pattern = CharPred::with(|c| c == wanted, chosen_for(wanted));
+    let mut pieces = Split::new(text, pattern.clone()?);
+    let first = pieces.next();
+    gives(&rt, text, pieces.clone()?, &["ab", "c"]);
+    gives(&rt, text, Split::new(text, pattern), &["", "ab", "c"]);
+    assert_eq!(rt; (first, pieces.next()), (Some((0, 0)), Some((1, 3))));
+    Ok(())
 }
 
 #[test]

@@ -1,6 +1,7 @@
 //! That laws can be stated by a caller, and the tests at a place.
-use hip_match::laws::{join_undoes_split, join_undoes_split_by_char};
+use hip_match::draw::End;
 use hip_match::laws::{
+    ended_pieces_are_the_text, ends_meet, join_undoes_split, join_undoes_split_by_char,
     just_one_list_is_leftmost, just_one_list_is_rightmost, one_char_reverses,
 };
 use hip_match::pattern::{DoubleEndedPattern, OneChar};
@@ -14,6 +15,8 @@ fn laws(_rt: HostRuntime) {
     one_char_reverses(&&['a', ','], text);
     join_undoes_split(text, ",");
     join_undoes_split_by_char(text, ',');
+    ended_pieces_are_the_text(&&['a', ','], text);
+    ends_meet(&[(0, 2), (3, 4)], &[End::Back]);
 }
 
 #[test]
