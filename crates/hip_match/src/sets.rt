@@ -18,10 +18,20 @@ impl CharSet for char {
 }
 
 impl Pattern for char {
+    type Searcher = ();
+
     ghost ends = { λ c. char_ends (λ d. d == c) };
 
     #[inline]
+    fn searcher(&self) {}
+
+    #[inline]
     fn next_match(&self, text: &str, from: usize) -> Option<(usize, usize)> {
+        find_char(text, *self, from)
+    }
+
+    #[inline]
+    fn next_match_by(&self, _searcher: &(), text: &str, from: usize) -> Option<(usize, usize)> {
         find_char(text, *self, from)
     }
 
@@ -34,8 +44,18 @@ impl Pattern for char {
 }
 
 impl ReversePattern for char {
+    type ReverseSearcher = ();
+
+    #[inline]
+    fn reverse_searcher(&self) {}
+
     #[inline]
     fn last_match(&self, text: &str, to: usize) -> Option<(usize, usize)> {
+        rfind_char(text, *self, to)
+    }
+
+    #[inline]
+    fn last_match_by(&self, _searcher: &(), text: &str, to: usize) -> Option<(usize, usize)> {
         rfind_char(text, *self, to)
     }
 
@@ -73,10 +93,20 @@ impl<'a> CharSet for &'a [char] {
 }
 
 impl<'a> Pattern for &'a [char] {
+    type Searcher = ();
+
     ghost ends = { λ s. char_ends (λ d. list_any (λ c. c == d) s.now) };
 
     #[inline]
+    fn searcher(&self) {}
+
+    #[inline]
     fn next_match(&self, text: &str, from: usize) -> Option<(usize, usize)> {
+        first_of(self, text, from)
+    }
+
+    #[inline]
+    fn next_match_by(&self, _searcher: &(), text: &str, from: usize) -> Option<(usize, usize)> {
         first_of(self, text, from)
     }
 
@@ -89,8 +119,18 @@ impl<'a> Pattern for &'a [char] {
 }
 
 impl<'a> ReversePattern for &'a [char] {
+    type ReverseSearcher = ();
+
+    #[inline]
+    fn reverse_searcher(&self) {}
+
     #[inline]
     fn last_match(&self, text: &str, to: usize) -> Option<(usize, usize)> {
+        last_of(self, text, to)
+    }
+
+    #[inline]
+    fn last_match_by(&self, _searcher: &(), text: &str, to: usize) -> Option<(usize, usize)> {
         last_of(self, text, to)
     }
 
@@ -128,10 +168,20 @@ impl<'a, const N: usize> CharSet for &'a [char; N] {
 }
 
 impl<'a, const N: usize> Pattern for &'a [char; N] {
+    type Searcher = ();
+
     ghost ends = { λ s. char_ends (λ d. list_any (λ c. c == d) s.now) };
 
     #[inline]
+    fn searcher(&self) {}
+
+    #[inline]
     fn next_match(&self, text: &str, from: usize) -> Option<(usize, usize)> {
+        first_of(self, text, from)
+    }
+
+    #[inline]
+    fn next_match_by(&self, _searcher: &(), text: &str, from: usize) -> Option<(usize, usize)> {
         first_of(self, text, from)
     }
 
@@ -144,8 +194,18 @@ impl<'a, const N: usize> Pattern for &'a [char; N] {
 }
 
 impl<'a, const N: usize> ReversePattern for &'a [char; N] {
+    type ReverseSearcher = ();
+
+    #[inline]
+    fn reverse_searcher(&self) {}
+
     #[inline]
     fn last_match(&self, text: &str, to: usize) -> Option<(usize, usize)> {
+        last_of(self, text, to)
+    }
+
+    #[inline]
+    fn last_match_by(&self, _searcher: &(), text: &str, to: usize) -> Option<(usize, usize)> {
         last_of(self, text, to)
     }
 

@@ -1,5 +1,5 @@
 //! Texts found in texts, by the vector searches of `memchr`.
-ghost use Rattle.std.specs.Prelude.{◌≡◌, ◌==◌, ◌<◌, length, string_bytes};
+ghost use Rattle.std.specs.Prelude.{◌≡◌, ◌==◌, ◌<◌, length, string_bytes, IfSome};
 ghost use Rattle.std.specs.Str.{IsCharBoundary};
 ghost use Rattle.memchr.specs.Find.{FindsNeedle, FindsLastNeedle};
 ghost use Rattle.hip_match.specs.Occurrence.{IsNextMatch, IsLastMatch, start_of};
@@ -8,8 +8,9 @@ ghost use Rattle.hip_match.specs.Characters.{char_ends};
 ghost use Rattle.hip_match.specs.TextLaws.{text_ends-spans, text_ends-one_start};
 
 use crate::pattern::{Pattern, ReversePattern};
-use memchr::arch::all::packedpair::{Finder, Pair};
-use memchr::arch::all::{is_prefix, is_suffix};
+use memchr::arch::all::packedpair::Pair;
+use memchr::arch::all::{is_prefix, is_suffix, packedpair};
+use memchr::memmem::{Finder, FinderRev};
 use memchr::{memchr, memmem, memrchr};
 
 // The first place of `hay` where the bytes of `needle` stand. Mostly that is where its last byte first does.
@@ -33,7 +34,7 @@ fn pair_place(hay: &[u8], needle: &[u8]) -> Option<usize>
     ensures { FindsNeedle hay.now needle.now 0 result }
 {
     let pair = Pair::with_indices(needle, 0, 1)?;
-    Finder::with_pair(needle, pair).find_prefilter(hay)
+    packedpair::Finder::with_pair(needle, pair).find_prefilter(hay)
 }
 
 // The first place of `hay` where the bytes of `needle` stand. One byte is looked for by itself, two at once, and a character by its last byte.
@@ -81,17 +82,90 @@ fn last_place(hay: &[u8], needle: &[u8]) -> Option<usize>
     memmem::rfind(hay, needle)
 }
 
-// The first occurrence of `needle` at or after `from`.
+/// What a walk by a text prepares of it.
+#[derive(Clone, Drop)]
+pub struct TextSearcher<'p> {
+    // Of a short text, nothing.
+    finder: Option<Finder<'p>>,
+}
+
+/// What a walk by a text from the end prepares of it.
+#[derive(Clone, Drop)]
+pub struct TextReverseSearcher<'p> {
+    finder: Option<FinderRev<'p>>,
+}
+
+// Whether no searcher is prepared: one or two bytes have nothing to prepare, and a character is mostly where its last byte is.
 #[inline]
-pub(crate) fn find_text(text: &str, needle: &str, from: usize) -> Option<(usize, usize)>
-    requires { IsCharBoundary text.now from }
+fn is_short(needle: &[u8]) -> bool {
+    needle.len() <= 2 || (needle.len() <= 4 && needle[0] >= 0x80)
+}
+
+// What a walk by `needle` prepares.
+#[inline]
+fn finder_of<'p>(needle: &'p str) -> Option<Finder<'p>>
+    ensures { IfSome result (λ f. f ≡ needle.now) }
+{
+    let wanted = needle.as_bytes();
+    if is_short(wanted) {
+        return None;
+    }
+    Some(Finder::new(wanted))
+}
+
+// What a walk by `needle` from the end prepares.
+#[inline]
+fn reverse_finder_of<'p>(needle: &'p str) -> Option<FinderRev<'p>>
+    ensures { IfSome result (λ f. f ≡ needle.now) }
+{
+    let wanted = needle.as_bytes();
+    if is_short(wanted) {
+        return None;
+    }
+    Some(FinderRev::new(wanted))
+}
+
+// The first place of `hay` where the bytes of `needle` stand, by what was prepared of it.
+#[inline]
+fn place_by(finder: &Option<Finder<'_>>, hay: &[u8], needle: &[u8]) -> Option<usize>
+    requires { IfSome finder.now (λ f. f ≡ needle.now) }
+    ensures { FindsNeedle hay.now needle.now 0 result }
+{
+    match finder {
+        Some(finder) => finder.find(hay),
+        None => first_place(hay, needle),
+    }
+}
+
+// The last place of `hay` where the bytes of `needle` stand, by what was prepared of it.
+#[inline]
+fn last_place_by(finder: &Option<FinderRev<'_>>, hay: &[u8], needle: &[u8]) -> Option<usize>
+    requires { IfSome finder.now (λ f. f ≡ needle.now) }
+    ensures { FindsLastNeedle hay.now needle.now result }
+{
+    match finder {
+        Some(finder) => finder.rfind(hay),
+        None => last_place(hay, needle),
+    }
+}
+
+// The first occurrence of `needle` at or after `from`, by what was prepared of it.
+#[inline]
+pub(crate) fn find_text(
+    text: &str,
+    needle: &str,
+    finder: &Option<Finder<'_>>,
+    from: usize,
+) -> Option<(usize, usize)>
+    requires boundary { IsCharBoundary text.now from }
+    requires prepared { IfSome finder.now (λ f. f ≡ needle.now) }
     ensures { IsNextMatch (text_ends needle.now text.now) from result }
 {
     let wanted = needle.as_bytes();
     if wanted.is_empty() {
         return Some((from, from));
     }
-    let start = from + first_place(&text.as_bytes()[from..], wanted)?;
+    let start = from + place_by(finder, &text.as_bytes()[from..], wanted)?;
     Some((start, start + wanted.len()))
 }
 
@@ -108,17 +182,23 @@ pub(crate) fn text_at(text: &str, needle: &str, at: usize) -> Option<usize>
     None
 }
 
-// The last occurrence of `needle` that ends at or before `to`.
+// The last occurrence of `needle` that ends at or before `to`, by what was prepared of it.
 #[inline]
-pub(crate) fn rfind_text(text: &str, needle: &str, to: usize) -> Option<(usize, usize)>
-    requires { IsCharBoundary text.now to }
+pub(crate) fn rfind_text(
+    text: &str,
+    needle: &str,
+    finder: &Option<FinderRev<'_>>,
+    to: usize,
+) -> Option<(usize, usize)>
+    requires boundary { IsCharBoundary text.now to }
+    requires prepared { IfSome finder.now (λ f. f ≡ needle.now) }
     ensures { IsLastMatch (text_ends needle.now text.now) to result }
 {
     let wanted = needle.as_bytes();
     if wanted.is_empty() {
         return Some((to, to));
     }
-    let start = last_place(&text.as_bytes()[..to], wanted)?;
+    let start = last_place_by(finder, &text.as_bytes()[..to], wanted)?;
     Some((start, start + wanted.len()))
 }
 
@@ -142,7 +222,7 @@ pub(crate) fn find_char(text: &str, c: char, from: usize) -> Option<(usize, usiz
     ensures { IsNextMatch (char_ends (λ d. d == c) text.now) from result }
 {
     let mut room = [0; 4];
-    find_text(text, c.encode_utf8(&mut room), from)
+    find_text(text, c.encode_utf8(&mut room), &None, from)
 }
 
 // The last occurrence of the character `c` that ends at or before `to`.
@@ -152,15 +232,36 @@ pub(crate) fn rfind_char(text: &str, c: char, to: usize) -> Option<(usize, usize
     ensures { IsLastMatch (char_ends (λ d. d == c) text.now) to result }
 {
     let mut room = [0; 4];
-    rfind_text(text, c.encode_utf8(&mut room), to)
+    rfind_text(text, c.encode_utf8(&mut room), &None, to)
 }
 
 impl<'p> Pattern for &'p str {
+    type Searcher = TextSearcher<'p>;
+
     ghost ends = { λ p. text_ends p.now };
+
+    ghost is_searcher = { λ p s. IfSome s.finder (λ f. f ≡ p.now) };
+
+    #[inline]
+    fn searcher(&self) -> TextSearcher<'p> {
+        TextSearcher {
+            finder: finder_of(*self),
+        }
+    }
 
     #[inline]
     fn next_match(&self, text: &str, from: usize) -> Option<(usize, usize)> {
-        find_text(text, *self, from)
+        find_text(text, *self, &None, from)
+    }
+
+    #[inline]
+    fn next_match_by(
+        &self,
+        searcher: &TextSearcher<'p>,
+        text: &str,
+        from: usize,
+    ) -> Option<(usize, usize)> {
+        find_text(text, *self, &searcher.finder, from)
     }
 
     #[inline]
@@ -172,9 +273,30 @@ impl<'p> Pattern for &'p str {
 }
 
 impl<'p> ReversePattern for &'p str {
+    type ReverseSearcher = TextReverseSearcher<'p>;
+
+    ghost is_reverse_searcher = { λ p s. IfSome s.finder (λ f. f ≡ p.now) };
+
+    #[inline]
+    fn reverse_searcher(&self) -> TextReverseSearcher<'p> {
+        TextReverseSearcher {
+            finder: reverse_finder_of(*self),
+        }
+    }
+
     #[inline]
     fn last_match(&self, text: &str, to: usize) -> Option<(usize, usize)> {
-        rfind_text(text, *self, to)
+        rfind_text(text, *self, &None, to)
+    }
+
+    #[inline]
+    fn last_match_by(
+        &self,
+        searcher: &TextReverseSearcher<'p>,
+        text: &str,
+        to: usize,
+    ) -> Option<(usize, usize)> {
+        rfind_text(text, *self, &searcher.finder, to)
     }
 
     #[inline]
@@ -186,11 +308,32 @@ impl<'p> ReversePattern for &'p str {
 }
 
 impl<'p, 'q> Pattern for &'q &'p str {
+    type Searcher = TextSearcher<'p>;
+
     ghost ends = { λ p. text_ends p.now.now };
+
+    ghost is_searcher = { λ p s. IfSome s.finder (λ f. f ≡ p.now.now) };
+
+    #[inline]
+    fn searcher(&self) -> TextSearcher<'p> {
+        TextSearcher {
+            finder: finder_of(**self),
+        }
+    }
 
     #[inline]
     fn next_match(&self, text: &str, from: usize) -> Option<(usize, usize)> {
-        find_text(text, **self, from)
+        find_text(text, **self, &None, from)
+    }
+
+    #[inline]
+    fn next_match_by(
+        &self,
+        searcher: &TextSearcher<'p>,
+        text: &str,
+        from: usize,
+    ) -> Option<(usize, usize)> {
+        find_text(text, **self, &searcher.finder, from)
     }
 
     #[inline]
@@ -202,9 +345,30 @@ impl<'p, 'q> Pattern for &'q &'p str {
 }
 
 impl<'p, 'q> ReversePattern for &'q &'p str {
+    type ReverseSearcher = TextReverseSearcher<'p>;
+
+    ghost is_reverse_searcher = { λ p s. IfSome s.finder (λ f. f ≡ p.now.now) };
+
+    #[inline]
+    fn reverse_searcher(&self) -> TextReverseSearcher<'p> {
+        TextReverseSearcher {
+            finder: reverse_finder_of(**self),
+        }
+    }
+
     #[inline]
     fn last_match(&self, text: &str, to: usize) -> Option<(usize, usize)> {
-        rfind_text(text, **self, to)
+        rfind_text(text, **self, &None, to)
+    }
+
+    #[inline]
+    fn last_match_by(
+        &self,
+        searcher: &TextReverseSearcher<'p>,
+        text: &str,
+        to: usize,
+    ) -> Option<(usize, usize)> {
+        rfind_text(text, **self, &searcher.finder, to)
     }
 
     #[inline]
@@ -216,11 +380,32 @@ impl<'p, 'q> ReversePattern for &'q &'p str {
 }
 
 impl<'p> Pattern for &'p String {
+    type Searcher = TextSearcher<'p>;
+
     ghost ends = { λ p. text_ends (string_bytes p.now) };
+
+    ghost is_searcher = { λ p s. IfSome s.finder (λ f. f ≡ string_bytes p.now) };
+
+    #[inline]
+    fn searcher(&self) -> TextSearcher<'p> {
+        TextSearcher {
+            finder: finder_of(self.as_str()),
+        }
+    }
 
     #[inline]
     fn next_match(&self, text: &str, from: usize) -> Option<(usize, usize)> {
-        find_text(text, self.as_str(), from)
+        find_text(text, self.as_str(), &None, from)
+    }
+
+    #[inline]
+    fn next_match_by(
+        &self,
+        searcher: &TextSearcher<'p>,
+        text: &str,
+        from: usize,
+    ) -> Option<(usize, usize)> {
+        find_text(text, self.as_str(), &searcher.finder, from)
     }
 
     #[inline]
@@ -232,9 +417,30 @@ impl<'p> Pattern for &'p String {
 }
 
 impl<'p> ReversePattern for &'p String {
+    type ReverseSearcher = TextReverseSearcher<'p>;
+
+    ghost is_reverse_searcher = { λ p s. IfSome s.finder (λ f. f ≡ string_bytes p.now) };
+
+    #[inline]
+    fn reverse_searcher(&self) -> TextReverseSearcher<'p> {
+        TextReverseSearcher {
+            finder: reverse_finder_of(self.as_str()),
+        }
+    }
+
     #[inline]
     fn last_match(&self, text: &str, to: usize) -> Option<(usize, usize)> {
-        rfind_text(text, self.as_str(), to)
+        rfind_text(text, self.as_str(), &None, to)
+    }
+
+    #[inline]
+    fn last_match_by(
+        &self,
+        searcher: &TextReverseSearcher<'p>,
+        text: &str,
+        to: usize,
+    ) -> Option<(usize, usize)> {
+        rfind_text(text, self.as_str(), &searcher.finder, to)
     }
 
     #[inline]

@@ -24,10 +24,20 @@ impl CharSet for WhiteSpace {
 }
 
 impl Pattern for WhiteSpace {
+    type Searcher = ();
+
     ghost ends = { λ _. char_ends is_whitespace };
 
     #[inline]
+    fn searcher(&self) {}
+
+    #[inline]
     fn next_match(&self, text: &str, from: usize) -> Option<(usize, usize)> {
+        first_of(self, text, from)
+    }
+
+    #[inline]
+    fn next_match_by(&self, _searcher: &(), text: &str, from: usize) -> Option<(usize, usize)> {
         first_of(self, text, from)
     }
 
@@ -40,8 +50,18 @@ impl Pattern for WhiteSpace {
 }
 
 impl ReversePattern for WhiteSpace {
+    type ReverseSearcher = ();
+
+    #[inline]
+    fn reverse_searcher(&self) {}
+
     #[inline]
     fn last_match(&self, text: &str, to: usize) -> Option<(usize, usize)> {
+        last_of(self, text, to)
+    }
+
+    #[inline]
+    fn last_match_by(&self, _searcher: &(), text: &str, to: usize) -> Option<(usize, usize)> {
         last_of(self, text, to)
     }
 
@@ -83,10 +103,20 @@ impl CharSet for AsciiWhiteSpace {
 }
 
 impl Pattern for AsciiWhiteSpace {
+    type Searcher = ();
+
     ghost ends = { λ _. char_ends is_ascii_whitespace };
 
     #[inline]
+    fn searcher(&self) {}
+
+    #[inline]
     fn next_match(&self, text: &str, from: usize) -> Option<(usize, usize)> {
+        first_of(self, text, from)
+    }
+
+    #[inline]
+    fn next_match_by(&self, _searcher: &(), text: &str, from: usize) -> Option<(usize, usize)> {
         first_of(self, text, from)
     }
 
@@ -99,8 +129,18 @@ impl Pattern for AsciiWhiteSpace {
 }
 
 impl ReversePattern for AsciiWhiteSpace {
+    type ReverseSearcher = ();
+
+    #[inline]
+    fn reverse_searcher(&self) {}
+
     #[inline]
     fn last_match(&self, text: &str, to: usize) -> Option<(usize, usize)> {
+        last_of(self, text, to)
+    }
+
+    #[inline]
+    fn last_match_by(&self, _searcher: &(), text: &str, to: usize) -> Option<(usize, usize)> {
         last_of(self, text, to)
     }
 
