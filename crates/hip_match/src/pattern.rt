@@ -54,15 +54,9 @@ pub trait Pattern: Drop {
 
 /// A pattern that can be looked for from a text's end too. It occurs at most once to a given end.
 pub trait ReversePattern: Pattern {
-    /// What is prepared once for all searches of a walk from the end.
-    type ReverseSearcher: Clone + Drop;
-
-    /// What was prepared of a pattern for searches from the end.
-    ghost is_reverse_searcher: { Self → Self.ReverseSearcher → Type 0 } = { λ _ _. Unit {0} };
-
     /// Prepares the searches of a walk from the end.
-    fn reverse_searcher(&self) -> Self::ReverseSearcher
-        ensures { is_reverse_searcher self.now result };
+    fn reverse_searcher(&self) -> Self::Searcher
+        ensures { Self.is_searcher self.now result };
 
     /// The occurrence that ends last at or before `to`, as its start and end.
     fn last_match(&self, text: &str, to: usize) -> Option<(usize, usize)>
@@ -73,12 +67,12 @@ pub trait ReversePattern: Pattern {
     /// The same, by what was prepared.
     fn last_match_by(
         &self,
-        searcher: &Self::ReverseSearcher,
+        searcher: &Self::Searcher,
         text: &str,
         to: usize,
     ) -> Option<(usize, usize)>
         requires can { Self.can_search self.now }
-        requires prepared { is_reverse_searcher self.now searcher.now }
+        requires prepared { Self.is_searcher self.now searcher.now }
         requires boundary { IsCharBoundary text.now to }
         ensures { IsLastMatch (Self.ends self.now text.now) to result };
 

@@ -89,8 +89,6 @@ impl<F: Fn(char) -> bool> Pattern for CharPred<F> {
 }
 
 impl<F: Fn(char) -> bool> ReversePattern for CharPred<F> {
-    type ReverseSearcher = ();
-
     #[inline]
     fn reverse_searcher(&self) {}
 

@@ -12,7 +12,7 @@ use crate::ranges::{Ranges, RangesBack};
 pub struct RMatches<'h, P: ReversePattern> {
     text: &'h str,
     pattern: P,
-    searcher: P::ReverseSearcher,
+    searcher: P::Searcher,
     from: usize,
     to: usize,
     done: bool,
@@ -41,7 +41,7 @@ impl<'h, P: ReversePattern> RMatches<'h, P> {
 }
 
 impl<'h, P: ReversePattern> Ranges for RMatches<'h, P> {
-    ghost ready = { λ s. IsBackWindow (P.can_search s.pattern × P.is_reverse_searcher s.pattern s.searcher) s.text.now (P.ends s.pattern s.text.now) s.from s.to };
+    ghost ready = { λ s. IsBackWindow (P.can_search s.pattern × P.is_searcher s.pattern s.searcher) s.text.now (P.ends s.pattern s.text.now) s.from s.to };
 
     ghost text = { λ s. s.text.now };
 

@@ -44,8 +44,6 @@ impl Pattern for char {
 }
 
 impl ReversePattern for char {
-    type ReverseSearcher = ();
-
     #[inline]
     fn reverse_searcher(&self) {}
 
@@ -119,8 +117,6 @@ impl<'a> Pattern for &'a [char] {
 }
 
 impl<'a> ReversePattern for &'a [char] {
-    type ReverseSearcher = ();
-
     #[inline]
     fn reverse_searcher(&self) {}
 
@@ -194,8 +190,6 @@ impl<'a, const N: usize> Pattern for &'a [char; N] {
 }
 
 impl<'a, const N: usize> ReversePattern for &'a [char; N] {
-    type ReverseSearcher = ();
-
     #[inline]
     fn reverse_searcher(&self) {}
 

@@ -82,17 +82,11 @@ fn last_place(hay: &[u8], needle: &[u8]) -> Option<usize>
     memmem::rfind(hay, needle)
 }
 
-/// What a walk by a text prepares of it.
+/// What a walk by a text prepares of it: nothing of a short one.
 #[derive(Clone, Drop)]
 pub struct TextSearcher<'p> {
-    // Of a short text, nothing.
     finder: Option<Finder<'p>>,
-}
-
-/// What a walk by a text from the end prepares of it.
-#[derive(Clone, Drop)]
-pub struct TextReverseSearcher<'p> {
-    finder: Option<FinderRev<'p>>,
+    reverse_finder: Option<FinderRev<'p>>,
 }
 
 // Whether no searcher is prepared: one or two bytes have nothing to prepare, and a character is mostly where its last byte is.
@@ -240,12 +234,13 @@ impl<'p> Pattern for &'p str {
 
     ghost ends = { λ p. text_ends p.now };
 
-    ghost is_searcher = { λ p s. IfSome s.finder (λ f. f ≡ p.now) };
+    ghost is_searcher = { λ p s. IfSome s.finder (λ f. f ≡ p.now) × IfSome s.reverse_finder (λ f. f ≡ p.now) };
 
     #[inline]
     fn searcher(&self) -> TextSearcher<'p> {
         TextSearcher {
             finder: finder_of(*self),
+            reverse_finder: None,
         }
     }
 
@@ -273,14 +268,11 @@ impl<'p> Pattern for &'p str {
 }
 
 impl<'p> ReversePattern for &'p str {
-    type ReverseSearcher = TextReverseSearcher<'p>;
-
-    ghost is_reverse_searcher = { λ p s. IfSome s.finder (λ f. f ≡ p.now) };
-
     #[inline]
-    fn reverse_searcher(&self) -> TextReverseSearcher<'p> {
-        TextReverseSearcher {
-            finder: reverse_finder_of(*self),
+    fn reverse_searcher(&self) -> TextSearcher<'p> {
+        TextSearcher {
+            finder: None,
+            reverse_finder: reverse_finder_of(*self),
         }
     }
 
@@ -292,11 +284,11 @@ impl<'p> ReversePattern for &'p str {
     #[inline]
     fn last_match_by(
         &self,
-        searcher: &TextReverseSearcher<'p>,
+        searcher: &TextSearcher<'p>,
         text: &str,
         to: usize,
     ) -> Option<(usize, usize)> {
-        rfind_text(text, *self, &searcher.finder, to)
+        rfind_text(text, *self, &searcher.reverse_finder, to)
     }
 
     #[inline]
@@ -312,12 +304,13 @@ impl<'p, 'q> Pattern for &'q &'p str {
 
     ghost ends = { λ p. text_ends p.now.now };
 
-    ghost is_searcher = { λ p s. IfSome s.finder (λ f. f ≡ p.now.now) };
+    ghost is_searcher = { λ p s. IfSome s.finder (λ f. f ≡ p.now.now) × IfSome s.reverse_finder (λ f. f ≡ p.now.now) };
 
     #[inline]
     fn searcher(&self) -> TextSearcher<'p> {
         TextSearcher {
             finder: finder_of(**self),
+            reverse_finder: None,
         }
     }
 
@@ -345,14 +338,11 @@ impl<'p, 'q> Pattern for &'q &'p str {
 }
 
 impl<'p, 'q> ReversePattern for &'q &'p str {
-    type ReverseSearcher = TextReverseSearcher<'p>;
-
-    ghost is_reverse_searcher = { λ p s. IfSome s.finder (λ f. f ≡ p.now.now) };
-
     #[inline]
-    fn reverse_searcher(&self) -> TextReverseSearcher<'p> {
-        TextReverseSearcher {
-            finder: reverse_finder_of(**self),
+    fn reverse_searcher(&self) -> TextSearcher<'p> {
+        TextSearcher {
+            finder: None,
+            reverse_finder: reverse_finder_of(**self),
         }
     }
 
@@ -364,11 +354,11 @@ impl<'p, 'q> ReversePattern for &'q &'p str {
     #[inline]
     fn last_match_by(
         &self,
-        searcher: &TextReverseSearcher<'p>,
+        searcher: &TextSearcher<'p>,
         text: &str,
         to: usize,
     ) -> Option<(usize, usize)> {
-        rfind_text(text, **self, &searcher.finder, to)
+        rfind_text(text, **self, &searcher.reverse_finder, to)
     }
 
     #[inline]
@@ -384,12 +374,13 @@ impl<'p> Pattern for &'p String {
 
     ghost ends = { λ p. text_ends (string_bytes p.now) };
 
-    ghost is_searcher = { λ p s. IfSome s.finder (λ f. f ≡ string_bytes p.now) };
+    ghost is_searcher = { λ p s. IfSome s.finder (λ f. f ≡ string_bytes p.now) × IfSome s.reverse_finder (λ f. f ≡ string_bytes p.now) };
 
     #[inline]
     fn searcher(&self) -> TextSearcher<'p> {
         TextSearcher {
             finder: finder_of(self.as_str()),
+            reverse_finder: None,
         }
     }
 
@@ -417,14 +408,11 @@ impl<'p> Pattern for &'p String {
 }
 
 impl<'p> ReversePattern for &'p String {
-    type ReverseSearcher = TextReverseSearcher<'p>;
-
-    ghost is_reverse_searcher = { λ p s. IfSome s.finder (λ f. f ≡ string_bytes p.now) };
-
     #[inline]
-    fn reverse_searcher(&self) -> TextReverseSearcher<'p> {
-        TextReverseSearcher {
-            finder: reverse_finder_of(self.as_str()),
+    fn reverse_searcher(&self) -> TextSearcher<'p> {
+        TextSearcher {
+            finder: None,
+            reverse_finder: reverse_finder_of(self.as_str()),
         }
     }
 
@@ -436,11 +424,11 @@ impl<'p> ReversePattern for &'p String {
     #[inline]
     fn last_match_by(
         &self,
-        searcher: &TextReverseSearcher<'p>,
+        searcher: &TextSearcher<'p>,
         text: &str,
         to: usize,
     ) -> Option<(usize, usize)> {
-        rfind_text(text, self.as_str(), &searcher.finder, to)
+        rfind_text(text, self.as_str(), &searcher.reverse_finder, to)
     }
 
     #[inline]

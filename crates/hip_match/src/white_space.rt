@@ -50,8 +50,6 @@ impl Pattern for WhiteSpace {
 }
 
 impl ReversePattern for WhiteSpace {
-    type ReverseSearcher = ();
-
     #[inline]
     fn reverse_searcher(&self) {}
 
@@ -129,8 +127,6 @@ impl Pattern for AsciiWhiteSpace {
 }
 
 impl ReversePattern for AsciiWhiteSpace {
-    type ReverseSearcher = ();
-
     #[inline]
     fn reverse_searcher(&self) {}
 
