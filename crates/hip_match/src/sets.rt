@@ -1,5 +1,5 @@
 //! The patterns that are characters: one of them, or any of some.
-ghost use Rattle.std.specs.Prelude.{◌==◌};
+ghost use Rattle.std.specs.Prelude.{◌≡◌, ◌==◌};
 ghost use Rattle.std.specs.List.{list_any};
 ghost use Rattle.hip_match.specs.Characters.{char_ends};
 ghost use Rattle.hip_match.specs.CharLaws.{char_ends-spans, char_ends-one_start, char_ends-one_char};
@@ -81,12 +81,27 @@ impl OneChar for char {
     ghost one_char = { λ c. char_ends-one_char (λ d. d == c) };
 }
 
+// Whether a character is one of some, which are mostly few.
+#[inline]
+fn is_one_of(set: &[char], c: char) -> bool
+    ensures { result ≡ list_any (λ d. d == c) set.now }
+{
+    let mut rest = set;
+    while let [first, others @ ..] = rest {
+        if *first == c {
+            return true;
+        }
+        rest = others;
+    }
+    false
+}
+
 impl<'a> CharSet for &'a [char] {
     ghost belongs = { λ s d. list_any (λ c. c == d) s.now };
 
     #[inline]
     fn has(&self, c: char) -> bool {
-        self.contains(&c)
+        is_one_of(*self, c)
     }
 }
 
@@ -159,7 +174,7 @@ impl<'a, const N: usize> CharSet for &'a [char; N] {
 
     #[inline]
     fn has(&self, c: char) -> bool {
-        self.contains(&c)
+        is_one_of(self.as_slice(), c)
     }
 }
 

@@ -13,10 +13,54 @@ use memchr::arch::all::{is_prefix, is_suffix, packedpair};
 use memchr::memmem::{Finder, FinderRev};
 use memchr::{memchr, memmem, memrchr};
 
-// The first place of `hay` where the bytes of `needle` stand. Mostly that is where its last byte first does.
+/// What a walk by a text prepares of it: nothing of a short one.
+#[derive(Clone, Drop)]
+pub struct TextSearcher<'p> {
+    finder: Option<Finder<'p>>,
+    reverse_finder: Option<FinderRev<'p>>,
+}
+
+// What a walk by `needle` prepares. One byte and two have ways of their own.
 #[inline]
-fn near_place(hay: &[u8], needle: &[u8]) -> Option<usize>
-    requires { 0 < length needle.now }
+fn finder_of<'p>(needle: &'p str) -> Option<Finder<'p>>
+    ensures { IfSome result (λ f. f ≡ needle.now) }
+{
+    let wanted = needle.as_bytes();
+    if wanted.len() <= 2 {
+        return None;
+    }
+    Some(Finder::new(wanted))
+}
+
+// What a walk by `needle` from the end prepares.
+#[inline]
+fn reverse_finder_of<'p>(needle: &'p str) -> Option<FinderRev<'p>>
+    ensures { IfSome result (λ f. f ≡ needle.now) }
+{
+    let wanted = needle.as_bytes();
+    if wanted.len() <= 1 {
+        return None;
+    }
+    Some(FinderRev::new(wanted))
+}
+
+// The first place of `hay` where the bytes of `needle` stand, by what was prepared of it.
+#[inline]
+fn place_by(finder: &Option<Finder<'_>>, hay: &[u8], needle: &[u8]) -> Option<usize>
+    requires { IfSome finder.now (λ f. f ≡ needle.now) }
+    ensures { FindsNeedle hay.now needle.now 0 result }
+{
+    match finder {
+        Some(finder) => finder.find(hay),
+        None => memmem::find(hay, needle),
+    }
+}
+
+// The same of a needle that mostly stands where its last byte first does.
+#[inline]
+fn near_place(finder: &Option<Finder<'_>>, hay: &[u8], needle: &[u8]) -> Option<usize>
+    requires some { 0 < length needle.now }
+    requires prepared { IfSome finder.now (λ f. f ≡ needle.now) }
     ensures { FindsNeedle hay.now needle.now 0 result }
 {
     let last = needle.len() - 1;
@@ -24,7 +68,7 @@ fn near_place(hay: &[u8], needle: &[u8]) -> Option<usize>
     if at >= last && is_prefix(&hay[at - last..], needle) {
         return Some(at - last);
     }
-    memmem::find(hay, needle)
+    place_by(finder, hay, needle)
 }
 
 // The first place of `hay` where the two bytes of `needle` stand.
@@ -39,7 +83,8 @@ fn pair_place(hay: &[u8], needle: &[u8]) -> Option<usize>
 
 // The first place of `hay` where the bytes of `needle` stand. One byte is looked for by itself, two at once, and a character by its last byte.
 #[inline]
-fn first_place(hay: &[u8], needle: &[u8]) -> Option<usize>
+fn first_place(finder: &Option<Finder<'_>>, hay: &[u8], needle: &[u8]) -> Option<usize>
+    requires { IfSome finder.now (λ f. f ≡ needle.now) }
     ensures { FindsNeedle hay.now needle.now 0 result }
 {
     if needle.len() == 1 {
@@ -49,86 +94,9 @@ fn first_place(hay: &[u8], needle: &[u8]) -> Option<usize>
         return pair_place(hay, needle);
     }
     if needle.len() > 2 && needle.len() <= 4 && needle[0] >= 0x80 {
-        return near_place(hay, needle);
+        return near_place(finder, hay, needle);
     }
-    memmem::find(hay, needle)
-}
-
-// The last place of `hay` where the bytes of `needle` stand. Mostly that is where its last byte last does.
-#[inline]
-fn last_near_place(hay: &[u8], needle: &[u8]) -> Option<usize>
-    requires { 0 < length needle.now }
-    ensures { FindsLastNeedle hay.now needle.now result }
-{
-    let back = needle.len() - 1;
-    let at = memrchr(needle[back], hay)?;
-    if at >= back && is_prefix(&hay[at - back..], needle) {
-        return Some(at - back);
-    }
-    memmem::rfind(hay, needle)
-}
-
-// The last place of `hay` where the bytes of `needle` stand.
-#[inline]
-fn last_place(hay: &[u8], needle: &[u8]) -> Option<usize>
-    ensures { FindsLastNeedle hay.now needle.now result }
-{
-    if needle.len() == 1 {
-        return memrchr(needle[0], hay);
-    }
-    if needle.len() == 2 || (needle.len() > 2 && needle.len() <= 4 && needle[0] >= 0x80) {
-        return last_near_place(hay, needle);
-    }
-    memmem::rfind(hay, needle)
-}
-
-/// What a walk by a text prepares of it: nothing of a short one.
-#[derive(Clone, Drop)]
-pub struct TextSearcher<'p> {
-    finder: Option<Finder<'p>>,
-    reverse_finder: Option<FinderRev<'p>>,
-}
-
-// Whether no searcher is prepared: one or two bytes have nothing to prepare, and a character is mostly where its last byte is.
-#[inline]
-fn is_short(needle: &[u8]) -> bool {
-    needle.len() <= 2 || (needle.len() <= 4 && needle[0] >= 0x80)
-}
-
-// What a walk by `needle` prepares.
-#[inline]
-fn finder_of<'p>(needle: &'p str) -> Option<Finder<'p>>
-    ensures { IfSome result (λ f. f ≡ needle.now) }
-{
-    let wanted = needle.as_bytes();
-    if is_short(wanted) {
-        return None;
-    }
-    Some(Finder::new(wanted))
-}
-
-// What a walk by `needle` from the end prepares.
-#[inline]
-fn reverse_finder_of<'p>(needle: &'p str) -> Option<FinderRev<'p>>
-    ensures { IfSome result (λ f. f ≡ needle.now) }
-{
-    let wanted = needle.as_bytes();
-    if is_short(wanted) {
-        return None;
-    }
-    Some(FinderRev::new(wanted))
-}
-
-// The first place of `hay` where the bytes of `needle` stand, by what was prepared of it.
-#[inline]
-fn place_by(finder: &Option<Finder<'_>>, hay: &[u8], needle: &[u8]) -> Option<usize>
-    requires { IfSome finder.now (λ f. f ≡ needle.now) }
-    ensures { FindsNeedle hay.now needle.now 0 result }
-{
-    match finder {
-        Some(finder) => finder.find(hay),
-        None => first_place(hay, needle),
-    }
+    place_by(finder, hay, needle)
 }
 
 // The last place of `hay` where the bytes of `needle` stand, by what was prepared of it.
@@ -139,8 +107,38 @@ fn last_place_by(finder: &Option<FinderRev<'_>>, hay: &[u8], needle: &[u8]) -> O
 {
     match finder {
         Some(finder) => finder.rfind(hay),
-        None => last_place(hay, needle),
+        None => memmem::rfind(hay, needle),
     }
+}
+
+// The same of a needle that mostly stands where its last byte last does.
+#[inline]
+fn last_near_place(finder: &Option<FinderRev<'_>>, hay: &[u8], needle: &[u8]) -> Option<usize>
+    requires some { 0 < length needle.now }
+    requires prepared { IfSome finder.now (λ f. f ≡ needle.now) }
+    ensures { FindsLastNeedle hay.now needle.now result }
+{
+    let back = needle.len() - 1;
+    let at = memrchr(needle[back], hay)?;
+    if at >= back && is_prefix(&hay[at - back..], needle) {
+        return Some(at - back);
+    }
+    last_place_by(finder, hay, needle)
+}
+
+// The last place of `hay` where the bytes of `needle` stand.
+#[inline]
+fn last_place(finder: &Option<FinderRev<'_>>, hay: &[u8], needle: &[u8]) -> Option<usize>
+    requires { IfSome finder.now (λ f. f ≡ needle.now) }
+    ensures { FindsLastNeedle hay.now needle.now result }
+{
+    if needle.len() == 1 {
+        return memrchr(needle[0], hay);
+    }
+    if needle.len() >= 2 && needle.len() <= 4 {
+        return last_near_place(finder, hay, needle);
+    }
+    last_place_by(finder, hay, needle)
 }
 
 // The first occurrence of `needle` at or after `from`, by what was prepared of it.
@@ -159,7 +157,7 @@ pub(crate) fn find_text(
     if wanted.is_empty() {
         return Some((from, from));
     }
-    let start = from + place_by(finder, &text.as_bytes()[from..], wanted)?;
+    let start = from + first_place(finder, &text.as_bytes()[from..], wanted)?;
     Some((start, start + wanted.len()))
 }
 
@@ -192,7 +190,7 @@ pub(crate) fn rfind_text(
     if wanted.is_empty() {
         return Some((to, to));
     }
-    let start = last_place_by(finder, &text.as_bytes()[..to], wanted)?;
+    let start = last_place(finder, &text.as_bytes()[..to], wanted)?;
     Some((start, start + wanted.len()))
 }
 
