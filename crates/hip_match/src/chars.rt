@@ -31,22 +31,42 @@ fn wide_code(text: &str, at: usize) -> (u32, usize)
     )
 }
 
+// The character of two to four bytes that starts at `at`, and where it ends.
+#[inline]
+fn wide_char_from(text: &str, at: usize) -> (char, usize)
+    requires within { at < length text.now }
+    requires boundary { IsCharBoundary text.now at }
+    requires wide { 128 ≤ slice_index text.now at }
+    ensures { char_at text.now at ≡ Some result }
+{
+    let (code, end) = wide_code(text, at);
+    (unsafe { char::from_u32_unchecked(code) }, end)
+}
+
+// The character that starts at `at`, and where it ends, where the text has not ended.
+#[inline]
+fn char_within(text: &str, at: usize) -> (char, usize)
+    requires within { at < length text.now }
+    requires boundary { IsCharBoundary text.now at }
+    ensures { char_at text.now at ≡ Some result }
+{
+    let first = text.as_bytes()[at];
+    if first < 0x80 {
+        return (first as char, at + 1);
+    }
+    wide_char_from(text, at)
+}
+
 // The character that starts at `at`, and where it ends.
 #[inline]
 pub(crate) fn char_from(text: &str, at: usize) -> Option<(char, usize)>
     requires { IsCharBoundary text.now at }
     ensures { result ≡ char_at text.now at }
 {
-    let bytes = text.as_bytes();
-    if at == bytes.len() {
+    if at == text.len() {
         return None;
     }
-    let first = bytes[at];
-    if first < 0x80 {
-        return Some((first as char, at + 1));
-    }
-    let (code, end) = wide_code(text, at);
-    Some((char::from_u32(code)?, end))
+    Some(char_within(text, at))
 }
 
 // The character that ends at `to`, and where it starts.
@@ -88,7 +108,8 @@ pub(crate) fn first_of<S: CharSet>(set: &S, text: &str, from: usize) -> Option<(
     ensures { IsNextMatch (char_ends (S.belongs set.now) text.now) from result }
 {
     let mut at = from;
-    while let Some((c, end)) = char_from(text, at) {
+    while at < text.len() {
+        let (c, end) = char_within(text, at);
         if set.has(c) {
             return Some((at, end));
         }

@@ -23,7 +23,7 @@ impl CharSet for WhiteSpace {
     fn has(&self, c: char) -> bool {
         let code = c as u32;
         // Most letters past ASCII lie where no white space does.
-        if code > 0x3000 || (code > 0xA0 && code < 0x1680) {
+        if code > 0xA0 && (code < 0x1680 || code > 0x3000) {
             return false;
         }
         c.is_whitespace()
