@@ -3,7 +3,7 @@ use Rattle.std.proofs.Common.{◌≡◌, ℕ, ◌+◌, ◌<◌, ◌≤◌, Bool,
 use Rattle.std.specs.Prelude.{slice_index}
 use Rattle.std.specs.Option.{option_and_then}
 use Rattle.std.proofs.lemmas.Bool.Decides.{nat_tests}
-use lib.Utf8.{scalar, low_scalar}
+use lib.Utf8.{scalar}
 use Rattle.std.proofs.lemmas.Bool.{cases_lt, cases_Bool, cond-true, and_from, false≢true}
 use Rattle.std.proofs.lemmas.Option.{none-some, some_pair_parts}
 use Rattle.std.proofs.lemmas.Str.{len_utf8_bounds, byte_from_char, IsCharBoundary-before_ascii}
@@ -19,6 +19,10 @@ pub some_char : (t : List ℕ) (i : ℕ) → IsUtf8 t → IsCharBoundary t i →
 some_char t i utf8 cut lt none = let found = starts_char t i utf8 cut lt in none-some _ (sym none ∙ found.1.at)
 
 module _ (p : ℕ → Bool) (t : List ℕ) (utf8 : IsUtf8 t) where
+  -- a character that belongs
+  pub ends_here : (i c j : ℕ) → char_at t i ≡ Some (c, j) → p c ≡ true → char_ends p t i ≡ Some j
+  ends_here i c j is passes = ap (option_and_then (end_if p)) is ∙ cond-true _ _ _ (and_from (scalar c) (p c) (char_at-starts t i c j utf8 is).1.scalar passes)
+
   pub first_step : (from i c j : ℕ) → char_at t i ≡ Some (c, j) → p c ≡ false → NoneStarts (char_ends p t) from i → NoneStarts (char_ends p t) from j
   first_step from i c j is fails none k lo hi =
       let found = char_at-starts t i c j utf8 is in
@@ -122,8 +126,7 @@ pub ascii_space-some : (t : List ℕ) (k : ℕ) → IsUtf8 t → k < length t �
 ascii_space-some t k utf8 lt is =
     let low = ascii_low (slice_index t k) is in
     let cut = IsCharBoundary-before_ascii t k lt low in
-    ap (option_and_then (end_if is_ascii_whitespace)) (char_at-ascii t k utf8 cut lt low)
-    ∙ cond-true _ _ _ (and_from (scalar (slice_index t k)) (is_ascii_whitespace (slice_index t k)) (low_scalar (slice_index t k) (omega (arith, low))) is)
+    ends_here is_ascii_whitespace t utf8 k _ _ (char_at-ascii t k utf8 cut lt low) is
 
 pub none_more : (e : ℕ → Option ℕ) (i j : ℕ) → NoneStarts e i j → e j ≡ None → NoneStarts e i (j + 1)
 none_more e i j none here k lo hi = ⊎_elim (λ (lt : k < j). none k lo lt) (λ (ge : j ≤ k). let same : k ≡ j = omega arith in ap e same ∙ here) (cases_lt k j)

@@ -107,9 +107,18 @@ pub(crate) fn first_of<S: CharSet>(set: &S, text: &str, from: usize) -> Option<(
     requires boundary { IsCharBoundary text.now from }
     ensures { IsNextMatch (char_ends (S.belongs set.now) text.now) from result }
 {
+    let bytes = text.as_bytes();
     let mut at = from;
-    while at < text.len() {
-        let (c, end) = char_within(text, at);
+    while at < bytes.len() {
+        let first = bytes[at];
+        if first < 0x80 {
+            if set.has(first as char) {
+                return Some((at, at + 1));
+            }
+            at += 1;
+            continue;
+        }
+        let (c, end) = wide_char_from(text, at);
         if set.has(c) {
             return Some((at, end));
         }
