@@ -12,7 +12,7 @@ type Part = (usize, usize);
 
 /// A call that takes a match off a text, or matches.
 #[derive(Clone, Copy)]
-pub enum Cut {
+pub(crate) enum Cut {
     TrimStart,
     TrimEnd,
     StripPrefix,
@@ -20,7 +20,7 @@ pub enum Cut {
 }
 
 /// Asserts what a call leaves of a text.
-pub fn cuts<P: ReversePattern>(
+pub(crate) fn cuts<P: ReversePattern>(
     rt: &impl Abort,
     kind: Cut,
     text: &str,
@@ -39,7 +39,7 @@ pub fn cuts<P: ReversePattern>(
 }
 
 /// Asserts what lies before a match and behind it.
-pub fn once<P: ReversePattern>(
+pub(crate) fn once<P: ReversePattern>(
     rt: &impl Abort,
     from_end: bool,
     text: &str,
@@ -57,7 +57,7 @@ pub fn once<P: ReversePattern>(
 }
 
 /// Asserts what is left of a text without matches at its ends.
-pub fn trims<P: DoubleEndedPattern>(rt: &impl Abort, text: &str, pattern: P, want: &str)
+pub(crate) fn trims<P: DoubleEndedPattern>(rt: &impl Abort, text: &str, pattern: P, want: &str)
     requires { P.can_search pattern }
 {
     let (start, end) = trim_matches(text, pattern);

@@ -13,10 +13,10 @@ use std::process::Abort;
 use std::test::Fail;
 
 /// The text in which the patterns are looked for.
-pub const TEXT: &str = "ééaébé";
+pub(crate) const TEXT: &str = "ééaébé";
 
 /// What each walk gives.
-pub const WALKS: &[(Walk, &[&str])] = &[
+pub(crate) const WALKS: &[(Walk, &[&str])] = &[
     (Walk::Matches, &["é", "é", "é", "é"]),
     (Walk::MatchIndices, &["é", "é", "é", "é"]),
     (Walk::Split, &["", "", "a", "b", ""]),
@@ -32,10 +32,10 @@ pub const WALKS: &[(Walk, &[&str])] = &[
 
 /// What a script draws from a walk.
 #[derive(Clone, Copy)]
-pub struct Drawn(pub Walk, pub &'static str, pub &'static [&'static str]);
+pub(crate) struct Drawn(pub Walk, pub &'static str, pub &'static [&'static str]);
 
 /// What scripts draw of the pieces.
-pub const DRAWN: &[Drawn] = &[
+pub(crate) const DRAWN: &[Drawn] = &[
     Drawn(Walk::Split, "FBFBF", &["", "", "", "b", "a"]),
     Drawn(Walk::SplitInclusive, "FBFB", &["é", "bé", "é", "aé"]),
     Drawn(Walk::SplitTerminator, "BFBF", &["b", "", "a", ""]),
@@ -44,13 +44,13 @@ pub const DRAWN: &[Drawn] = &[
 ];
 
 /// The matches, drawn from the front and the back in turn.
-pub const LEFTMOST: &[(usize, usize)] = &[(0, 2), (8, 10), (2, 4), (5, 7)];
+pub(crate) const LEFTMOST: &[(usize, usize)] = &[(0, 2), (8, 10), (2, 4), (5, 7)];
 
 /// The rightmost matches, drawn so.
-pub const RIGHTMOST: &[(usize, usize)] = &[(8, 10), (0, 2), (5, 7), (2, 4)];
+pub(crate) const RIGHTMOST: &[(usize, usize)] = &[(8, 10), (0, 2), (5, 7), (2, 4)];
 
 /// What is left of the text by a call that takes matches off.
-pub const CUTS: &[(Cut, (usize, usize))] = &[
+pub(crate) const CUTS: &[(Cut, (usize, usize))] = &[
     (Cut::TrimStart, (4, 10)),
     (Cut::TrimEnd, (0, 8)),
     (Cut::StripPrefix, (2, 10)),
@@ -58,7 +58,7 @@ pub const CUTS: &[(Cut, (usize, usize))] = &[
 ];
 
 /// Asserts the ranges, drawn from the front and the back in turn.
-pub fn draws_by_turns<R: RangesBack + Drop>(
+pub(crate) fn draws_by_turns<R: RangesBack + Drop>(
     rt: &impl Abort,
     mut ranges: R,
     want: &[(usize, usize)],
@@ -72,7 +72,7 @@ pub fn draws_by_turns<R: RangesBack + Drop>(
 }
 
 /// Asserts what the pattern's own calls answer.
-pub fn searches<P: ReversePattern>(rt: &impl Abort, pattern: &P)
+pub(crate) fn searches<P: ReversePattern>(rt: &impl Abort, pattern: &P)
     requires { P.can_search pattern.now }
 {
     assert_eq!(rt;
@@ -97,7 +97,7 @@ pub fn searches<P: ReversePattern>(rt: &impl Abort, pattern: &P)
 }
 
 /// Asserts what the tests of a pattern of one character answer.
-pub fn tests_at_a_place<P: OneChar + DoubleEndedPattern>(rt: &impl Abort, pattern: &P)
+pub(crate) fn tests_at_a_place<P: OneChar + DoubleEndedPattern>(rt: &impl Abort, pattern: &P)
     requires { P.can_search pattern.now }
 {
     assert_eq!(rt;

@@ -11,7 +11,7 @@ use std::process::Abort;
 
 /// An iterator over what a pattern makes of a text.
 #[derive(Clone, Copy)]
-pub enum Walk {
+pub(crate) enum Walk {
     Matches,
     MatchIndices,
     RMatches,
@@ -27,7 +27,7 @@ pub enum Walk {
 
 /// A walk over a text by a pattern, and the parts of the text that it gives.
 #[derive(Clone, Copy)]
-pub struct Row<P>(
+pub(crate) struct Row<P>(
     pub Walk,
     pub &'static str,
     pub P,
@@ -36,7 +36,7 @@ pub struct Row<P>(
 
 /// A walk over a text by a character, drawn from the ends that a script names, and the parts of the text that it gives.
 #[derive(Clone, Copy)]
-pub struct Drawn(
+pub(crate) struct Drawn(
     pub Walk,
     pub &'static str,
     pub char,
@@ -45,7 +45,7 @@ pub struct Drawn(
 );
 
 /// Asserts that the ranges are these parts of the text, from the front, and then none.
-pub fn gives<R: Ranges + Drop>(rt: &impl Abort, text: &str, mut ranges: R, want: &[&str])
+pub(crate) fn gives<R: Ranges + Drop>(rt: &impl Abort, text: &str, mut ranges: R, want: &[&str])
     requires ready { R.ready ranges }
     requires text { R.text ranges ≡ text.now }
 {
@@ -59,7 +59,7 @@ pub fn gives<R: Ranges + Drop>(rt: &impl Abort, text: &str, mut ranges: R, want:
 }
 
 /// Asserts that these are the ranges, from the front, and then none.
-pub fn lists<R: Ranges + Drop>(rt: &impl Abort, mut ranges: R, want: &[(usize, usize)])
+pub(crate) fn lists<R: Ranges + Drop>(rt: &impl Abort, mut ranges: R, want: &[(usize, usize)])
     requires { R.ready ranges }
 {
     for range in want {
@@ -69,7 +69,7 @@ pub fn lists<R: Ranges + Drop>(rt: &impl Abort, mut ranges: R, want: &[(usize, u
 }
 
 /// Asserts that the script, of `F` and `B`, draws these parts of the text, and that then there are none at either end.
-pub fn draws<R: RangesBack + Drop>(
+pub(crate) fn draws<R: RangesBack + Drop>(
     rt: &impl Abort,
     text: &str,
     mut ranges: R,
@@ -97,7 +97,7 @@ pub fn draws<R: RangesBack + Drop>(
 }
 
 /// Asserts what a walk gives from its front.
-pub fn walks<P: ReversePattern>(
+pub(crate) fn walks<P: ReversePattern>(
     rt: &impl Abort,
     kind: Walk,
     text: &str,
@@ -122,7 +122,7 @@ pub fn walks<P: ReversePattern>(
 }
 
 /// Asserts what a script draws from a walk.
-pub fn walk_by_script<P: OneChar>(
+pub(crate) fn walk_by_script<P: OneChar>(
     rt: &impl Abort,
     kind: Walk,
     text: &str,
