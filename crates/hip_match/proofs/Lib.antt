@@ -13,3 +13,4 @@ pub mod DrawLemmas
 pub mod LawLemmas
 pub mod RightLawLemmas
 pub mod DecodeLemmas
+pub mod RunLemmas

@@ -3,6 +3,7 @@ use hip_match::draw::End;
 use hip_match::laws::{
     ended_pieces_are_the_text, ends_meet, join_undoes_split, join_undoes_split_by_char,
     just_one_list_is_leftmost, just_one_list_is_rightmost, one_char_reverses,
+    white_space_parts_the_longest_runs,
 };
 use hip_match::pattern::{DoubleEndedPattern, OneChar};
 
@@ -17,6 +18,7 @@ fn laws(_rt: HostRuntime) {
     join_undoes_split_by_char(text, ',');
     ended_pieces_are_the_text(&&['a', ','], text);
     ends_meet(&[(0, 2), (3, 4)], &[End::Back]);
+    white_space_parts_the_longest_runs(text);
 }
 
 #[test]
