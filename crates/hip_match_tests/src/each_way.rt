@@ -1,10 +1,8 @@
 //! Each pattern that occurs at each `é` alone, in each way that there is.
 use crate::cuts::{Cut, cuts, once, trims};
-use crate::walks::{Walk, lists, walks, walk_by_script};
+use crate::walks::{Walk, lists, walk_by_script, walks};
 use hip_match::draw::{End, draw_into};
-use hip_match::laws::{
-    just_one_list_is_leftmost, just_one_list_is_rightmost, one_char_reverses,
-};
+use hip_match::laws::{just_one_list_is_leftmost, just_one_list_is_rightmost, one_char_reverses};
 use hip_match::matches::{MatchIndices, Matches};
 use hip_match::pattern::{DoubleEndedPattern, OneChar, Pattern, ReversePattern};
 use hip_match::ranges::RangesBack;

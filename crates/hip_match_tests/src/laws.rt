@@ -30,7 +30,13 @@ fn at_a_place(rt: HostRuntime) {
     );
     assert_eq!(rt; ('é'.ends_at(text, 2), 'é'.ends_at(text, 3)), (true, false));
     let slice = ['a'].as_slice();
-    assert_eq!(rt; (slice.starts_at(text, 3), slice.ends_at(text, 4)), (true, true));
+    assert_eq!(rt;
+        (slice.starts_at(text, 3), slice.ends_at(text, 4)),
+        (true, true)
+    );
     let array = &['a', 'é'];
-    assert_eq!(rt; (array.ends_at(text, 2), array.ends_at(text, 3)), (true, false));
+    assert_eq!(rt;
+        (array.ends_at(text, 2), array.ends_at(text, 3)),
+        (true, false)
+    );
 }

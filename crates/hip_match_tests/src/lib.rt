@@ -23,6 +23,6 @@ mod laws;
 #[cfg(test)]
 mod scripts;
 #[cfg(test)]
-mod white_space;
-#[cfg(test)]
 mod walks;
+#[cfg(test)]
+mod white_space;
