@@ -1,9 +1,10 @@
 -- What one end draws.
-use Rattle.std.proofs.Common.{◌≡◌, ℕ, List, [], ◌∷◌, ◌++◌, Option, Some, None, refl, ap, ◌∙◌}
+use Rattle.std.proofs.Common.{◌≡◌, ℕ, List, [], ◌∷◌, ◌++◌, Option, Some, None, refl, ap, sym, append_assoc, ◌∙◌, reverse}
+use Rattle.std.proofs.lemmas.List.{append-nil, reverse-append}
 use Rattle.std.specs.Prelude.{MatchOption}
 use Rattle.hip_match.specs.declared.draw.End.{End}
-use Rattle.hip_match.specs.declared.draw.End.TheVariants.{Back}
-use Rattle.hip_match.specs.Draw.{last_of, but_last, draw, left_by, TakesEnd}
+use Rattle.hip_match.specs.declared.draw.End.TheVariants.{Front, Back}
+use Rattle.hip_match.specs.Draw.{last_of, but_last, draw, left_by, fronts, backs, TakesEnd}
 
 last_of-append : (y : ℕ × ℕ) (l : List (ℕ × ℕ)) (x : ℕ × ℕ) → last_of y (l ++ x ∷ []) ≡ x
 last_of-append y [] x = refl
@@ -23,3 +24,23 @@ back (y ∷ l) x es = (
 pub TakesEnd-back : (old new : List (ℕ × ℕ)) (r : Option (ℕ × ℕ)) → MatchOption r ((old ≡ []) × (new ≡ [])) (λ x. old ≡ new ++ x ∷ []) → TakesEnd Back old new r
 TakesEnd-back old new None h = h
 TakesEnd-back old new (Some x) h = λ es. (ap (λ l. draw l (Back ∷ es)) h ∙ (back new x es).0, ap (λ l. left_by l (Back ∷ es)) h ∙ (back new x es).1)
+
+but_last-last : (x : ℕ × ℕ) (l : List (ℕ × ℕ)) → but_last x l ++ last_of x l ∷ [] ≡ x ∷ l
+but_last-last x [] = refl
+but_last-last x (y ∷ l) = ap (λ r. x ∷ r) (but_last-last y l)
+
+pub ends_meet : (es : List End) (l : List (ℕ × ℕ)) → fronts es (draw l es) ++ (left_by l es ++ reverse (backs es (draw l es))) ≡ l
+ends_meet [] l = append-nil l
+ends_meet (e ∷ es) [] = refl
+ends_meet (Front ∷ es) (x ∷ l) = ap (λ r. x ∷ r) (ends_meet es l)
+ends_meet (Back ∷ es) (x ∷ l) =
+    let rest = but_last x l in
+    let f = fronts es (draw rest es) in
+    let m = left_by rest es in
+    let b = backs es (draw rest es) in
+    let z = last_of x l in
+    ap (λ r. f ++ (m ++ r)) (reverse-append (z ∷ []) b)
+    ∙ ap (λ r. f ++ r) (sym (append_assoc m (reverse b) (z ∷ [])))
+    ∙ sym (append_assoc f (m ++ reverse b) (z ∷ []))
+    ∙ ap (λ r. r ++ z ∷ []) (ends_meet es rest)
+    ∙ but_last-last x l

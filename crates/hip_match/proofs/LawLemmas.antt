@@ -187,3 +187,6 @@ module _ (p t : List ℕ) (utf8 : IsUtf8 t) where
 
   pub split_inclusive-together : together (parts t (split_inclusive (text_ends p t) (length t))) ≡ t
   split_inclusive-together = together-ended t (leftmost (text_ends p t) (length t)) 0 (length t) ordered ∙ whole t
+
+pub ended-together : (e : ℕ → Option ℕ) (t : List ℕ) → ((k m : ℕ) → e k ≡ Some m → k ≤ m) → together (parts t (split_inclusive e (length t))) ≡ t
+ended-together e t sorted = together-ended t (leftmost e (length t)) 0 (length t) (leftmost_between-InOrder e 0 (length t) sorted (omega arith)) ∙ whole t

@@ -12,3 +12,5 @@ pub mod TrimLemmas
 pub mod DrawLemmas
 pub mod LawLemmas
 pub mod RightLawLemmas
+pub mod DecodeLemmas
+pub mod RunLemmas

@@ -26,6 +26,19 @@ left_by [] (e ∷ es) = []
 left_by (x ∷ l) (Front ∷ es) = left_by l es
 left_by (x ∷ l) (Back ∷ es) = left_by (but_last x l) es
 
+-- of what a script drew, in turn: what it drew from the front, and what from the back
+abbrev pub fronts : List End → List (ℕ × ℕ) → List (ℕ × ℕ)
+fronts [] drawn = []
+fronts (e ∷ es) [] = []
+fronts (Front ∷ es) (x ∷ drawn) = x ∷ fronts es drawn
+fronts (Back ∷ es) (x ∷ drawn) = fronts es drawn
+
+abbrev pub backs : List End → List (ℕ × ℕ) → List (ℕ × ℕ)
+backs [] drawn = []
+backs (e ∷ es) [] = []
+backs (Front ∷ es) (x ∷ drawn) = backs es drawn
+backs (Back ∷ es) (x ∷ drawn) = x ∷ backs es drawn
+
 -- r is what the end draws from the old list, and the new list is what it leaves, whatever is drawn next
 abbrev pub TakesEnd : End → List (ℕ × ℕ) → List (ℕ × ℕ) → Option (ℕ × ℕ) → Type 0
 TakesEnd end old new r = MatchOption r ((old ≡ []) × (new ≡ []))

@@ -3,26 +3,30 @@ ghost use Rattle.std.specs.Prelude.{◌<◌, ◌≤◌, length};
 ghost use Rattle.hip_match.specs.Ready.{IsNextBoundary, IsPreviousBoundary};
 
 // The first boundary after `at`.
+#[inline]
 pub(crate) fn boundary_after(text: &str, at: usize) -> usize
     requires { at < length text.now }
     ensures { IsNextBoundary text.now at result }
 {
-    for i in at + 1..text.len() {
-        if text.is_char_boundary(i) {
+    let bytes = text.as_bytes();
+    for i in at + 1..bytes.len() {
+        if bytes[i] < 0x80 || bytes[i] >= 0xC0 {
             return i;
         }
     }
-    text.len()
+    bytes.len()
 }
 
 // The last boundary before `at`.
+#[inline]
 pub(crate) fn boundary_before(text: &str, at: usize) -> usize
     requires within { at ≤ length text.now }
     requires some { 0 < at }
     ensures { IsPreviousBoundary text.now at result }
 {
+    let bytes = text.as_bytes();
     for i in (1..at).rev() {
-        if text.is_char_boundary(i) {
+        if bytes[i] < 0x80 || bytes[i] >= 0xC0 {
             return i;
         }
     }

@@ -1,10 +1,61 @@
 //! The characters of a text, by position, and sets of characters.
-ghost use Rattle.std.specs.Prelude.{◌≡◌, ℕ, Bool, MatchOption};
+ghost use Rattle.std.specs.Prelude.{◌≡◌, ◌<◌, ◌≤◌, ℕ, Bool, Some, MatchOption, length, slice_index};
 ghost use Rattle.std.specs.Str.{IsCharBoundary};
 ghost use Rattle.hip_match.specs.Occurrence.{IsNextMatch, IsLastMatch, start_of};
 ghost use Rattle.hip_match.specs.Characters.{char_at, char_ends, IsCharBefore};
 
 use crate::boundaries::boundary_before;
+
+// The number of the character of two to four bytes that starts at `at`, and where it ends.
+#[inline]
+fn wide_code(text: &str, at: usize) -> (u32, usize)
+    requires within { at < length text.now }
+    requires boundary { IsCharBoundary text.now at }
+    requires wide { 128 ≤ slice_index text.now at }
+    ensures { char_at text.now at ≡ Some result }
+{
+    let bytes = text.as_bytes();
+    let first = bytes[at] as u32;
+    let second = bytes[at + 1] as u32 - 0x80;
+    if first < 0xE0 {
+        return ((first - 0xC0) * 64 + second, at + 2);
+    }
+    let third = bytes[at + 2] as u32 - 0x80;
+    if first < 0xF0 {
+        return (((first - 0xE0) * 64 + second) * 64 + third, at + 3);
+    }
+    let fourth = bytes[at + 3] as u32 - 0x80;
+    (
+        (((first - 0xF0) * 64 + second) * 64 + third) * 64 + fourth,
+        at + 4,
+    )
+}
+
+// The character of two to four bytes that starts at `at`, and where it ends.
+#[inline]
+fn wide_char_from(text: &str, at: usize) -> (char, usize)
+    requires within { at < length text.now }
+    requires boundary { IsCharBoundary text.now at }
+    requires wide { 128 ≤ slice_index text.now at }
+    ensures { char_at text.now at ≡ Some result }
+{
+    let (code, end) = wide_code(text, at);
+    (unsafe { char::from_u32_unchecked(code) }, end)
+}
+
+// The character that starts at `at`, and where it ends, where the text has not ended.
+#[inline]
+fn char_within(text: &str, at: usize) -> (char, usize)
+    requires within { at < length text.now }
+    requires boundary { IsCharBoundary text.now at }
+    ensures { char_at text.now at ≡ Some result }
+{
+    let first = text.as_bytes()[at];
+    if first < 0x80 {
+        return (first as char, at + 1);
+    }
+    wide_char_from(text, at)
+}
 
 // The character that starts at `at`, and where it ends.
 #[inline]
@@ -12,16 +63,10 @@ pub(crate) fn char_from(text: &str, at: usize) -> Option<(char, usize)>
     requires { IsCharBoundary text.now at }
     ensures { result ≡ char_at text.now at }
 {
-    let bytes = text.as_bytes();
-    if at == bytes.len() {
+    if at == text.len() {
         return None;
     }
-    let first = bytes[at];
-    if first < 0x80 {
-        return Some((first as char, at + 1));
-    }
-    let c = text[at..].chars().next()?;
-    Some((c, at + c.len_utf8()))
+    Some(char_within(text, at))
 }
 
 // The character that ends at `to`, and where it starts.
@@ -62,8 +107,18 @@ pub(crate) fn first_of<S: CharSet>(set: &S, text: &str, from: usize) -> Option<(
     requires boundary { IsCharBoundary text.now from }
     ensures { IsNextMatch (char_ends (S.belongs set.now) text.now) from result }
 {
+    let bytes = text.as_bytes();
     let mut at = from;
-    while let Some((c, end)) = char_from(text, at) {
+    while at < bytes.len() {
+        let first = bytes[at];
+        if first < 0x80 {
+            if set.has(first as char) {
+                return Some((at, at + 1));
+            }
+            at += 1;
+            continue;
+        }
+        let (c, end) = wide_char_from(text, at);
         if set.has(c) {
             return Some((at, end));
         }

@@ -1,6 +1,7 @@
 //! A list that only clauses read.
 ghost use Rattle.std.specs.Prelude.{◌≡◌, Bool, List};
 
+use std::alloc::AllocError;
 use std::marker::Model;
 
 /// A list of answers that takes no bytes: no code can read it.
@@ -21,4 +22,23 @@ pub(crate) fn choose() -> Chosen
     ensures { result.answers ≡ answers }
 {
     Chosen {}
+}
+
+// A list that the caller's proof chooses by what `seen` holds.
+pub(crate) fn choose_from(seen: &Chosen) -> Chosen
+    ghost answers: { List Bool }
+    ensures { result.answers ≡ answers }
+{
+    let _ = seen;
+    choose()
+}
+
+impl Clone for Chosen {
+    ghost is_clone = { λ a b. b.answers ≡ a.answers };
+
+    ghost is_infallible = { λ _. Unit {0} };
+
+    fn clone(&self) -> Result<Self, AllocError> {
+        Ok(choose_from(self))
+    }
 }

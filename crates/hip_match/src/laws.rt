@@ -1,12 +1,16 @@
 //! Laws of the definitions that the contracts of this crate cite. Each function does nothing; its contract is the law.
-ghost use Rattle.std.specs.Prelude.{◌≡◌, ◌+◌, ℕ, List, length, reverse, ◌==◌, encode_utf8};
+ghost use Rattle.std.specs.Prelude.{◌≡◌, ◌+◌, ◌++◌, ℕ, List, length, reverse, ◌==◌, encode_utf8};
+ghost use Rattle.std.specs.Char.{is_whitespace, is_ascii_whitespace};
 ghost use Rattle.hip_match.specs.Characters.{char_ends};
+ghost use Rattle.hip_match.specs.Draw.{draw, fronts, backs, left_by};
 ghost use Rattle.hip_match.specs.Joined.{joined, parts, together};
 ghost use Rattle.hip_match.specs.Leftmost.{IsLeftmost, leftmost};
 ghost use Rattle.hip_match.specs.Pieces.{split, split_inclusive};
 ghost use Rattle.hip_match.specs.Rightmost.{IsRightmost, rightmost};
+ghost use Rattle.hip_match.specs.Runs.{AreRuns, split_whitespace, split_ascii_whitespace};
 ghost use Rattle.hip_match.specs.Texts.{text_ends};
 
+use crate::draw::End;
 use crate::pattern::{OneChar, Pattern, ReversePattern};
 
 /// Just one list is leftmost: each is an occurrence, in order and none overlapping, and no other occurrence begins outside of them.
@@ -36,4 +40,20 @@ pub fn join_undoes_split(text: &str, separator: &str)
 pub fn join_undoes_split_by_char(text: &str, separator: char)
     ensures split { joined (encode_utf8 separator) (parts text.now (split (char_ends (λ c. c == separator) text.now) (length text.now))) ≡ text.now }
     ensures inclusive { together (parts text.now (split_inclusive (char_ends (λ c. c == separator) text.now) (length text.now))) ≡ text.now }
+{}
+
+/// What a script draws of a list from the front, what it leaves, and what it draws from the back in reverse are the list.
+pub fn ends_meet(ranges: &[(usize, usize)], script: &[End])
+    ensures { fronts script.now (draw ranges.now script.now) ++ (left_by ranges.now script.now ++ reverse (backs script.now (draw ranges.now script.now))) ≡ ranges.now }
+{}
+
+/// The pieces that end with a match, one after another, are the text, whatever the pattern.
+pub fn ended_pieces_are_the_text<P: Pattern>(pattern: &P, text: &str)
+    ensures { together (parts text.now (split_inclusive (P.ends pattern.now text.now) (length text.now))) ≡ text.now }
+{}
+
+/// The pieces between white space are its longest runs: each holds something, no longer range without white space holds it, and there is no other such run.
+pub fn white_space_parts_the_longest_runs(text: &str)
+    ensures unicode { AreRuns is_whitespace text.now (split_whitespace text.now) }
+    ensures ascii { AreRuns is_ascii_whitespace text.now (split_ascii_whitespace text.now) }
 {}

@@ -15,8 +15,6 @@ pub mod rmatches;
 pub mod rsplit;
 mod sets;
 pub mod split;
-#[cfg(test)]
-mod tests;
-mod texts;
+pub mod texts;
 pub mod trim;
 pub mod white_space;

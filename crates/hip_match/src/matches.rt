@@ -11,9 +11,10 @@ use crate::ranges::{Ranges, RangesBack};
 
 /// The occurrences of a pattern in a text, leftmost first, no two overlapping.
 #[derive(Clone, Drop)]
-pub struct Matches<'h, P> {
+pub struct Matches<'h, P: Pattern> {
     text: &'h str,
     pattern: P,
+    searcher: P::Searcher,
     from: usize,
     to: usize,
     done: bool,
@@ -29,9 +30,11 @@ impl<'h, P: Pattern> Matches<'h, P> {
         ensures rest { ⟦<Matches<'h, P> as Ranges>⟧.rest result ≡ leftmost (P.ends pattern text.now) (length text.now) }
         ensures between { IsBetween text.now 0 (⟦<Matches<'h, P> as Ranges>⟧.rest result) (length text.now) }
     {
+        let searcher = pattern.searcher();
         Matches {
             text,
             pattern,
+            searcher,
             from: 0,
             to: text.len(),
             done: false,
@@ -40,7 +43,7 @@ impl<'h, P: Pattern> Matches<'h, P> {
 }
 
 impl<'h, P: Pattern> Ranges for Matches<'h, P> {
-    ghost ready = { λ s. IsFrontWindow (P.can_search s.pattern) s.text.now (P.ends s.pattern s.text.now) s.from s.to };
+    ghost ready = { λ s. IsFrontWindow (P.can_search s.pattern × P.is_searcher s.pattern s.searcher) s.text.now (P.ends s.pattern s.text.now) s.from s.to };
 
     ghost text = { λ s. s.text.now };
 
@@ -51,7 +54,10 @@ impl<'h, P: Pattern> Ranges for Matches<'h, P> {
         if self.done {
             return None;
         }
-        match self.pattern.next_match(self.text, self.from) {
+        match self
+            .pattern
+            .next_match_by(&self.searcher, self.text, self.from)
+        {
             Some((start, end)) if end <= self.to => {
                 if start < end {
                     self.from = end;
@@ -124,7 +130,7 @@ impl<'h, P: OneChar> RangesBack for Matches<'h, P> {
 
 /// The ranges of the occurrences of a pattern in a text, leftmost first: those of [`Matches`].
 #[derive(Clone, Drop)]
-pub struct MatchIndices<'h, P> {
+pub struct MatchIndices<'h, P: Pattern> {
     matches: Matches<'h, P>,
 }
 

@@ -8,15 +8,37 @@ ghost use Rattle.hip_match.specs.Occurrence.{IsNextMatch, IsLastMatch, IsCut, Is
 ///
 /// A pattern occurs at most once from a given start. The positions are byte positions at character boundaries.
 pub trait Pattern: Drop {
+    /// What is prepared once for all searches of a walk.
+    type Searcher: Clone + Drop;
+
     /// What a search asks of the pattern: nothing but for a [`CharPred`](crate::predicate::CharPred), whose closure has to be callable.
     ghost can_search: { Self → Type 0 } = { λ _. Unit {0} };
 
     /// The end of the occurrence that starts at a place of a text, if one does.
     ghost ends: { Self → List ℕ → ℕ → Option ℕ };
 
+    /// What was prepared of a pattern.
+    ghost is_searcher: { Self → Self.Searcher → Type 0 } = { λ _ _. Unit {0} };
+
+    /// Prepares a walk's searches.
+    fn searcher(&self) -> Self::Searcher
+        ensures { is_searcher self.now result };
+
     /// The occurrence that starts first at or after `from`, as its start and end.
     fn next_match(&self, text: &str, from: usize) -> Option<(usize, usize)>
         requires can { can_search self.now }
+        requires boundary { IsCharBoundary text.now from }
+        ensures { IsNextMatch (ends self.now text.now) from result };
+
+    /// The same, by what was prepared.
+    fn next_match_by(
+        &self,
+        searcher: &Self::Searcher,
+        text: &str,
+        from: usize,
+    ) -> Option<(usize, usize)>
+        requires can { can_search self.now }
+        requires prepared { is_searcher self.now searcher.now }
         requires boundary { IsCharBoundary text.now from }
         ensures { IsNextMatch (ends self.now text.now) from result };
 
@@ -32,9 +54,25 @@ pub trait Pattern: Drop {
 
 /// A pattern that can be looked for from a text's end too. It occurs at most once to a given end.
 pub trait ReversePattern: Pattern {
+    /// Prepares the searches of a walk from the end.
+    fn reverse_searcher(&self) -> Self::Searcher
+        ensures { Self.is_searcher self.now result };
+
     /// The occurrence that ends last at or before `to`, as its start and end.
     fn last_match(&self, text: &str, to: usize) -> Option<(usize, usize)>
         requires can { Self.can_search self.now }
+        requires boundary { IsCharBoundary text.now to }
+        ensures { IsLastMatch (Self.ends self.now text.now) to result };
+
+    /// The same, by what was prepared.
+    fn last_match_by(
+        &self,
+        searcher: &Self::Searcher,
+        text: &str,
+        to: usize,
+    ) -> Option<(usize, usize)>
+        requires can { Self.can_search self.now }
+        requires prepared { Self.is_searcher self.now searcher.now }
         requires boundary { IsCharBoundary text.now to }
         ensures { IsLastMatch (Self.ends self.now text.now) to result };
 

@@ -10,7 +10,7 @@ use crate::chosen::{Chosen, choose};
 use crate::pattern::{DoubleEndedPattern, OneChar, Pattern, ReversePattern};
 
 /// The characters that a closure answers yes for.
-#[derive(Drop)]
+#[derive(Clone, Drop)]
 pub struct CharPred<F> {
     test: F,
     chosen: Chosen,
@@ -61,12 +61,22 @@ impl<F: Fn(char) -> bool> CharSet for CharPred<F> {
 }
 
 impl<F: Fn(char) -> bool> Pattern for CharPred<F> {
+    type Searcher = ();
+
     ghost can_search = { λ p. (c : ℕ) → IsScalar c → F.pre p.test c × ((answer : Bool) → F.post p.test c answer → answer ≡ answer_at p.chosen.answers c) };
 
     ghost ends = { λ p. char_ends (λ c. answer_at p.chosen.answers c) };
 
     #[inline]
+    fn searcher(&self) {}
+
+    #[inline]
     fn next_match(&self, text: &str, from: usize) -> Option<(usize, usize)> {
+        first_of(self, text, from)
+    }
+
+    #[inline]
+    fn next_match_by(&self, _searcher: &(), text: &str, from: usize) -> Option<(usize, usize)> {
         first_of(self, text, from)
     }
 
@@ -80,7 +90,15 @@ impl<F: Fn(char) -> bool> Pattern for CharPred<F> {
 
 impl<F: Fn(char) -> bool> ReversePattern for CharPred<F> {
     #[inline]
+    fn reverse_searcher(&self) {}
+
+    #[inline]
     fn last_match(&self, text: &str, to: usize) -> Option<(usize, usize)> {
+        last_of(self, text, to)
+    }
+
+    #[inline]
+    fn last_match_by(&self, _searcher: &(), text: &str, to: usize) -> Option<(usize, usize)> {
         last_of(self, text, to)
     }
 

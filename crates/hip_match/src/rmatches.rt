@@ -9,9 +9,10 @@ use crate::ranges::{Ranges, RangesBack};
 
 /// The occurrences of a pattern in a text, rightmost first, no two overlapping.
 #[derive(Clone, Drop)]
-pub struct RMatches<'h, P> {
+pub struct RMatches<'h, P: ReversePattern> {
     text: &'h str,
     pattern: P,
+    searcher: P::Searcher,
     from: usize,
     to: usize,
     done: bool,
@@ -27,9 +28,11 @@ impl<'h, P: ReversePattern> RMatches<'h, P> {
         ensures rest { ⟦<RMatches<'h, P> as Ranges>⟧.rest result ≡ rightmost (P.ends pattern text.now) (length text.now) }
         ensures between { IsBetweenBack text.now 0 (⟦<RMatches<'h, P> as Ranges>⟧.rest result) (length text.now) }
     {
+        let searcher = pattern.reverse_searcher();
         RMatches {
             text,
             pattern,
+            searcher,
             from: 0,
             to: text.len(),
             done: false,
@@ -38,7 +41,7 @@ impl<'h, P: ReversePattern> RMatches<'h, P> {
 }
 
 impl<'h, P: ReversePattern> Ranges for RMatches<'h, P> {
-    ghost ready = { λ s. IsBackWindow (P.can_search s.pattern) s.text.now (P.ends s.pattern s.text.now) s.from s.to };
+    ghost ready = { λ s. IsBackWindow (P.can_search s.pattern × P.is_searcher s.pattern s.searcher) s.text.now (P.ends s.pattern s.text.now) s.from s.to };
 
     ghost text = { λ s. s.text.now };
 
@@ -49,7 +52,10 @@ impl<'h, P: ReversePattern> Ranges for RMatches<'h, P> {
         if self.done {
             return None;
         }
-        match self.pattern.last_match(self.text, self.to) {
+        match self
+            .pattern
+            .last_match_by(&self.searcher, self.text, self.to)
+        {
             Some((start, end)) if self.from <= start => {
                 if start < end {
                     self.to = start;
@@ -89,7 +95,7 @@ impl<'h, P: OneChar> RangesBack for RMatches<'h, P> {
 
 /// The ranges of the rightmost occurrences of a pattern in a text, last first: those of [`RMatches`].
 #[derive(Clone, Drop)]
-pub struct RMatchIndices<'h, P> {
+pub struct RMatchIndices<'h, P: ReversePattern> {
     matches: RMatches<'h, P>,
 }
 

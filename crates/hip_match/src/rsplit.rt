@@ -9,7 +9,7 @@ use crate::rmatches::RMatches;
 
 /// The parts of a text between the rightmost occurrences of a pattern, last first.
 #[derive(Clone, Drop)]
-pub struct RSplit<'h, P> {
+pub struct RSplit<'h, P: ReversePattern> {
     matches: RMatches<'h, P>,
     start: usize,
     end: usize,
@@ -83,7 +83,7 @@ impl<'h, P: OneChar> RangesBack for RSplit<'h, P> {
 
 /// The parts of a text between the rightmost occurrences of a pattern, last first, without the first of them where that is empty.
 #[derive(Clone, Drop)]
-pub struct RSplitTerminator<'h, P> {
+pub struct RSplitTerminator<'h, P: ReversePattern> {
     split: RSplit<'h, P>,
     // An empty part at the end of the text is still to be left out.
     beginning: bool,
@@ -139,7 +139,7 @@ impl<'h, P: OneChar> RangesBack for RSplitTerminator<'h, P> {
 
 /// At most so many parts of a text between the rightmost occurrences of a pattern, last first, of which the last of so many begins at the text's start.
 #[derive(Clone, Drop)]
-pub struct RSplitN<'h, P> {
+pub struct RSplitN<'h, P: ReversePattern> {
     matches: RMatches<'h, P>,
     start: usize,
     end: usize,

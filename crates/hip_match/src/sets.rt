@@ -1,5 +1,5 @@
 //! The patterns that are characters: one of them, or any of some.
-ghost use Rattle.std.specs.Prelude.{◌==◌};
+ghost use Rattle.std.specs.Prelude.{◌≡◌, ◌==◌};
 ghost use Rattle.std.specs.List.{list_any};
 ghost use Rattle.hip_match.specs.Characters.{char_ends};
 ghost use Rattle.hip_match.specs.CharLaws.{char_ends-spans, char_ends-one_start, char_ends-one_char};
@@ -18,10 +18,20 @@ impl CharSet for char {
 }
 
 impl Pattern for char {
+    type Searcher = ();
+
     ghost ends = { λ c. char_ends (λ d. d == c) };
 
     #[inline]
+    fn searcher(&self) {}
+
+    #[inline]
     fn next_match(&self, text: &str, from: usize) -> Option<(usize, usize)> {
+        find_char(text, *self, from)
+    }
+
+    #[inline]
+    fn next_match_by(&self, _searcher: &(), text: &str, from: usize) -> Option<(usize, usize)> {
         find_char(text, *self, from)
     }
 
@@ -35,7 +45,15 @@ impl Pattern for char {
 
 impl ReversePattern for char {
     #[inline]
+    fn reverse_searcher(&self) {}
+
+    #[inline]
     fn last_match(&self, text: &str, to: usize) -> Option<(usize, usize)> {
+        rfind_char(text, *self, to)
+    }
+
+    #[inline]
+    fn last_match_by(&self, _searcher: &(), text: &str, to: usize) -> Option<(usize, usize)> {
         rfind_char(text, *self, to)
     }
 
@@ -63,20 +81,45 @@ impl OneChar for char {
     ghost one_char = { λ c. char_ends-one_char (λ d. d == c) };
 }
 
+// Whether a character is one of some, which are mostly few.
+#[inline]
+fn is_one_of(set: &[char], c: char) -> bool
+    ensures { result ≡ list_any (λ d. d == c) set.now }
+{
+    let mut rest = set;
+    while let [first, others @ ..] = rest {
+        if *first == c {
+            return true;
+        }
+        rest = others;
+    }
+    false
+}
+
 impl<'a> CharSet for &'a [char] {
     ghost belongs = { λ s d. list_any (λ c. c == d) s.now };
 
     #[inline]
     fn has(&self, c: char) -> bool {
-        self.contains(&c)
+        is_one_of(*self, c)
     }
 }
 
 impl<'a> Pattern for &'a [char] {
+    type Searcher = ();
+
     ghost ends = { λ s. char_ends (λ d. list_any (λ c. c == d) s.now) };
 
     #[inline]
+    fn searcher(&self) {}
+
+    #[inline]
     fn next_match(&self, text: &str, from: usize) -> Option<(usize, usize)> {
+        first_of(self, text, from)
+    }
+
+    #[inline]
+    fn next_match_by(&self, _searcher: &(), text: &str, from: usize) -> Option<(usize, usize)> {
         first_of(self, text, from)
     }
 
@@ -90,7 +133,15 @@ impl<'a> Pattern for &'a [char] {
 
 impl<'a> ReversePattern for &'a [char] {
     #[inline]
+    fn reverse_searcher(&self) {}
+
+    #[inline]
     fn last_match(&self, text: &str, to: usize) -> Option<(usize, usize)> {
+        last_of(self, text, to)
+    }
+
+    #[inline]
+    fn last_match_by(&self, _searcher: &(), text: &str, to: usize) -> Option<(usize, usize)> {
         last_of(self, text, to)
     }
 
@@ -123,15 +174,25 @@ impl<'a, const N: usize> CharSet for &'a [char; N] {
 
     #[inline]
     fn has(&self, c: char) -> bool {
-        self.contains(&c)
+        is_one_of(self.as_slice(), c)
     }
 }
 
 impl<'a, const N: usize> Pattern for &'a [char; N] {
+    type Searcher = ();
+
     ghost ends = { λ s. char_ends (λ d. list_any (λ c. c == d) s.now) };
 
     #[inline]
+    fn searcher(&self) {}
+
+    #[inline]
     fn next_match(&self, text: &str, from: usize) -> Option<(usize, usize)> {
+        first_of(self, text, from)
+    }
+
+    #[inline]
+    fn next_match_by(&self, _searcher: &(), text: &str, from: usize) -> Option<(usize, usize)> {
         first_of(self, text, from)
     }
 
@@ -145,7 +206,15 @@ impl<'a, const N: usize> Pattern for &'a [char; N] {
 
 impl<'a, const N: usize> ReversePattern for &'a [char; N] {
     #[inline]
+    fn reverse_searcher(&self) {}
+
+    #[inline]
     fn last_match(&self, text: &str, to: usize) -> Option<(usize, usize)> {
+        last_of(self, text, to)
+    }
+
+    #[inline]
+    fn last_match_by(&self, _searcher: &(), text: &str, to: usize) -> Option<(usize, usize)> {
         last_of(self, text, to)
     }
 
@@ -155,13 +224,6 @@ impl<'a, const N: usize> ReversePattern for &'a [char; N] {
     }
 
     ghost one_start = { λ s. char_ends-one_start (λ d. list_any (λ c. c == d) s.now) };
-}
-
-impl<'a, const N: usize> DoubleEndedPattern for &'a [char; N] {
-    #[inline]
-    fn starts_at(&self, text: &str, at: usize) -> bool {
-        self.match_at(text, at).is_some()
-    }
 }
 
 impl<'a, const N: usize> OneChar for &'a [char; N] {

@@ -9,7 +9,7 @@ use crate::ranges::{Ranges, RangesBack};
 
 /// The parts of a text between the occurrences of a pattern, one more than there are occurrences.
 #[derive(Clone, Drop)]
-pub struct Split<'h, P> {
+pub struct Split<'h, P: Pattern> {
     matches: Matches<'h, P>,
     start: usize,
     end: usize,
@@ -83,7 +83,7 @@ impl<'h, P: OneChar> RangesBack for Split<'h, P> {
 
 /// The parts of a text, each ended by an occurrence of a pattern, which belongs to it. A last empty part is left out.
 #[derive(Clone, Drop)]
-pub struct SplitInclusive<'h, P> {
+pub struct SplitInclusive<'h, P: Pattern> {
     matches: Matches<'h, P>,
     start: usize,
     end: usize,
@@ -165,7 +165,7 @@ impl<'h, P: OneChar> RangesBack for SplitInclusive<'h, P> {
 
 /// The parts of a text between the occurrences of a pattern, without the last where that is empty.
 #[derive(Clone, Drop)]
-pub struct SplitTerminator<'h, P> {
+pub struct SplitTerminator<'h, P: Pattern> {
     split: Split<'h, P>,
     // A last empty part is still to be left out.
     ending: bool,
@@ -221,7 +221,7 @@ impl<'h, P: OneChar> RangesBack for SplitTerminator<'h, P> {
 
 /// At most so many parts of a text between the occurrences of a pattern, of which the last of so many runs to the end.
 #[derive(Clone, Drop)]
-pub struct SplitN<'h, P> {
+pub struct SplitN<'h, P: Pattern> {
     matches: Matches<'h, P>,
     start: usize,
     end: usize,

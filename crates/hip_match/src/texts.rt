@@ -1,5 +1,5 @@
 //! Texts found in texts, by the vector searches of `memchr`.
-ghost use Rattle.std.specs.Prelude.{◌≡◌, ◌==◌, ◌<◌, length, string_bytes};
+ghost use Rattle.std.specs.Prelude.{◌≡◌, ◌==◌, ◌<◌, length, string_bytes, IfSome};
 ghost use Rattle.std.specs.Str.{IsCharBoundary};
 ghost use Rattle.memchr.specs.Find.{FindsNeedle, FindsLastNeedle};
 ghost use Rattle.hip_match.specs.Occurrence.{IsNextMatch, IsLastMatch, start_of};
@@ -8,14 +8,59 @@ ghost use Rattle.hip_match.specs.Characters.{char_ends};
 ghost use Rattle.hip_match.specs.TextLaws.{text_ends-spans, text_ends-one_start};
 
 use crate::pattern::{Pattern, ReversePattern};
-use memchr::arch::all::packedpair::{Finder, Pair};
-use memchr::arch::all::{is_prefix, is_suffix};
+use memchr::arch::all::packedpair::Pair;
+use memchr::arch::all::{is_prefix, is_suffix, packedpair};
+use memchr::memmem::{Finder, FinderRev};
 use memchr::{memchr, memmem, memrchr};
 
-// The first place of `hay` where the bytes of `needle` stand. Mostly that is where its last byte first does.
+/// What a walk by a text prepares of it: nothing of a short one.
+#[derive(Clone, Drop)]
+pub struct TextSearcher<'p> {
+    finder: Option<Finder<'p>>,
+    reverse_finder: Option<FinderRev<'p>>,
+}
+
+// What a walk by `needle` prepares. One byte and two have ways of their own.
 #[inline]
-fn near_place(hay: &[u8], needle: &[u8]) -> Option<usize>
-    requires { 0 < length needle.now }
+fn finder_of<'p>(needle: &'p str) -> Option<Finder<'p>>
+    ensures { IfSome result (λ f. f ≡ needle.now) }
+{
+    let wanted = needle.as_bytes();
+    if wanted.len() <= 2 {
+        return None;
+    }
+    Some(Finder::new(wanted))
+}
+
+// What a walk by `needle` from the end prepares.
+#[inline]
+fn reverse_finder_of<'p>(needle: &'p str) -> Option<FinderRev<'p>>
+    ensures { IfSome result (λ f. f ≡ needle.now) }
+{
+    let wanted = needle.as_bytes();
+    if wanted.len() <= 1 {
+        return None;
+    }
+    Some(FinderRev::new(wanted))
+}
+
+// The first place of `hay` where the bytes of `needle` stand, by what was prepared of it.
+#[inline]
+fn place_by(finder: &Option<Finder<'_>>, hay: &[u8], needle: &[u8]) -> Option<usize>
+    requires { IfSome finder.now (λ f. f ≡ needle.now) }
+    ensures { FindsNeedle hay.now needle.now 0 result }
+{
+    match finder {
+        Some(finder) => finder.find(hay),
+        None => memmem::find(hay, needle),
+    }
+}
+
+// The same of a needle that mostly stands where its last byte first does.
+#[inline]
+fn near_place(finder: &Option<Finder<'_>>, hay: &[u8], needle: &[u8]) -> Option<usize>
+    requires some { 0 < length needle.now }
+    requires prepared { IfSome finder.now (λ f. f ≡ needle.now) }
     ensures { FindsNeedle hay.now needle.now 0 result }
 {
     let last = needle.len() - 1;
@@ -23,7 +68,7 @@ fn near_place(hay: &[u8], needle: &[u8]) -> Option<usize>
     if at >= last && is_prefix(&hay[at - last..], needle) {
         return Some(at - last);
     }
-    memmem::find(hay, needle)
+    place_by(finder, hay, needle)
 }
 
 // The first place of `hay` where the two bytes of `needle` stand.
@@ -33,12 +78,13 @@ fn pair_place(hay: &[u8], needle: &[u8]) -> Option<usize>
     ensures { FindsNeedle hay.now needle.now 0 result }
 {
     let pair = Pair::with_indices(needle, 0, 1)?;
-    Finder::with_pair(needle, pair).find_prefilter(hay)
+    packedpair::Finder::with_pair(needle, pair).find_prefilter(hay)
 }
 
 // The first place of `hay` where the bytes of `needle` stand. One byte is looked for by itself, two at once, and a character by its last byte.
 #[inline]
-fn first_place(hay: &[u8], needle: &[u8]) -> Option<usize>
+fn first_place(finder: &Option<Finder<'_>>, hay: &[u8], needle: &[u8]) -> Option<usize>
+    requires { IfSome finder.now (λ f. f ≡ needle.now) }
     ensures { FindsNeedle hay.now needle.now 0 result }
 {
     if needle.len() == 1 {
@@ -48,15 +94,28 @@ fn first_place(hay: &[u8], needle: &[u8]) -> Option<usize>
         return pair_place(hay, needle);
     }
     if needle.len() > 2 && needle.len() <= 4 && needle[0] >= 0x80 {
-        return near_place(hay, needle);
+        return near_place(finder, hay, needle);
     }
-    memmem::find(hay, needle)
+    place_by(finder, hay, needle)
 }
 
-// The last place of `hay` where the bytes of `needle` stand. Mostly that is where its last byte last does.
+// The last place of `hay` where the bytes of `needle` stand, by what was prepared of it.
 #[inline]
-fn last_near_place(hay: &[u8], needle: &[u8]) -> Option<usize>
-    requires { 0 < length needle.now }
+fn last_place_by(finder: &Option<FinderRev<'_>>, hay: &[u8], needle: &[u8]) -> Option<usize>
+    requires { IfSome finder.now (λ f. f ≡ needle.now) }
+    ensures { FindsLastNeedle hay.now needle.now result }
+{
+    match finder {
+        Some(finder) => finder.rfind(hay),
+        None => memmem::rfind(hay, needle),
+    }
+}
+
+// The same of a needle that mostly stands where its last byte last does.
+#[inline]
+fn last_near_place(finder: &Option<FinderRev<'_>>, hay: &[u8], needle: &[u8]) -> Option<usize>
+    requires some { 0 < length needle.now }
+    requires prepared { IfSome finder.now (λ f. f ≡ needle.now) }
     ensures { FindsLastNeedle hay.now needle.now result }
 {
     let back = needle.len() - 1;
@@ -64,34 +123,41 @@ fn last_near_place(hay: &[u8], needle: &[u8]) -> Option<usize>
     if at >= back && is_prefix(&hay[at - back..], needle) {
         return Some(at - back);
     }
-    memmem::rfind(hay, needle)
+    last_place_by(finder, hay, needle)
 }
 
 // The last place of `hay` where the bytes of `needle` stand.
 #[inline]
-fn last_place(hay: &[u8], needle: &[u8]) -> Option<usize>
+fn last_place(finder: &Option<FinderRev<'_>>, hay: &[u8], needle: &[u8]) -> Option<usize>
+    requires { IfSome finder.now (λ f. f ≡ needle.now) }
     ensures { FindsLastNeedle hay.now needle.now result }
 {
     if needle.len() == 1 {
         return memrchr(needle[0], hay);
     }
-    if needle.len() == 2 || (needle.len() > 2 && needle.len() <= 4 && needle[0] >= 0x80) {
-        return last_near_place(hay, needle);
+    if needle.len() >= 2 && needle.len() <= 4 {
+        return last_near_place(finder, hay, needle);
     }
-    memmem::rfind(hay, needle)
+    last_place_by(finder, hay, needle)
 }
 
-// The first occurrence of `needle` at or after `from`.
+// The first occurrence of `needle` at or after `from`, by what was prepared of it.
 #[inline]
-pub(crate) fn find_text(text: &str, needle: &str, from: usize) -> Option<(usize, usize)>
-    requires { IsCharBoundary text.now from }
+pub(crate) fn find_text(
+    text: &str,
+    needle: &str,
+    finder: &Option<Finder<'_>>,
+    from: usize,
+) -> Option<(usize, usize)>
+    requires boundary { IsCharBoundary text.now from }
+    requires prepared { IfSome finder.now (λ f. f ≡ needle.now) }
     ensures { IsNextMatch (text_ends needle.now text.now) from result }
 {
     let wanted = needle.as_bytes();
     if wanted.is_empty() {
         return Some((from, from));
     }
-    let start = from + first_place(&text.as_bytes()[from..], wanted)?;
+    let start = from + first_place(finder, &text.as_bytes()[from..], wanted)?;
     Some((start, start + wanted.len()))
 }
 
@@ -108,17 +174,23 @@ pub(crate) fn text_at(text: &str, needle: &str, at: usize) -> Option<usize>
     None
 }
 
-// The last occurrence of `needle` that ends at or before `to`.
+// The last occurrence of `needle` that ends at or before `to`, by what was prepared of it.
 #[inline]
-pub(crate) fn rfind_text(text: &str, needle: &str, to: usize) -> Option<(usize, usize)>
-    requires { IsCharBoundary text.now to }
+pub(crate) fn rfind_text(
+    text: &str,
+    needle: &str,
+    finder: &Option<FinderRev<'_>>,
+    to: usize,
+) -> Option<(usize, usize)>
+    requires boundary { IsCharBoundary text.now to }
+    requires prepared { IfSome finder.now (λ f. f ≡ needle.now) }
     ensures { IsLastMatch (text_ends needle.now text.now) to result }
 {
     let wanted = needle.as_bytes();
     if wanted.is_empty() {
         return Some((to, to));
     }
-    let start = last_place(&text.as_bytes()[..to], wanted)?;
+    let start = last_place(finder, &text.as_bytes()[..to], wanted)?;
     Some((start, start + wanted.len()))
 }
 
@@ -142,7 +214,7 @@ pub(crate) fn find_char(text: &str, c: char, from: usize) -> Option<(usize, usiz
     ensures { IsNextMatch (char_ends (λ d. d == c) text.now) from result }
 {
     let mut room = [0; 4];
-    find_text(text, c.encode_utf8(&mut room), from)
+    find_text(text, c.encode_utf8(&mut room), &None, from)
 }
 
 // The last occurrence of the character `c` that ends at or before `to`.
@@ -152,15 +224,37 @@ pub(crate) fn rfind_char(text: &str, c: char, to: usize) -> Option<(usize, usize
     ensures { IsLastMatch (char_ends (λ d. d == c) text.now) to result }
 {
     let mut room = [0; 4];
-    rfind_text(text, c.encode_utf8(&mut room), to)
+    rfind_text(text, c.encode_utf8(&mut room), &None, to)
 }
 
 impl<'p> Pattern for &'p str {
+    type Searcher = TextSearcher<'p>;
+
     ghost ends = { λ p. text_ends p.now };
+
+    ghost is_searcher = { λ p s. IfSome s.finder (λ f. f ≡ p.now) × IfSome s.reverse_finder (λ f. f ≡ p.now) };
+
+    #[inline]
+    fn searcher(&self) -> TextSearcher<'p> {
+        TextSearcher {
+            finder: finder_of(*self),
+            reverse_finder: None,
+        }
+    }
 
     #[inline]
     fn next_match(&self, text: &str, from: usize) -> Option<(usize, usize)> {
-        find_text(text, *self, from)
+        find_text(text, *self, &None, from)
+    }
+
+    #[inline]
+    fn next_match_by(
+        &self,
+        searcher: &TextSearcher<'p>,
+        text: &str,
+        from: usize,
+    ) -> Option<(usize, usize)> {
+        find_text(text, *self, &searcher.finder, from)
     }
 
     #[inline]
@@ -173,8 +267,26 @@ impl<'p> Pattern for &'p str {
 
 impl<'p> ReversePattern for &'p str {
     #[inline]
+    fn reverse_searcher(&self) -> TextSearcher<'p> {
+        TextSearcher {
+            finder: None,
+            reverse_finder: reverse_finder_of(*self),
+        }
+    }
+
+    #[inline]
     fn last_match(&self, text: &str, to: usize) -> Option<(usize, usize)> {
-        rfind_text(text, *self, to)
+        rfind_text(text, *self, &None, to)
+    }
+
+    #[inline]
+    fn last_match_by(
+        &self,
+        searcher: &TextSearcher<'p>,
+        text: &str,
+        to: usize,
+    ) -> Option<(usize, usize)> {
+        rfind_text(text, *self, &searcher.reverse_finder, to)
     }
 
     #[inline]
@@ -186,11 +298,33 @@ impl<'p> ReversePattern for &'p str {
 }
 
 impl<'p, 'q> Pattern for &'q &'p str {
+    type Searcher = TextSearcher<'p>;
+
     ghost ends = { λ p. text_ends p.now.now };
+
+    ghost is_searcher = { λ p s. IfSome s.finder (λ f. f ≡ p.now.now) × IfSome s.reverse_finder (λ f. f ≡ p.now.now) };
+
+    #[inline]
+    fn searcher(&self) -> TextSearcher<'p> {
+        TextSearcher {
+            finder: finder_of(**self),
+            reverse_finder: None,
+        }
+    }
 
     #[inline]
     fn next_match(&self, text: &str, from: usize) -> Option<(usize, usize)> {
-        find_text(text, **self, from)
+        find_text(text, **self, &None, from)
+    }
+
+    #[inline]
+    fn next_match_by(
+        &self,
+        searcher: &TextSearcher<'p>,
+        text: &str,
+        from: usize,
+    ) -> Option<(usize, usize)> {
+        find_text(text, **self, &searcher.finder, from)
     }
 
     #[inline]
@@ -203,8 +337,26 @@ impl<'p, 'q> Pattern for &'q &'p str {
 
 impl<'p, 'q> ReversePattern for &'q &'p str {
     #[inline]
+    fn reverse_searcher(&self) -> TextSearcher<'p> {
+        TextSearcher {
+            finder: None,
+            reverse_finder: reverse_finder_of(**self),
+        }
+    }
+
+    #[inline]
     fn last_match(&self, text: &str, to: usize) -> Option<(usize, usize)> {
-        rfind_text(text, **self, to)
+        rfind_text(text, **self, &None, to)
+    }
+
+    #[inline]
+    fn last_match_by(
+        &self,
+        searcher: &TextSearcher<'p>,
+        text: &str,
+        to: usize,
+    ) -> Option<(usize, usize)> {
+        rfind_text(text, **self, &searcher.reverse_finder, to)
     }
 
     #[inline]
@@ -216,11 +368,33 @@ impl<'p, 'q> ReversePattern for &'q &'p str {
 }
 
 impl<'p> Pattern for &'p String {
+    type Searcher = TextSearcher<'p>;
+
     ghost ends = { λ p. text_ends (string_bytes p.now) };
+
+    ghost is_searcher = { λ p s. IfSome s.finder (λ f. f ≡ string_bytes p.now) × IfSome s.reverse_finder (λ f. f ≡ string_bytes p.now) };
+
+    #[inline]
+    fn searcher(&self) -> TextSearcher<'p> {
+        TextSearcher {
+            finder: finder_of(self.as_str()),
+            reverse_finder: None,
+        }
+    }
 
     #[inline]
     fn next_match(&self, text: &str, from: usize) -> Option<(usize, usize)> {
-        find_text(text, self.as_str(), from)
+        find_text(text, self.as_str(), &None, from)
+    }
+
+    #[inline]
+    fn next_match_by(
+        &self,
+        searcher: &TextSearcher<'p>,
+        text: &str,
+        from: usize,
+    ) -> Option<(usize, usize)> {
+        find_text(text, self.as_str(), &searcher.finder, from)
     }
 
     #[inline]
@@ -233,8 +407,26 @@ impl<'p> Pattern for &'p String {
 
 impl<'p> ReversePattern for &'p String {
     #[inline]
+    fn reverse_searcher(&self) -> TextSearcher<'p> {
+        TextSearcher {
+            finder: None,
+            reverse_finder: reverse_finder_of(self.as_str()),
+        }
+    }
+
+    #[inline]
     fn last_match(&self, text: &str, to: usize) -> Option<(usize, usize)> {
-        rfind_text(text, self.as_str(), to)
+        rfind_text(text, self.as_str(), &None, to)
+    }
+
+    #[inline]
+    fn last_match_by(
+        &self,
+        searcher: &TextSearcher<'p>,
+        text: &str,
+        to: usize,
+    ) -> Option<(usize, usize)> {
+        rfind_text(text, self.as_str(), &searcher.reverse_finder, to)
     }
 
     #[inline]

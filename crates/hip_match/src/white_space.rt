@@ -1,6 +1,8 @@
 //! The runs of a text between white space.
 ghost use Rattle.std.specs.Prelude.{◌≡◌};
 ghost use Rattle.std.specs.Char.{is_whitespace, is_ascii_whitespace};
+ghost use Rattle.std.specs.Str.{IsCharBoundary};
+ghost use Rattle.hip_match.specs.Occurrence.{IsNextMatch};
 ghost use Rattle.hip_match.specs.Characters.{char_ends};
 ghost use Rattle.hip_match.specs.CharLaws.{char_ends-spans, char_ends-one_start, char_ends-one_char};
 ghost use Rattle.hip_match.specs.Runs.{nonempty, split_whitespace, split_ascii_whitespace};
@@ -19,15 +21,30 @@ impl CharSet for WhiteSpace {
 
     #[inline]
     fn has(&self, c: char) -> bool {
+        let code = c as u32;
+        // Most letters past ASCII lie where no white space does.
+        if code > 0xA0 && (code < 0x1680 || code > 0x3000) {
+            return false;
+        }
         c.is_whitespace()
     }
 }
 
 impl Pattern for WhiteSpace {
+    type Searcher = ();
+
     ghost ends = { λ _. char_ends is_whitespace };
 
     #[inline]
+    fn searcher(&self) {}
+
+    #[inline]
     fn next_match(&self, text: &str, from: usize) -> Option<(usize, usize)> {
+        first_of(self, text, from)
+    }
+
+    #[inline]
+    fn next_match_by(&self, _searcher: &(), text: &str, from: usize) -> Option<(usize, usize)> {
         first_of(self, text, from)
     }
 
@@ -41,7 +58,15 @@ impl Pattern for WhiteSpace {
 
 impl ReversePattern for WhiteSpace {
     #[inline]
+    fn reverse_searcher(&self) {}
+
+    #[inline]
     fn last_match(&self, text: &str, to: usize) -> Option<(usize, usize)> {
+        last_of(self, text, to)
+    }
+
+    #[inline]
+    fn last_match_by(&self, _searcher: &(), text: &str, to: usize) -> Option<(usize, usize)> {
         last_of(self, text, to)
     }
 
@@ -69,6 +94,21 @@ impl OneChar for WhiteSpace {
     ghost one_char = { λ _. char_ends-one_char is_whitespace };
 }
 
+// The first ASCII white space at or after `from`. No byte past ASCII is one, or a part of one.
+#[inline]
+fn first_ascii_space(text: &str, from: usize) -> Option<(usize, usize)>
+    requires { IsCharBoundary text.now from }
+    ensures { IsNextMatch (char_ends is_ascii_whitespace text.now) from result }
+{
+    let bytes = text.as_bytes();
+    for i in from..bytes.len() {
+        if bytes[i].is_ascii_whitespace() {
+            return Some((i, i + 1));
+        }
+    }
+    None
+}
+
 // The characters of ASCII white space: space, tab, line feed, form feed, carriage return.
 #[derive(Clone, Copy)]
 pub(crate) struct AsciiWhiteSpace;
@@ -83,11 +123,21 @@ impl CharSet for AsciiWhiteSpace {
 }
 
 impl Pattern for AsciiWhiteSpace {
+    type Searcher = ();
+
     ghost ends = { λ _. char_ends is_ascii_whitespace };
 
     #[inline]
+    fn searcher(&self) {}
+
+    #[inline]
     fn next_match(&self, text: &str, from: usize) -> Option<(usize, usize)> {
-        first_of(self, text, from)
+        first_ascii_space(text, from)
+    }
+
+    #[inline]
+    fn next_match_by(&self, _searcher: &(), text: &str, from: usize) -> Option<(usize, usize)> {
+        first_ascii_space(text, from)
     }
 
     #[inline]
@@ -100,7 +150,15 @@ impl Pattern for AsciiWhiteSpace {
 
 impl ReversePattern for AsciiWhiteSpace {
     #[inline]
+    fn reverse_searcher(&self) {}
+
+    #[inline]
     fn last_match(&self, text: &str, to: usize) -> Option<(usize, usize)> {
+        last_of(self, text, to)
+    }
+
+    #[inline]
+    fn last_match_by(&self, _searcher: &(), text: &str, to: usize) -> Option<(usize, usize)> {
         last_of(self, text, to)
     }
 

@@ -4,8 +4,8 @@ use Rattle.hip_match.specs.Occurrence.{NoneStarts}
 use Rattle.hip_match.specs.Characters.{char_ends}
 use Rattle.hip_match.proofs.chars.first_of.Given as goal
 
-abbrev pub invariant-loop-c : goal.invariant-loop-c
-invariant-loop-c g l = IsCharBoundary l.text l.at × (l.from ≤ l.at) × NoneStarts (char_ends (g.S.CharSet.belongs l.set) l.text) l.from l.at
+abbrev pub invariant-loop-at : goal.invariant-loop-at
+invariant-loop-at g l = IsCharBoundary l.text l.at × (l.from ≤ l.at) × NoneStarts (char_ends (g.S.CharSet.belongs l.set) l.text) l.from l.at
 
-abbrev pub decreases-loop-c : goal.decreases-loop-c
-decreases-loop-c g l = length l.initial.text - l.at
+abbrev pub decreases-loop-at : goal.decreases-loop-at
+decreases-loop-at g l = length l.initial.text - l.at

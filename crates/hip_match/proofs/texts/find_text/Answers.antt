@@ -4,14 +4,14 @@ use Rattle.hip_match.proofs.TextLemmas.{rest_slice, find_empty, find_text-none, 
 use Rattle.hip_match.proofs.texts.find_text.Goals as goal
 
 pub returns-then-is_empty : goal.returns-then-is_empty
-returns-then-is_empty c = find_empty c.args.text.now c.args.needle.now c.utf8.needle c.utf8.text c.args.from (rw c.as_bytes-wanted.ensures.value at (eqb-true _ _ (sym c.if-is_empty.ensures))) c.requires
+returns-then-is_empty c = find_empty c.args.text.now c.args.needle.now c.utf8.needle c.utf8.text c.args.from (rw c.as_bytes-wanted.ensures.value at (eqb-true _ _ (sym c.if-is_empty.ensures))) c.requires.boundary
 
 pub returns-in_err-start : goal.returns-in_err-start
 returns-in_err-start c =
     let h = rw (c.as_bytes.ensures.value, rest_slice) at (rw c.as_bytes-wanted.ensures.value at c.in_err-start.ensures) in
-    rw c.from_residual.ensures (find_text-none c.args.text.now c.args.needle.now c.utf8.needle c.utf8.text c.args.from c.requires.0 h)
+    rw c.from_residual.ensures (find_text-none c.args.text.now c.args.needle.now c.utf8.needle c.utf8.text c.args.from c.requires.boundary.0 h)
 
 pub returns : goal.returns
 returns c =
     let h = rw (c.as_bytes.ensures.value, rest_slice) at (rw c.as_bytes-wanted.ensures.value at c.in_ok-start.ensures) in
-    rw c.as_bytes-wanted.ensures.value (find_text-some c.args.text.now c.args.needle.now c.utf8.needle c.utf8.text c.args.from _ c.requires.0 (positive _ (rw c.as_bytes-wanted.ensures.value at (sym c.if-is_empty.ensures))) h)
+    rw c.as_bytes-wanted.ensures.value (find_text-some c.args.text.now c.args.needle.now c.utf8.needle c.utf8.text c.args.from _ c.requires.boundary.0 (positive _ (rw c.as_bytes-wanted.ensures.value at (sym c.if-is_empty.ensures))) h)

@@ -6,7 +6,7 @@ use Rattle.hip_match.proofs.matches.Matches.new.Goals as goal
 pub returns-clause-ready : goal.returns-clause-ready
 returns-clause-ready g c =
     record {
-      searchable = c.requires;
+      searchable = (c.requires, c.searcher-searcher.ensures);
       window = record {
         utf8 = c.utf8.text;
         start = IsCharBoundary-start _ c.utf8.text;

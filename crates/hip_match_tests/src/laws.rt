@@ -1,0 +1,42 @@
+//! That laws can be stated by a caller, and the tests at a place.
+use hip_match::draw::End;
+use hip_match::laws::{
+    ended_pieces_are_the_text, ends_meet, join_undoes_split, join_undoes_split_by_char,
+    just_one_list_is_leftmost, just_one_list_is_rightmost, one_char_reverses,
+    white_space_parts_the_longest_runs,
+};
+use hip_match::pattern::{DoubleEndedPattern, OneChar};
+
+#[test]
+fn laws(_rt: HostRuntime) {
+    // The laws' functions do nothing: such calls show that a caller can state them.
+    let text = "é,a";
+    just_one_list_is_leftmost(&",", text);
+    just_one_list_is_rightmost(&',', text);
+    one_char_reverses(&&['a', ','], text);
+    join_undoes_split(text, ",");
+    join_undoes_split_by_char(text, ',');
+    ended_pieces_are_the_text(&&['a', ','], text);
+    ends_meet(&[(0, 2), (3, 4)], &[End::Back]);
+    white_space_parts_the_longest_runs(text);
+}
+
+#[test]
+fn at_a_place(rt: HostRuntime) {
+    let text = "é,a";
+    assert_eq!(rt;
+        (','.starts_at(text, 2), ','.starts_at(text, 0)),
+        (true, false)
+    );
+    assert_eq!(rt; ('é'.ends_at(text, 2), 'é'.ends_at(text, 3)), (true, false));
+    let slice = ['a'].as_slice();
+    assert_eq!(rt;
+        (slice.starts_at(text, 3), slice.ends_at(text, 4)),
+        (true, true)
+    );
+    let array = &['a', 'é'];
+    assert_eq!(rt;
+        (array.ends_at(text, 2), array.ends_at(text, 3)),
+        (true, false)
+    );
+}
