@@ -1,5 +1,4 @@
-ghost use Rattle.std.specs.Prelude.{◌≡◌};
-ghost use Rattle.hip_script.specs.Fault.{status_of};
+ghost use Rattle.std.specs.Prelude.{◌≡◌, ℕ};
 
 use std::alloc::{AllocError, AllocFailed};
 use std::fmt;
@@ -18,9 +17,12 @@ pub enum PlayFault {
 }
 
 impl PlayFault {
-    /// The exit status of a program that met the fault.
+    ghost use Rattle.hip_script.specs.declared.fault.PlayFault.TheVariants.{NotACommand};
+
+    /// The exit status of a program that met the fault: 2 where the script is at fault, else 1.
     pub fn status(self) -> u8
-        ensures { result ≡ status_of self }
+        ensures bad_line { (line : ℕ) → self ≡ NotACommand line → result ≡ 2 }
+        ensures other { ((line : ℕ) → self ≡ NotACommand line → ⊥) → result ≡ 1 }
     {
         match self {
             PlayFault::NotACommand(_) => 2,
