@@ -31,8 +31,7 @@ is_utf8-pushed shares old addition (Err error) new refused text more = ap (λ (h
 -- an end of a part, from where the part starts
 pub boundary-drop : (text : List ℕ) (start end : ℕ) → start ≤ end → IsCharBoundary text end → IsCharBoundary (drop start text) (end - start)
 boundary-drop text start end ordered at =
-    let there : slice_index (drop start text) (end - start) ≡ slice_index text end = get_or-drop start text (end - start) 0 ∙ ap (slice_index text) (omega arith) in
-    (
+    let there : slice_index (drop start text) (end - start) ≡ slice_index text end = get_or-drop start text (end - start) 0 ∙ ap (slice_index text) (omega arith) in (
       omega (arith, length-drop start text, at.0),
       λ within high. subst (λ (byte : ℕ). 192 ≤ byte) (sym there) (at.1 (omega (arith, length-drop start text, within)) (subst (λ (byte : ℕ). 128 ≤ byte) there high)),
     )

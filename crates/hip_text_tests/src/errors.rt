@@ -1,5 +1,7 @@
 //! Ranges that are refused, and bytes that aren't a text.
-use hip_text::{Backend, BytesFault, HipByt, HipStr, Kind, Rc, SliceErrorKind, SliceRefusal, Unique};
+use hip_text::{
+    Backend, BytesFault, HipByt, HipStr, Kind, Rc, SliceErrorKind, SliceRefusal, Unique,
+};
 use std::alloc::Global;
 use std::ops::Bound;
 use std::process::Abort;
@@ -44,8 +46,7 @@ const REFUSED: &[Refused] = &[
 fn refuses<B: Backend>(rt: &impl Abort, alloc: Global, row: Refused) -> Result<(), Fail> {
     let text = HipStr::<B>::borrowed("aéz");
     let (low, high) = row.bounds;
-    let refusal = text.try_slice_bounds(alloc, low, high).err();
-    let Some(SliceRefusal::Slice(error)) = refusal else {
+    let Err(SliceRefusal::Slice(error)) = text.try_slice_bounds(alloc, low, high) else {
         return Err(Fail::from("it was sliced"));
     };
     assert_eq!(rt; error.kind(), row.kind);
@@ -60,20 +61,31 @@ fn refuses_all<B: Backend>(rt: &impl Abort, alloc: Global) -> Result<(), Fail> {
     Ok(())
 }
 
-fn not_utf8<B: Backend>(rt: &impl Abort, alloc: Global) -> Result<(), Fail> {
-    let copied = HipByt::<B>::from_slice(alloc, b"abc\xFF")?;
-    let mut roomy = HipByt::<B>::with_capacity(alloc, 42)?;
-    roomy.push_slice(alloc, b"abc\xFF")?;
-    for (bytes, kind) in [(copied, Kind::Inline), (roomy, Kind::Allocated)] {
-        let error = HipStr::from_utf8(bytes).err().ok_or("it is UTF-8")?;
-        assert_eq!(rt; error.utf8_error().valid_up_to(), 3);
-        let back = error.into_bytes();
-        assert_eq!(rt;
-            (back.as_slice(), back.kind()),
-            (b"abc\xFF".as_slice(), kind)
-        );
-    }
+/// Bytes that aren't a text come back from the error as they were.
+fn is_kept<B: Backend>(rt: &impl Abort, bytes: HipByt<B>, kind: Kind) -> Result<(), Fail> {
+    let error = HipStr::from_utf8(bytes).err().ok_or("it is UTF-8")?;
+    assert_eq!(rt; error.utf8_error().valid_up_to(), 3);
+    let back = error.into_bytes();
+    assert_eq!(rt;
+        (back.as_slice(), back.kind()),
+        (b"abc\xFF".as_slice(), kind)
+    );
     Ok(())
+}
+
+fn not_utf8<B: Backend>(rt: &impl Abort, alloc: Global) -> Result<(), Fail> {
+    is_kept(
+        rt,
+        HipByt::<B>::from_slice(alloc, b"abc\xFF")?,
+        Kind::Inline,
+    )
+}
+
+/// As the last, where the bytes lie with an owner that isn't shared.
+fn not_utf8_with_room(rt: &impl Abort, alloc: Global) -> Result<(), Fail> {
+    let mut roomy = HipByt::<Unique>::with_capacity(alloc, 42)?;
+    roomy.push_slice(alloc, b"abc\xFF")?;
+    is_kept(rt, roomy, Kind::Allocated)
 }
 
 fn texts_of_errors<B: Backend>(rt: &impl Abort, alloc: Global) -> Result<(), Fail> {
@@ -86,8 +98,13 @@ fn texts_of_errors<B: Backend>(rt: &impl Abort, alloc: Global) -> Result<(), Fai
     let refused = HipStr::<B>::try_from_slice(alloc, b"abc\x80").err();
     assert_eq!(rt; refused, Some(BytesFault::NotUtf8));
     let vec = Vec::from_slice(alloc, b"abc\x80")?;
-    let (fault, back) = HipStr::<B>::try_from_vec(alloc, vec).err().ok_or("it is UTF-8")?;
-    assert_eq!(rt; (fault, back.as_slice()), (BytesFault::NotUtf8, b"abc\x80".as_slice()));
+    let (fault, back) = HipStr::<B>::try_from_vec(alloc, vec)
+        .err()
+        .ok_or("it is UTF-8")?;
+    assert_eq!(rt;
+        (fault, back.as_slice()),
+        (BytesFault::NotUtf8, b"abc\x80".as_slice())
+    );
     Ok(())
 }
 
@@ -114,5 +131,6 @@ fn on_rc(rt: HostRuntime) -> Result<(), Fail> {
 
 #[test]
 fn on_unique(rt: HostRuntime) -> Result<(), Fail> {
+    not_utf8_with_room(&rt, rt.alloc())?;
     on::<Unique>(&rt, rt.alloc())
 }

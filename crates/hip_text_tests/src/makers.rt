@@ -25,8 +25,18 @@ fn is<B: Backend>(rt: &impl Abort, text: HipStr<B>, items: &str, kind: Kind) {
 
 fn makers<B: Backend>(rt: &impl Abort, alloc: Global) -> Result<(), Fail> {
     is(rt, HipStr::<B>::new(), "", Kind::Inline);
-    is(rt, HipStr::<B>::from_static(LETTERS), LETTERS, Kind::Borrowed);
-    is(rt, HipStr::<B>::from_str(alloc, "abc")?, "abc", Kind::Inline);
+    is(
+        rt,
+        HipStr::<B>::from_static(LETTERS),
+        LETTERS,
+        Kind::Borrowed,
+    );
+    is(
+        rt,
+        HipStr::<B>::from_str(alloc, "abc")?,
+        "abc",
+        Kind::Inline,
+    );
     let long = HipStr::<B>::from_str(alloc, LETTERS)?;
     is(rt, long.clone(alloc)?, LETTERS, Kind::Allocated);
     is(rt, long.slice(alloc, 6..9)?, "ghi", Kind::Inline);
@@ -67,8 +77,18 @@ fn pushes<B: Backend>(rt: &impl Abort, alloc: Global) -> Result<(), Fail> {
 
 fn cases<B: Backend>(rt: &impl Abort, alloc: Global) -> Result<(), Fail> {
     let text = HipStr::<B>::borrowed("Straße à la CARTE");
-    is(rt, text.to_ascii_uppercase(alloc)?, "STRAßE à LA CARTE", Kind::Inline);
-    is(rt, text.to_ascii_lowercase(alloc)?, "straße à la carte", Kind::Inline);
+    is(
+        rt,
+        text.to_ascii_uppercase(alloc)?,
+        "STRAßE à LA CARTE",
+        Kind::Inline,
+    );
+    is(
+        rt,
+        text.to_ascii_lowercase(alloc)?,
+        "straße à la carte",
+        Kind::Inline,
+    );
     let twice = HipStr::<B>::borrowed("é-").repeat(alloc, 2);
     is(rt, twice.or(Err("no memory"))?, "é-é-", Kind::Inline);
     Ok(())
@@ -78,11 +98,19 @@ fn comparisons<B: Backend>(rt: &impl Abort, alloc: Global) -> Result<(), Fail> {
     let made = HipStr::<B>::from_str(alloc, STARS)?;
     let lent = HipStr::<B>::borrowed(STARS);
     assert_eq!(rt;
-        (made == lent, made.str_eq(STARS), made == made.slice(alloc, 0..4)?),
+        (
+            made == lent,
+            made.str_eq(STARS),
+            made == made.slice(alloc, 0..4)?
+        ),
         (true, true, false)
     );
     let bb = HipStr::<B>::borrowed("bb");
-    for (other, order) in [("bc", Ordering::Less), ("ba", Ordering::Greater), ("bb", Ordering::Equal)] {
+    for (other, order) in [
+        ("bc", Ordering::Less),
+        ("ba", Ordering::Greater),
+        ("bb", Ordering::Equal),
+    ] {
         assert_eq!(rt;
             (bb.cmp(&HipStr::borrowed(other)), bb.str_cmp(other)),
             (order, order)

@@ -75,7 +75,9 @@ impl<'b, B: Backend> HipStr<'b, B> {
         ensures counted { RisesAtMost meter.old meter.new (cut_cost B.SHARES self.now.kind (end - start)) }
     {
         Ok(HipStr {
-            bytes: self.bytes.slice_unchecked_metered(alloc, start..end, meter)?,
+            bytes: self
+                .bytes
+                .slice_unchecked_metered(alloc, start..end, meter)?,
         })
     }
 
