@@ -66,10 +66,8 @@ fn is_kept<B: Backend>(rt: &impl Abort, bytes: HipByt<B>, kind: Kind) -> Result<
     let error = HipStr::from_utf8(bytes).err().ok_or("it is UTF-8")?;
     assert_eq!(rt; error.utf8_error().valid_up_to(), 3);
     let back = error.into_bytes();
-    assert_eq!(rt;
-        (back.as_slice(), back.kind()),
-        (b"abc\xFF".as_slice(), kind)
-    );
+    assert_eq!(rt; back.kind(), kind);
+    assert!(rt; back.eq_slice(b"abc\xFF"));
     Ok(())
 }
 
