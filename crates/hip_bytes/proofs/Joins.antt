@@ -4,19 +4,10 @@ use Rattle.std.proofs.Math.Nat.{suc-mul}
 use Rattle.std.proofs.lemmas.Bool.{le-leb, leb-true, leb-false}
 use Rattle.std.proofs.lemmas.Grind.{flat_map-append}
 use Rattle.std.proofs.lemmas.List.{take_more, take-append-drop, length-take-le}
-use Rattle.std.specs.Borrow.{Bor}
 use Rattle.std.specs.List.{flat_map, join_by}
 use Rattle.hip_bytes.specs.Gathering.{spill_cost}
-use Rattle.hip_bytes.specs.Join.{joined, gap_at}
+use Rattle.hip_bytes.specs.Join.{gap_at}
 use Rattle.hip_bytes.specs.declared.kind.TheConstants.{INLINE_CAPACITY}
-
--- what a list of slices has past its end
-abbrev pub nowhere : Bor (List ℕ)
-nowhere = record { ref_ptr = (0, 0); now = [] }
-
--- the bytes of a slice
-abbrev pub bytes_of : Bor (List ℕ) → List ℕ
-bytes_of slice = slice.now
 
 abbrev pub next : {A : Type 0} → (A → List ℕ) → List ℕ → A → List ℕ
 next f sep x = sep ++ f x
@@ -60,10 +51,11 @@ pub gap_fits : {A : Type 0} (f : A → List ℕ) (sep : List ℕ) (xs : List A) 
 gap_fits f sep xs i d len gap within so_far is_gap =
     omega (arith, length-joined-take_more f sep xs i d within, length-joined-take f sep xs (i + 1), ap length is_gap)
 
-pub slice_fits : {A : Type 0} (f : A → List ℕ) (sep : List ℕ) (xs : List A) (i : ℕ) (d : A) (len mid : ℕ) (gap : List ℕ)
-    → i < length xs → len ≡ length (join_by f sep (take i xs)) → gap ≡ gap_at i sep → mid ≡ len + length gap → mid + length (f (get_or xs i d)) ≤ length (join_by f sep xs)
-slice_fits f sep xs i d len mid gap within so_far is_gap to_mid =
-    omega (arith, length-joined-take_more f sep xs i d within, length-joined-take f sep xs (i + 1), ap length is_gap)
+pub piece_fits : {A : Type 0} (f : A → List ℕ) (sep : List ℕ) (xs : List A) (i : ℕ) (x : A) (shown : List ℕ) (len mid : ℕ) (gap : List ℕ)
+    → i < length xs → x ≡ get_or xs i x → shown ≡ f x → len ≡ length (join_by f sep (take i xs)) → gap ≡ gap_at i sep → mid ≡ len + length gap
+    → mid + length shown ≤ length (join_by f sep xs)
+piece_fits f sep xs i x shown len mid gap within is_x is_shown so_far is_gap to_mid =
+    omega (arith, length-joined-take_more f sep xs i x within, length-joined-take f sep xs (i + 1), ap length is_gap, ap length is_shown, ap (λ y. length (f y)) is_x)
 
 flat_map-next : {A : Type 0} (f : A → List ℕ) (sep : List ℕ) (xs : List A) → flat_map (next f sep) xs ≡ flat_map (next (λ piece. piece) sep) (map f xs)
 flat_map-next f sep [] = refl
@@ -75,22 +67,22 @@ joined-map f sep [] = refl
 joined-map f sep (x ∷ xs) = ap (λ zs. f x ++ zs) (flat_map-next f sep xs)
 
 -- the bytes of a join that goes on
-pub joined-next : (sep : List ℕ) (xs : List (Bor (List ℕ))) (i : ℕ) (d : Bor (List ℕ)) (made mid all gap : List ℕ)
-    → i < length xs → made ≡ joined sep (take i xs) → gap ≡ gap_at i sep → mid ≡ made ++ gap → all ≡ mid ++ (get_or xs i d).now
-    → all ≡ joined sep (take (i + 1) xs)
-joined-next sep xs i d made mid all gap within so_far is_gap to_mid to_all =
-    to_all ∙ ap (λ ys. ys ++ (get_or xs i d).now) (to_mid ∙ ap (λ ys. ys ++ gap) so_far ∙ ap (λ ys. joined sep (take i xs) ++ ys) is_gap)
-    ∙ sym (joined-take_more bytes_of sep xs i d within)
+pub joined-next : {A : Type 0} (f : A → List ℕ) (sep : List ℕ) (xs : List A) (i : ℕ) (x : A) (shown made mid all gap : List ℕ)
+    → i < length xs → x ≡ get_or xs i x → shown ≡ f x → made ≡ join_by f sep (take i xs) → gap ≡ gap_at i sep → mid ≡ made ++ gap → all ≡ mid ++ shown
+    → all ≡ join_by f sep (take (i + 1) xs)
+joined-next f sep xs i x shown made mid all gap within is_x is_shown so_far is_gap to_mid to_all =
+    to_all ∙ ap (λ ys. mid ++ ys) (is_shown ∙ ap f is_x)
+    ∙ ap (λ ys. ys ++ f (get_or xs i x)) (to_mid ∙ ap (λ ys. ys ++ gap) so_far ∙ ap (λ ys. join_by f sep (take i xs) ++ ys) is_gap)
+    ∙ sym (joined-take_more f sep xs i x within)
 
--- how long a join with one slice more is
-pub length-joined-snoc : (sep : List ℕ) (xs : List (Bor (List ℕ))) (y : Bor (List ℕ)) (made gap : List ℕ)
-    → made ≡ joined sep xs → gap ≡ gap_at (length xs) sep → length (joined sep (xs ++ y ∷ [])) ≡ length made + length gap + length y.now
-length-joined-snoc sep xs y made gap is_made is_gap =
-    ap length (joined-snoc bytes_of sep xs y)
-    ∙ length-append (joined sep xs ++ gap_at (length xs) sep) y.now
-    ∙ ap (λ n. n + length y.now) (length-append (joined sep xs) (gap_at (length xs) sep))
-    ∙ ap (λ zs. length zs + length (gap_at (length xs) sep) + length y.now) (sym is_made)
-    ∙ ap (λ zs. length made + length zs + length y.now) (sym is_gap)
+-- how long a join with one piece more is
+pub length-joined-snoc : {A : Type 0} (f : A → List ℕ) (sep : List ℕ) (xs : List A) (y : A) (shown made gap : List ℕ)
+    → shown ≡ f y → made ≡ join_by f sep xs → gap ≡ gap_at (length xs) sep → length (join_by f sep (xs ++ y ∷ [])) ≡ length made + length gap + length shown
+length-joined-snoc f sep xs y shown made gap is_shown is_made is_gap =
+    ap length (joined-snoc f sep xs y)
+    ∙ length-append (join_by f sep xs ++ gap_at (length xs) sep) (f y)
+    ∙ ap (λ n. n + length (f y)) (length-append (join_by f sep xs) (gap_at (length xs) sep))
+    ∙ omega (arith, ap length is_shown, ap length is_made, ap length is_gap)
 
 -- how long the pieces are, each with the separator before it
 length-flat_map-next : {A : Type 0} (f : A → List ℕ) (sep : List ℕ) (xs : List A)
@@ -114,16 +106,22 @@ length-front f xs i d within =
     ap (λ ys. length (flat_map f ys)) (take_more xs i d within) ∙ ap length (flat_map-append f (take i xs) (get_or xs i d ∷ []))
     ∙ omega (arith, length-append (flat_map f (take i xs)) (flat_map f (get_or xs i d ∷ [])), length-append (f (get_or xs i d)) [])
 
--- a join goes on by the gap and the slice
-pub joined-more : (sep : List ℕ) (xs : List (Bor (List ℕ))) (y : Bor (List ℕ)) (made gap : List ℕ)
-    → made ≡ joined sep xs → gap ≡ gap_at (length xs) sep → (made ++ gap) ++ y.now ≡ joined sep (xs ++ y ∷ [])
-joined-more sep xs y made gap is_made is_gap =
-    ap (λ zs. (zs ++ gap) ++ y.now) is_made ∙ ap (λ zs. (joined sep xs ++ zs) ++ y.now) is_gap ∙ sym (joined-snoc bytes_of sep xs y)
+-- a join goes on by the gap and the piece
+pub joined-more : {A : Type 0} (f : A → List ℕ) (sep : List ℕ) (xs : List A) (y : A) (shown made gap : List ℕ)
+    → shown ≡ f y → made ≡ join_by f sep xs → gap ≡ gap_at (length xs) sep → (made ++ gap) ++ shown ≡ join_by f sep (xs ++ y ∷ [])
+joined-more f sep xs y shown made gap is_shown is_made is_gap =
+    ap (λ zs. (made ++ gap) ++ zs) is_shown ∙ ap (λ zs. (zs ++ gap) ++ f y) is_made ∙ ap (λ zs. (join_by f sep xs ++ zs) ++ f y) is_gap
+    ∙ sym (joined-snoc f sep xs y)
 
--- there is a gap behind a slice
-pub gap-snoc : (sep : List ℕ) (xs : List (Bor (List ℕ))) (y : Bor (List ℕ)) → sep ≡ gap_at (length (xs ++ y ∷ [])) sep
+-- there is a gap behind a piece
+pub gap-snoc : {A : Type 0} (sep : List ℕ) (xs : List A) (y : A) → sep ≡ gap_at (length (xs ++ y ∷ [])) sep
 gap-snoc sep [] y = refl
 gap-snoc sep (x ∷ xs) y = refl
+
+-- what holds of nothing and of the separator holds of each gap
+pub kept-gap : (keeps : List ℕ → Type 0) (sep : List ℕ) (i : ℕ) → keeps [] → keeps sep → keeps (gap_at i sep)
+kept-gap keeps sep zero empty kept = empty
+kept-gap keeps sep (suc i) empty kept = kept
 
 and_false : (b : Bool) → (b && false) ≡ false
 and_false true = refl

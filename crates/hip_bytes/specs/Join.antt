@@ -10,9 +10,13 @@ use Rattle.hip_bytes.specs.declared.kind.Kind.{Kind}
 use Rattle.hip_bytes.specs.declared.kind.Kind.TheVariants.{Inline, Borrowed, Allocated}
 use Rattle.hip_bytes.specs.declared.kind.TheConstants.{INLINE_CAPACITY}
 
+-- the bytes of a slice
+abbrev pub bytes_of : Bor (List ℕ) → List ℕ
+bytes_of slice = slice.now
+
 -- the slices one behind another, with the separator between each two
 abbrev pub joined : List ℕ → List (Bor (List ℕ)) → List ℕ
-joined sep slices = join_by (λ slice. slice.now) sep slices
+joined sep slices = join_by bytes_of sep slices
 
 -- what stands before the slice at a position
 abbrev pub gap_at : ℕ → List ℕ → List ℕ

@@ -1,12 +1,11 @@
 -- What a call that makes a handle may answer. A refusal says where memory may be wanted.
 use Rattle.std.specs.Prelude.{◌≡◌, ℕ, ◌*◌, ◌^◌, ◌<◌, ◌≤◌, Bool, List, length, Option, Result, Ok, Err}
-use Rattle.std.specs.Borrow.{Bor}
-use Rattle.std.specs.List.{repeat}
+use Rattle.std.specs.List.{join_by, repeat}
 use Rattle.hip_raw.specs.Meter.{RisesAtMost}
 use Rattle.hip_bytes.specs.Handle.{Handle}
 use Rattle.hip_bytes.specs.Kinds.{cut_kind, owned_kind, Holds, HoldsByLength}
 use Rattle.hip_bytes.specs.Cost.{CopyNeedsMemory, CutNeedsMemory, OwnNeedsMemory}
-use Rattle.hip_bytes.specs.Join.{joined, join_cost, repeated_kind, GivesAll, GivesFirst, RepeatNeedsMemory}
+use Rattle.hip_bytes.specs.Join.{join_cost, repeated_kind, GivesAll, GivesFirst, RepeatNeedsMemory}
 use Rattle.hip_bytes.specs.declared.grow_fault.GrowFault.{GrowFault}
 use Rattle.hip_bytes.specs.declared.grow_fault.GrowFault.TheVariants.{Memory, TooLong}
 use Rattle.hip_bytes.specs.declared.kind.Kind.TheVariants.{Allocated}
@@ -57,14 +56,14 @@ RepeatAnswers source n (Ok handle) =
 RepeatAnswers source n (Err Memory) = RepeatNeedsMemory source.kind (length source.items) n × (n * length source.items < 2 ^ 64)
 RepeatAnswers source n (Err TooLong) = 2 ^ 64 ≤ n * length source.items
 
--- a list that is put together of the slices that an iterator gives, by length. It is too long, and may want memory, by what was given
--- so far
-abbrev pub GatherAnswers : {I T : Type 0} → (I → T → Type 0) → (T → Option (Bor (List ℕ)) → T → Type 0) → I → List ℕ → Result Handle GrowFault → Type 0
-GatherAnswers into steps pieces sep (Ok handle) = HoldsByLength handle handle.items × GivesAll into steps pieces (λ slices. handle.items ≡ joined sep slices)
-GatherAnswers into steps pieces sep (Err Memory) = GivesFirst into steps pieces (λ slices. INLINE_CAPACITY < length (joined sep slices))
-GatherAnswers into steps pieces sep (Err TooLong) = GivesFirst into steps pieces (λ slices. 2 ^ 64 ≤ length (joined sep slices))
+-- a list that is put together of the pieces that an iterator gives, whose bytes are those that `shown` tells, by length. It is too long,
+-- and may want memory, by what was given so far
+abbrev pub GatherAnswers : {I T A : Type 0} → (A → List ℕ) → (I → T → Type 0) → (T → Option A → T → Type 0) → I → List ℕ → Result Handle GrowFault → Type 0
+GatherAnswers shown into steps pieces sep (Ok handle) = HoldsByLength handle handle.items × GivesAll into steps pieces (λ given. handle.items ≡ join_by shown sep given)
+GatherAnswers shown into steps pieces sep (Err Memory) = GivesFirst into steps pieces (λ given. INLINE_CAPACITY < length (join_by shown sep given))
+GatherAnswers shown into steps pieces sep (Err TooLong) = GivesFirst into steps pieces (λ given. 2 ^ 64 ≤ length (join_by shown sep given))
 
 -- how far a meter rises by it
-abbrev pub GatherCosts : {I T : Type 0} → Bool → (I → T → Type 0) → (T → Option (Bor (List ℕ)) → T → Type 0) → I → List ℕ → Result Handle GrowFault → ℕ → ℕ → Type 0
-GatherCosts shares into steps pieces sep (Ok handle) old new = RisesAtMost old new (join_cost shares (length handle.items))
-GatherCosts shares into steps pieces sep (Err fault) old new = GivesFirst into steps pieces (λ slices. RisesAtMost old new (join_cost shares (length (joined sep slices))))
+abbrev pub GatherCosts : {I T A : Type 0} → Bool → (A → List ℕ) → (I → T → Type 0) → (T → Option A → T → Type 0) → I → List ℕ → Result Handle GrowFault → ℕ → ℕ → Type 0
+GatherCosts shares shown into steps pieces sep (Ok handle) old new = RisesAtMost old new (join_cost shares (length handle.items))
+GatherCosts shares shown into steps pieces sep (Err fault) old new = GivesFirst into steps pieces (λ given. RisesAtMost old new (join_cost shares (length (join_by shown sep given))))

@@ -8,6 +8,7 @@
 //!   wasn't made.
 //! - [`RefMut`] lends a value of a [`Source`], as a handle is one, as a vector; [`mutate`] makes one in functions that are generic in
 //!   the source.
+//! - [`Piece`] is what joins are made of, bytes or texts.
 //! - What an implementor of [`Backend`], or a caller of the representations, names is handed on: [`Room`], [`Appended`], [`Block`],
 //!   [`Inline`], [`Borrowed`], [`Allocated`], [`fill_counted`], [`copy_counted`].
 //!
@@ -24,6 +25,7 @@ mod gathering;
 mod grow_fault;
 mod hip_byt;
 mod kind;
+mod piece;
 mod range;
 mod ref_mut;
 mod slice_error;
@@ -35,6 +37,7 @@ pub use hip_raw::{
     fill_counted,
 };
 pub use kind::{INLINE_CAPACITY, Kind};
+pub use piece::Piece;
 pub use range::{bound_of, end_of, range_of, start_of};
 pub use ref_mut::{RefMut, Source, mutate, mutate_metered};
 pub use slice_error::{SliceError, SliceErrorKind, SliceRefusal};

@@ -66,6 +66,45 @@ fn answers(rt: HostRuntime) {
     print::<Unique>(&rt, rt.alloc(), ANSWERS);
 }
 
+/// Slots that are texts.
+const TEXTS: &[Row] = &[
+    (
+        "copy 0 \"\\xC3\\xA9\"\ntext 0\ntext 0\nslice 0 1 1..\ntruncate 0 1\npush 0 \"\\xFF\"\nset 0 0 65\npop 0\nlen 0\n",
+        "done\ndone\nrefused NotBytes\nrefused StartNotACharBoundary\nrefused EndNotACharBoundary\nrefused NotUtf8\nrefused NotBytes\nchar 233\n0\n",
+    ),
+    // A refused text stays bytes, as it was; both ways keep kind and capacity and copy nothing.
+    (
+        "copy 0 \"a\\xFF\"\ntext 0\nbytes 0\nshow 0\nroom 1 64\ncapacity 1\ntext 1\nkind 1\ncapacity 1\nbytes 1\nkind 1\ncapacity 1\nshow 1\ncopied\n",
+        "done\nrefused NotUtf8\nrefused NotText\nbytes \"a\\xff\"\ndone\n64\ndone\nallocated\n64\ndone\nallocated\n64\nbytes \"\"\n2\n",
+    ),
+    // What is made of a text is a text, whatever stood there; a join is bytes.
+    (
+        "borrow 0 \"a\\xC3\\xA9b\"\ntext 0\nclone 0 1\nslice 0 2 1..3\nrepeat 0 3 2\njoin 0 2 \"-\" 4\nshow 1\nshow 2\nshow 3\nshow 4\nkind 2\ncopied\n",
+        "done\ndone\ndone\ndone\ndone\ndone\ntext \"a\\xc3\\xa9b\"\ntext \"\\xc3\\xa9\"\ntext \"a\\xc3\\xa9ba\\xc3\\xa9b\"\nbytes \"a\\xc3\\xa9b-a\\xc3\\xa9b\"\nborrowed\n17\n",
+    ),
+    // Each command that changes a text in place keeps it one.
+    (
+        "copy 0 \"a\\xC3\\xA9\"\ntext 0\nupper 0\npush 0 \"z\"\nlower 0\nmutate 0 \"\\xFF\"\nmutate 0 \"!\"\nowned 0\nshrink 0 0\nshow 0\ntruncate 0 9\ntruncate 0 3\nshow 0\ncompare 0 1\nclear 0\nshow 0\npop 0\nbytes 0\npop 0\n",
+        "done\ndone\ndone\ndone\ndone\nrefused NotUtf8\ndone\ndone\ndone\ntext \"a\\xc3\\xa9z!\"\ndone\ndone\ntext \"a\\xc3\\xa9\"\ngreater\ndone\ntext \"\"\nnothing\ndone\nnothing\n",
+    ),
+    // A target takes the flag of its source; what is made anew is bytes.
+    (
+        "copy 0 \"ab\"\ncopy 1 \"c\"\ntext 1\nclone 0 1\nshow 1\ntext 1\nslice 1 0 1..\nshow 0\ncopy 0 \"d\"\nshow 0\nnew 1\nshow 1\n",
+        "done\ndone\ndone\ndone\nbytes \"ab\"\ndone\ndone\ntext \"b\"\ndone\nbytes \"d\"\ndone\nbytes \"\"\n",
+    ),
+    // The order of the tests: the slot, its flag, what the row says.
+    (
+        "text 16\nbytes 16\nset 16 0 0\nbytes 0\ntext 0\nset 0 9 0\nslice 0 16 5..\nslice 0 1 5..\n",
+        "refused NoSlot\nrefused NoSlot\nrefused NoSlot\nrefused NotText\ndone\nrefused NotBytes\nrefused NoSlot\nrefused StartOutOfBounds\n",
+    ),
+];
+
+#[test]
+fn texts(rt: HostRuntime) {
+    print::<Rc>(&rt, rt.alloc(), TEXTS);
+    print::<Unique>(&rt, rt.alloc(), TEXTS);
+}
+
 /// Kinds and capacities.
 const KINDS: &[Row] = &[
     // A borrowed value: its clone is borrowed, and a push of nothing copies it.

@@ -61,6 +61,8 @@ fn read_command<'b>(verb: &[u8], words: &mut Words<'_, 'b>) -> Option<Command<'b
         }
         b"mutate" => Command::Mutate(words.number()?, words.literal()?),
         b"owned" => Command::Owned(words.number()?),
+        b"text" => Command::Text(words.number()?),
+        b"bytes" => Command::Bytes(words.number()?),
         b"compare" => Command::Compare(words.number()?, words.number()?),
         b"len" => Command::Len(words.number()?),
         b"kind" => Command::Kind(words.number()?),

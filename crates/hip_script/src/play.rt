@@ -101,7 +101,7 @@ fn show<B: Backend, W: Write>(pool: &Pool<'_, B>, slot: usize, out: &mut W) -> i
     let Some(slot) = pool.slot(slot) else {
         return writeln!(out, "refused NoSlot");
     };
-    out.write_all(b"bytes ")?;
+    out.write_all(if slot.is_text() { b"text " } else { b"bytes " })?;
     print_literal(out, slot.as_bytes())?;
     writeln!(out)
 }

@@ -15,6 +15,7 @@ pub(crate) fn print_answer<W: Write>(out: &mut W, answer: Answer) -> io::Result<
         Answer::Order(Ordering::Equal) => writeln!(out, "equal"),
         Answer::Order(Ordering::Greater) => writeln!(out, "greater"),
         Answer::Byte(byte) => writeln!(out, "byte {byte}"),
+        Answer::Char(c) => writeln!(out, "char {}", u32::from(c)),
         Answer::Kind(Kind::Inline) => writeln!(out, "inline"),
         Answer::Kind(Kind::Borrowed) => writeln!(out, "borrowed"),
         Answer::Kind(Kind::Allocated) => writeln!(out, "allocated"),

@@ -1,2 +1,3 @@
 mod Cased
 mod Texts
+mod Utf16

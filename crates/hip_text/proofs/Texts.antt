@@ -1,5 +1,5 @@
 -- What keeps a text a text, and what shows that one is.
-use Rattle.std.proofs.Common.{◌≡◌, ◌∙◌, ℕ, zero, suc, ◌-◌, ◌≤◌, Bool, true, List, [], ◌++◌, length, drop, take, slice_index, slice_range, Result, Ok, Err, OnOk, OnErr, ap, subst, sym, arith}
+use Rattle.std.proofs.Common.{◌≡◌, ◌∙◌, ℕ, zero, suc, ◌-◌, ◌≤◌, Bool, true, false, List, [], ◌++◌, length, drop, take, slice_index, slice_range, Result, Ok, Err, OnOk, OnErr, ap, refl, subst, sym, arith}
 use Rattle.std.proofs.lemmas.List.{get_or-drop, length-drop}
 use Rattle.std.proofs.Math.Decide.{dec_le}
 use Rattle.std.proofs.Math.Nat.{lt_of_not-le}
@@ -81,6 +81,14 @@ is_utf8-put old new items (Err error) put same utf8 over = ap (λ (handle : Hand
 pub is_utf8-repeat : (n : ℕ) (text : List ℕ) → is_utf8 text ≡ true → is_utf8 (repeat n text) ≡ true
 is_utf8-repeat zero text utf8 = is_utf8-from_IsUtf8 [] IsUtf8-nil
 is_utf8-repeat (suc n) text utf8 = is_utf8-append text (repeat n text) utf8 (IsUtf8-from_is_utf8 (repeat n text) (is_utf8-repeat n text utf8))
+
+-- bytes that aren't one
+not-true : (b : Bool) → (b ≡ true → ⊥) → b ≡ false
+not-true true never = absurd (never refl)
+not-true false never = refl
+
+pub not-is_utf8 : (bytes : List ℕ) → ¬ (IsUtf8 bytes) → is_utf8 bytes ≡ false
+not-is_utf8 bytes never = not-true (is_utf8 bytes) (λ utf8. never (IsUtf8-from_is_utf8 bytes utf8))
 
 pub ruleset texts = (IsUtf8-from_is_utf8, is_utf8-from_IsUtf8)
 

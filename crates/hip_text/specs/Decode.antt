@@ -3,7 +3,8 @@ use Rattle.std.specs.Prelude.{◌≡◌, ◌<◌, ℕ, List, length, Result, Ok,
 use Rattle.std.specs.Str.{valid_up_to, IsValidUpTo}
 use Rattle.std.specs.declared.str.Utf8Error.{Utf8Error}
 use Rattle.hip_bytes.specs.Handle.{Handle}
-use Rattle.hip_bytes.specs.Kinds.{HoldsByLength}
+use Rattle.hip_bytes.specs.Kinds.{Holds, HoldsByLength}
+use Rattle.hip_bytes.specs.declared.kind.Kind.TheVariants.{Allocated}
 use Rattle.hip_bytes.specs.declared.kind.TheConstants.{INLINE_CAPACITY}
 use Rattle.hip_text.specs.declared.faults.BytesFault.{BytesFault}
 use Rattle.hip_text.specs.declared.faults.BytesFault.TheVariants.{Memory, NotUtf8}
@@ -20,6 +21,12 @@ error_cause error = error.error
 abbrev pub FromUtf8Answers : {B S : Type 0} → Handle → Result Handle (FromUtf8Error B S) → Type 0
 FromUtf8Answers bytes (Ok text) = (text ≡ bytes) × IsUtf8 bytes.items
 FromUtf8Answers bytes (Err error) = (error_bytes error ≡ bytes) × ¬ (IsUtf8 bytes.items) × IsValidUpTo bytes.items (valid_up_to (error_cause error))
+
+-- the same error again, of a clone of the bytes
+abbrev pub CloneErrorAnswers : {B S E : Type 0} → FromUtf8Error B S → Result (FromUtf8Error B S) E → Type 0
+CloneErrorAnswers error (Ok copy) =
+    Holds (error_bytes copy) (error_bytes error).kind (error_bytes error).items × (error_cause copy ≡ error_cause error)
+CloneErrorAnswers error (Err refused) = (error_bytes error).kind ≡ Allocated
 
 -- bytes that are UTF-8 are made a text, by length, or so many wanted memory
 abbrev pub ReadAnswers : List ℕ → Result Handle BytesFault → Type 0

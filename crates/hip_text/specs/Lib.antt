@@ -1,9 +1,11 @@
 pub mod Boundary
 pub mod Change
 pub mod Decode
+pub mod Fault
 pub mod RefMut
 pub mod Slice
 pub mod SliceError
+pub mod Utf16
 pub use Rattle.hip_bytes.specs.Cost
 pub use Rattle.hip_bytes.specs.Handle
 pub use Rattle.hip_bytes.specs.Join

@@ -12,6 +12,11 @@ pub enum BytesFault {
 }
 
 impl fmt::Display for BytesFault {
+    ghost use Rattle.std.specs.Prelude.{Some};
+    ghost use Rattle.hip_text.specs.Fault.{bytes_fault_text};
+
+    ghost output = { λ fault. Some (bytes_fault_text fault) };
+
     fn fmt<W: fmt::Write>(&self, f: &mut fmt::Formatter<W>) -> fmt::Result {
         f.write_str(match self {
             BytesFault::Memory => "out of memory",
@@ -33,3 +38,28 @@ impl From<AllocError> for BytesFault {
         BytesFault::Memory
     }
 }
+
+/// Why units weren't read as a text.
+#[derive(Clone, Copy, Debug, PartialEq, Eq)]
+pub enum Utf16Fault {
+    /// Memory ran out.
+    Memory,
+    /// The unit at this position is the first surrogate without a partner.
+    Unpaired(usize),
+}
+
+impl fmt::Display for Utf16Fault {
+    ghost use Rattle.std.specs.Prelude.{Some};
+    ghost use Rattle.hip_text.specs.Fault.{utf16_fault_text};
+
+    ghost output = { λ fault. Some (utf16_fault_text fault) };
+
+    fn fmt<W: fmt::Write>(&self, f: &mut fmt::Formatter<W>) -> fmt::Result {
+        match self {
+            Utf16Fault::Memory => f.write_str("out of memory"),
+            Utf16Fault::Unpaired(at) => write!(f, "unpaired surrogate at {at}"),
+        }
+    }
+}
+
+impl Error for Utf16Fault {}

@@ -1,16 +1,15 @@
 //! Bytes that aren't a text.
-ghost use Rattle.std.specs.Prelude.{◌≡◌, IfOk, OnErr};
-ghost use Rattle.hip_bytes.specs.Made.{CloneAnswers};
-ghost use Rattle.hip_text.specs.Decode.{error_bytes, error_cause};
+ghost use Rattle.std.specs.Prelude.{◌≡◌};
+ghost use Rattle.hip_text.specs.Decode.{error_bytes, error_cause, CloneErrorAnswers};
 
-use hip_bytes::{Backend, HipByt, Kind};
+use hip_bytes::{Backend, HipByt};
 use std::alloc::{AllocError, Global};
 use std::error::Error;
 use std::fmt;
 use std::str::Utf8Error;
 
 /// Bytes that aren't UTF-8, and what is wrong with them.
-#[derive(Drop)]
+#[derive(Drop, PartialEq, Eq)]
 pub struct FromUtf8Error<'b, B: Backend> {
     bytes: HipByt<'b, B>,
     error: Utf8Error,
@@ -50,10 +49,7 @@ impl<'b, B: Backend> FromUtf8Error<'b, B> {
 
     /// The same error again, with a clone of the bytes.
     pub fn clone(&self, alloc: Global) -> Result<Self, AllocError>
-        ensures bytes { IfOk result (λ copy. (error_bytes copy).items ≡ (error_bytes self.now).items) }
-        ensures kind { IfOk result (λ copy. (error_bytes copy).kind ≡ (error_bytes self.now).kind) }
-        ensures cause { IfOk result (λ copy. error_cause copy ≡ error_cause self.now) }
-        ensures memory { OnErr result ((error_bytes self.now).kind ≡ Kind.Allocated) }
+        ensures clone { CloneErrorAnswers self.now result }
     {
         Ok(FromUtf8Error {
             bytes: self.bytes.clone(alloc)?,

@@ -11,6 +11,7 @@ mod decode;
 mod growth;
 mod make;
 mod mutate;
+mod utf16;
 mod views;
 mod write;
 

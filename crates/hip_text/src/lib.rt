@@ -14,7 +14,7 @@ mod hip_str;
 mod ref_mut;
 mod slice_error;
 
-pub use faults::BytesFault;
+pub use faults::{BytesFault, Utf16Fault};
 pub use from_utf8_error::FromUtf8Error;
 pub use hip_bytes::{
     Allocated, Appended, Backend, Block, Borrowed, GrowFault, HipByt, INLINE_CAPACITY, Inline,

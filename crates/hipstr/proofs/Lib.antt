@@ -1,4 +1,3 @@
 pub mod Joins
 pub mod Places
 pub mod Runs
-pub mod Steps

@@ -1,6 +1,7 @@
 pub mod Slot
 pub mod Step
 pub mod Run
+pub mod Reason
 pub use Rattle.hip_bytes.specs.Change
 pub use Rattle.hip_bytes.specs.Cost
 pub use Rattle.hip_bytes.specs.Handle
@@ -15,3 +16,5 @@ pub use Rattle.hip_bytes.specs.Held
 pub use Rattle.hip_bytes.specs.Meter
 pub use Rattle.hip_bytes.specs.RefMut
 pub use Rattle.hip_bytes.specs.Window
+pub use Rattle.hip_text.specs.Boundary
+pub use Rattle.hip_text.specs.Decode

@@ -1,13 +1,14 @@
 -- One step of the list machine: what a command may answer, what it leaves of the slots, and how many bytes it copies at most.
 -- `shares` says whether owners are shared.
-use Rattle.std.specs.Prelude.{◌≡◌, ℕ, ◌+◌, ◌*◌, ◌^◌, ◌<◌, ◌≤◌, ◌⊎◌, Bool, List, [], ◌∷◌, ◌++◌, length, map, take, drop, max, Option, Some, None, is_none, if◌then◌else◌, nat_le, nat_lt, slice_set, MatchOption, codes, refl}
+use Rattle.std.specs.Prelude.{◌≡◌, ℕ, ◌+◌, ◌*◌, ◌^◌, ◌<◌, ◌≤◌, ◌⊎◌, Bool, true, false, not, ◌&&◌, List, [], ◌∷◌, ◌++◌, length, map, take, drop, max, Option, Some, None, is_none, if◌then◌else◌, nat_le, nat_lt, slice_set, MatchOption, codes, refl}
 use Rattle.std.specs.Char.{to_ascii_lowercase, to_ascii_uppercase}
 use Rattle.std.specs.Cmp.Lexicographic.{slice_cmp}
 use Rattle.std.specs.List.{join_by, repeat}
 use Rattle.std.specs.Option.{option_or, option_map}
 use Rattle.std.specs.Ordering.{nat_cmp}
+use Rattle.std.specs.Str.{is_utf8}
+use Rattle.std.specs.declared.ops.Bound.{Bound}
 use Rattle.std.specs.declared.ops.Bound.TheVariants.{Included, Unbounded}
-use Rattle.hip_bytes.specs.Handle.{Handle}
 use Rattle.hip_bytes.specs.Change.{IsPushed, IsRewritten, IsShortened, IsShrunk, PopAnswers}
 use Rattle.hip_bytes.specs.Cost.{clone_cost, cut_cost, owned_cost, shortened_cost, shrink_cost, write_cost, CutNeedsMemory, OwnNeedsMemory, PushNeedsMemory, WriteNeedsMemory}
 use Rattle.hip_bytes.specs.Join.{join_cost, repeat_cost, repeated_kind, RepeatNeedsMemory}
@@ -17,44 +18,68 @@ use Rattle.hip_bytes.specs.Meter.{times_copied}
 use Rattle.hip_bytes.specs.Range.{slice_fault, slice_of}
 use Rattle.hip_bytes.specs.declared.kind.Kind.TheVariants.{Inline as inline_kind, Borrowed as borrowed_kind, Allocated as allocated_kind}
 use Rattle.hip_bytes.specs.declared.kind.TheConstants.{INLINE_CAPACITY}
-use Rattle.hip_bytes.specs.declared.slice_error.SliceErrorKind.{SliceErrorKind}
-use Rattle.hip_bytes.specs.declared.slice_error.SliceErrorKind.TheVariants.{StartGreaterThanEnd as start_greater, StartOutOfBounds as start_out, EndOutOfBounds as end_out}
-use Rattle.hipstr.specs.Slot.{slot_at, empty_slot, Replaces}
+use Rattle.hip_text.specs.Boundary.{is_boundary}
+use Rattle.hip_text.specs.Change.{PopCharAnswers}
+use Rattle.hip_text.specs.Slice.{text_slice_fault}
+use Rattle.hipstr.specs.Reason.{reason_of, text_reason_of}
+use Rattle.hipstr.specs.Slot.{SlotState, empty_slot, slot_at, text_at, Replaces}
 use Rattle.hipstr.specs.declared.command.Command.{Command}
-use Rattle.hipstr.specs.declared.command.Command.TheVariants.{New, Inline, Borrow, Copy, Room, Clone, Slice, Push, Pop, Truncate, Clear, Shrink, Upper, Lower, Set, Repeat, Join, Mutate, Owned, Compare, Len, Kind, Capacity}
+use Rattle.hipstr.specs.declared.command.Command.TheVariants.{New, Inline, Borrow, Copy, Room, Clone, Slice, Push, Pop, Truncate, Clear, Shrink, Upper, Lower, Set, Repeat, Join, Mutate, Owned, Text, Bytes, Compare, Len, Kind, Capacity}
 use Rattle.hipstr.specs.declared.command.Answer.{Answer}
-use Rattle.hipstr.specs.declared.command.Answer.TheVariants.{Done, Nothing, Number, Order, Byte, Kind as KindOf, Refused}
+use Rattle.hipstr.specs.declared.command.Answer.TheVariants.{Done, Nothing, Number, Order, Byte, Char, Kind as KindOf, Refused}
 use Rattle.hipstr.specs.declared.command.Reason.{Reason}
-use Rattle.hipstr.specs.declared.command.Reason.TheVariants.{NoSlot, TooLong, StartGreaterThanEnd, StartOutOfBounds, EndOutOfBounds, OutOfRange, Memory}
+use Rattle.hipstr.specs.declared.command.Reason.TheVariants.{NoSlot, NotText, NotBytes, NotUtf8, TooLong, StartGreaterThanEnd, StartOutOfBounds, EndOutOfBounds, StartNotACharBoundary, EndNotACharBoundary, OutOfRange, Memory}
 
 -- a slot that isn't there
-abbrev pub slot_fault : List Handle → ℕ → Option Reason
+abbrev pub slot_fault : List SlotState → ℕ → Option Reason
 slot_fault slots i = if nat_lt i (length slots) then None else Some NoSlot
 
--- a range's fault as a reason
-abbrev pub reason_of : SliceErrorKind → Reason
-reason_of start_greater = StartGreaterThanEnd
-reason_of start_out = StartOutOfBounds
-reason_of end_out = EndOutOfBounds
+-- a range that the slot doesn't have, which for a text has to begin and end at boundaries
+abbrev pub range_fault : List SlotState → ℕ → Bound ℕ → Bound ℕ → Option Reason
+range_fault slots s low high =
+    if text_at slots s
+    then option_map text_reason_of (text_slice_fault low high (slot_at slots s).items)
+    else option_map reason_of (slice_fault low high (length (slot_at slots s).items))
+
+-- a slot that is a text, or is none, where the command is for the other
+abbrev pub not_bytes_fault : List SlotState → ℕ → Option Reason
+not_bytes_fault slots t = if text_at slots t then Some NotBytes else None
+
+abbrev pub not_text_fault : List SlotState → ℕ → Option Reason
+not_text_fault slots t = if text_at slots t then None else Some NotText
+
+-- bytes that are no text
+abbrev pub utf8_fault : List ℕ → Option Reason
+utf8_fault bytes = if is_utf8 bytes then None else Some NotUtf8
+
+-- an addition to a text that is none
+abbrev pub addition_fault : List SlotState → ℕ → List ℕ → Option Reason
+addition_fault slots t bytes = if text_at slots t then utf8_fault bytes else None
+
+-- a text that is to end within a character
+abbrev pub end_fault : List SlotState → ℕ → ℕ → Option Reason
+end_fault slots t n =
+    if text_at slots t && nat_le n (length (slot_at slots t).items) && not (is_boundary (slot_at slots t).items n)
+    then Some EndNotACharBoundary else None
 
 -- a length that is no `usize`
 abbrev pub length_fault : ℕ → Option Reason
 length_fault len = if nat_lt len (2 ^ 64) then None else Some TooLong
 
 -- slots that aren't all there
-abbrev pub slots_fault : List Handle → ℕ → ℕ → Option Reason
+abbrev pub slots_fault : List SlotState → ℕ → ℕ → Option Reason
 slots_fault slots first count = if nat_le (first + count) (length slots) then None else Some NoSlot
 
 -- the items of a slot
-abbrev pub items_of : Handle → List ℕ
-items_of slot = slot.items
+abbrev pub items_of : SlotState → List ℕ
+items_of slot = slot.handle.items
 
 -- the items of `count` slots from `first` on, with the separator between each two
-abbrev pub joined_slots : List Handle → ℕ → ℕ → List ℕ → List ℕ
+abbrev pub joined_slots : List SlotState → ℕ → ℕ → List ℕ → List ℕ
 joined_slots slots first count sep = join_by items_of sep (take count (drop first slots))
 
 -- why the command is refused whatever memory there is: the first reason, or none
-abbrev pub fault_of : List Handle → Command → Option Reason
+abbrev pub fault_of : List SlotState → Command → Option Reason
 fault_of slots (New t) = slot_fault slots t
 fault_of slots (Inline t bytes) =
     option_or (slot_fault slots t) (if nat_le (length bytes.now) INLINE_CAPACITY then None else Some TooLong)
@@ -63,31 +88,34 @@ fault_of slots (Copy t bytes) = slot_fault slots t
 fault_of slots (Room t capacity) = slot_fault slots t
 fault_of slots (Clone s t) = option_or (slot_fault slots s) (slot_fault slots t)
 fault_of slots (Slice s t low high) =
-    option_or (slot_fault slots s) (option_or (slot_fault slots t)
-    (option_map reason_of (slice_fault low high (length (slot_at slots s).items))))
-fault_of slots (Push t bytes) = slot_fault slots t
+    option_or (slot_fault slots s) (option_or (slot_fault slots t) (range_fault slots s low high))
+fault_of slots (Push t bytes) = option_or (slot_fault slots t) (addition_fault slots t bytes.now)
 fault_of slots (Pop t) = slot_fault slots t
-fault_of slots (Truncate t n) = slot_fault slots t
+fault_of slots (Truncate t n) = option_or (slot_fault slots t) (end_fault slots t n)
 fault_of slots (Clear t) = slot_fault slots t
 fault_of slots (Shrink t least) = slot_fault slots t
 fault_of slots (Upper t) = slot_fault slots t
 fault_of slots (Lower t) = slot_fault slots t
 fault_of slots (Set t i byte) =
-    option_or (slot_fault slots t) (if nat_lt i (length (slot_at slots t).items) then None else Some OutOfRange)
+    option_or (slot_fault slots t) (option_or (not_bytes_fault slots t)
+    (if nat_lt i (length (slot_at slots t).items) then None else Some OutOfRange))
 fault_of slots (Repeat s t n) =
     option_or (slot_fault slots s) (option_or (slot_fault slots t) (length_fault (n * length (slot_at slots s).items)))
 fault_of slots (Join first count sep t) =
     option_or (slots_fault slots first count) (option_or (slot_fault slots t)
     (length_fault (length (joined_slots slots first count sep.now))))
-fault_of slots (Mutate t bytes) = slot_fault slots t
+fault_of slots (Mutate t bytes) = option_or (slot_fault slots t) (addition_fault slots t bytes.now)
 fault_of slots (Owned t) = slot_fault slots t
+fault_of slots (Text t) =
+    option_or (slot_fault slots t) (option_or (not_bytes_fault slots t) (utf8_fault (slot_at slots t).items))
+fault_of slots (Bytes t) = option_or (slot_fault slots t) (not_text_fault slots t)
 fault_of slots (Compare s t) = option_or (slot_fault slots s) (slot_fault slots t)
 fault_of slots (Len t) = slot_fault slots t
 fault_of slots (Kind t) = slot_fault slots t
 fault_of slots (Capacity t) = slot_fault slots t
 
 -- a command without a fault may be refused for want of memory
-abbrev pub MayNeedMemory : Bool → List Handle → Command → Type 0
+abbrev pub MayNeedMemory : Bool → List SlotState → Command → Type 0
 MayNeedMemory shares slots (Copy t bytes) = INLINE_CAPACITY < length bytes.now
 MayNeedMemory shares slots (Room t capacity) = INLINE_CAPACITY < capacity
 MayNeedMemory shares slots (Clone s t) = (slot_at slots s).kind ≡ allocated_kind
@@ -106,45 +134,50 @@ MayNeedMemory shares slots command = ⊥
 
 -- A command that has no fault may give this answer and go on from the old slots to the new. Each case names the slot that it
 -- changes, its target; every other slot is as it was.
-abbrev pub Performs : Bool → List Handle → Command → Answer → List Handle → Type 0
+abbrev pub Performs : Bool → List SlotState → Command → Answer → List SlotState → Type 0
 -- A refused Mutate leaves its target as it was, or with its old items by length, or empty: never with half of the addition.
 Performs shares old (Mutate t bytes) (Refused Memory) new =
-    (new ≡ old) ⊎ (Replaces old new t (λ slot. HoldsByLength slot (slot_at old t).items) ⊎ Replaces old new t IsEmptyInline)
+    (new ≡ old) ⊎ (Replaces old new t (text_at old t) (λ slot. HoldsByLength slot (slot_at old t).items) ⊎ Replaces old new t (text_at old t) IsEmptyInline)
 Performs shares old command (Refused Memory) new = MayNeedMemory shares old command × (new ≡ old)
-Performs shares old (New t) Done new = Replaces old new t IsEmptyInline
-Performs shares old (Inline t bytes) Done new = Replaces old new t (λ slot. Holds slot inline_kind bytes.now)
-Performs shares old (Borrow t bytes) Done new = Replaces old new t (λ slot. Holds slot borrowed_kind bytes.now)
-Performs shares old (Copy t bytes) Done new = Replaces old new t (λ slot. HoldsByLength slot bytes.now)
-Performs shares old (Room t capacity) Done new = Replaces old new t (λ slot. Holds slot (by_length capacity) [] × (capacity ≤ slot.capacity))
+Performs shares old (New t) Done new = Replaces old new t false IsEmptyInline
+Performs shares old (Inline t bytes) Done new = Replaces old new t false (λ slot. Holds slot inline_kind bytes.now)
+Performs shares old (Borrow t bytes) Done new = Replaces old new t false (λ slot. Holds slot borrowed_kind bytes.now)
+Performs shares old (Copy t bytes) Done new = Replaces old new t false (λ slot. HoldsByLength slot bytes.now)
+Performs shares old (Room t capacity) Done new = Replaces old new t false (λ slot. Holds slot (by_length capacity) [] × (capacity ≤ slot.capacity))
 Performs shares old (Clone s t) Done new =
     let source = slot_at old s in
-    Replaces old new t (λ slot. Holds slot source.kind source.items)
+    Replaces old new t (text_at old s) (λ slot. Holds slot source.kind source.items)
 Performs shares old (Slice s t low high) Done new =
     let source = slot_at old s in
-    Replaces old new t (λ slot. IsPart source slot (slice_of low high source.items))
-Performs shares old (Push t bytes) Done new = Replaces old new t (λ slot. IsPushed shares (slot_at old t) slot bytes.now)
-Performs shares old (Pop t) (Byte byte) new = Replaces old new t (λ slot. PopAnswers (slot_at old t) (Some byte) slot)
+    Replaces old new t (text_at old s) (λ slot. IsPart source slot (slice_of low high source.items))
+Performs shares old (Push t bytes) Done new = Replaces old new t (text_at old t) (λ slot. IsPushed shares (slot_at old t) slot bytes.now)
+Performs shares old (Pop t) (Byte byte) new =
+    (text_at old t ≡ false) × Replaces old new t false (λ slot. PopAnswers (slot_at old t) (Some byte) slot)
+Performs shares old (Pop t) (Char c) new =
+    (text_at old t ≡ true) × Replaces old new t true (λ slot. PopCharAnswers (slot_at old t) (Some c) slot)
 Performs shares old (Pop t) Nothing new = ((slot_at old t).items ≡ []) × (new ≡ old)
-Performs shares old (Truncate t n) Done new = Replaces old new t (λ slot. IsShortened (slot_at old t) slot n)
-Performs shares old (Clear t) Done new = Replaces old new t (λ slot. IsShortened (slot_at old t) slot 0)
+Performs shares old (Truncate t n) Done new = Replaces old new t (text_at old t) (λ slot. IsShortened (slot_at old t) slot n)
+Performs shares old (Clear t) Done new = Replaces old new t (text_at old t) (λ slot. IsShortened (slot_at old t) slot 0)
 Performs shares old (Shrink t least) Done new =
     let target = slot_at old t in
-    Replaces old new t (λ slot. IsShrunk target slot (max least (length target.items)))
+    Replaces old new t (text_at old t) (λ slot. IsShrunk target slot (max least (length target.items)))
 Performs shares old (Upper t) Done new =
     let target = slot_at old t in
-    Replaces old new t (λ slot. IsRewritten shares target slot (map to_ascii_uppercase target.items))
+    Replaces old new t (text_at old t) (λ slot. IsRewritten shares target slot (map to_ascii_uppercase target.items))
 Performs shares old (Lower t) Done new =
     let target = slot_at old t in
-    Replaces old new t (λ slot. IsRewritten shares target slot (map to_ascii_lowercase target.items))
+    Replaces old new t (text_at old t) (λ slot. IsRewritten shares target slot (map to_ascii_lowercase target.items))
 Performs shares old (Set t i byte) Done new =
     let target = slot_at old t in
-    Replaces old new t (λ slot. IsRewritten shares target slot (slice_set target.items i byte))
+    Replaces old new t false (λ slot. IsRewritten shares target slot (slice_set target.items i byte))
 Performs shares old (Repeat s t n) Done new =
     let source = slot_at old s in
-    Replaces old new t (λ slot. Holds slot (repeated_kind source.kind (length source.items) n) (repeat n source.items))
-Performs shares old (Join first count sep t) Done new = Replaces old new t (λ slot. HoldsByLength slot (joined_slots old first count sep.now))
-Performs shares old (Mutate t bytes) Done new = Replaces old new t (λ slot. HoldsByLength slot ((slot_at old t).items ++ bytes.now))
-Performs shares old (Owned t) Done new = Replaces old new t (λ slot. IsOwned (slot_at old t) slot)
+    Replaces old new t (text_at old s) (λ slot. Holds slot (repeated_kind source.kind (length source.items) n) (repeat n source.items))
+Performs shares old (Join first count sep t) Done new = Replaces old new t false (λ slot. HoldsByLength slot (joined_slots old first count sep.now))
+Performs shares old (Mutate t bytes) Done new = Replaces old new t (text_at old t) (λ slot. HoldsByLength slot ((slot_at old t).items ++ bytes.now))
+Performs shares old (Owned t) Done new = Replaces old new t (text_at old t) (λ slot. IsOwned (slot_at old t) slot)
+Performs shares old (Text t) Done new = Replaces old new t true (λ slot. slot ≡ slot_at old t)
+Performs shares old (Bytes t) Done new = Replaces old new t false (λ slot. slot ≡ slot_at old t)
 Performs shares old (Compare s t) (Order order) new = (order ≡ slice_cmp nat_cmp (slot_at old s).items (slot_at old t).items) × (new ≡ old)
 Performs shares old (Len t) (Number n) new = (n ≡ length (slot_at old t).items) × (new ≡ old)
 Performs shares old (Kind t) (KindOf kind) new = (kind ≡ (slot_at old t).kind) × (new ≡ old)
@@ -153,12 +186,12 @@ Performs shares old (Capacity t) (Number n) new = (n ≡ (slot_at old t).capacit
 Performs shares old command answer new = ⊥
 
 -- One step: a command with a fault answers it and changes nothing, any other is performed.
-abbrev pub Step : Bool → List Handle → Command → Answer → List Handle → Type 0
+abbrev pub Step : Bool → List SlotState → Command → Answer → List SlotState → Type 0
 Step shares old command answer new =
     MatchOption (fault_of old command) (Performs shares old command answer new) (λ reason. (answer ≡ Refused reason) × (new ≡ old))
 
 -- how many bytes a command without a fault copies at most
-abbrev pub copies_of : Bool → List Handle → Command → ℕ
+abbrev pub copies_of : Bool → List SlotState → Command → ℕ
 copies_of shares slots (Inline t bytes) = length bytes.now
 copies_of shares slots (Copy t bytes) = times_copied shares (length bytes.now)
 copies_of shares slots (Clone s t) = clone_cost shares (slot_at slots s).kind (length (slot_at slots s).items)
@@ -181,7 +214,7 @@ copies_of shares slots (Owned t) = owned_cost shares (slot_at slots t).kind (len
 copies_of shares slots command = 0
 
 -- the cost of a command: how many bytes it copies at most; one with a fault copies none
-abbrev pub cost_of : Bool → List Handle → Command → ℕ
+abbrev pub cost_of : Bool → List SlotState → Command → ℕ
 cost_of shares slots command = if is_none (fault_of slots command) then copies_of shares slots command else 0
 
 -- of two faults the first is told: no slot 3, and `5..` of the empty list
@@ -192,8 +225,18 @@ pub then_the_range : fault_of (empty_slot ∷ []) (Slice 0 0 (Included 5) Unboun
 then_the_range = refl
 
 -- "ab" and an empty slot, with "-" between; from the end on there are no slots, and not one
-pub two_joined : joined_slots (record { kind = inline_kind; items = codes "ab"; capacity = INLINE_CAPACITY } ∷ empty_slot ∷ []) 0 2 (codes "-") ≡ codes "ab-"
+pub two_joined : joined_slots (record { is_text = true; handle = record { kind = inline_kind; items = codes "ab"; capacity = INLINE_CAPACITY } } ∷ empty_slot ∷ []) 0 2 (codes "-") ≡ codes "ab-"
 two_joined = refl
 
 pub none_at_the_end : (slots_fault (empty_slot ∷ []) 1 0 ≡ None) × (slots_fault (empty_slot ∷ []) 1 1 ≡ Some NoSlot)
 none_at_the_end = (refl, refl)
+
+-- a byte is set in bytes alone, whatever the position; `é` isn't cut in two
+pub a_text : List SlotState
+a_text = record { is_text = true; handle = record { kind = inline_kind; items = 195 ∷ 169 ∷ []; capacity = INLINE_CAPACITY } } ∷ []
+
+pub not_bytes_first : fault_of a_text (Set 0 5 65) ≡ Some NotBytes
+not_bytes_first = refl
+
+pub never_within : (fault_of a_text (Truncate 0 1) ≡ Some EndNotACharBoundary) × (fault_of a_text (Truncate 0 3) ≡ None)
+never_within = (refl, refl)

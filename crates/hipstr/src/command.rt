@@ -1,4 +1,8 @@
-use hip_bytes::{Kind, SliceErrorKind};
+use crate::bytes;
+use crate::bytes::{GrowFault, Kind};
+use crate::string;
+use hip_bytes::Backend;
+use std::alloc::AllocError;
 use std::cmp::Ordering;
 use std::ops::Bound;
 
@@ -21,7 +25,7 @@ pub enum Command<'b> {
     Slice(usize, usize, Bound<usize>, Bound<usize>),
     /// The bytes are added at the slot's end.
     Push(usize, &'b [u8]),
-    /// The slot's last byte is taken off, and answered.
+    /// The slot's last byte, or a text's last character, is taken off, and answered.
     Pop(usize),
     /// The slot keeps its first items, as many as are told.
     Truncate(usize, usize),
@@ -43,6 +47,10 @@ pub enum Command<'b> {
     Mutate(usize, &'b [u8]),
     /// The slot stops borrowing.
     Owned(usize),
+    /// The slot becomes a text, with the same bytes in the same handle.
+    Text(usize),
+    /// The slot becomes bytes again.
+    Bytes(usize),
     /// The order of the bytes of two slots.
     Compare(usize, usize),
     /// The number of the slot's bytes.
@@ -66,6 +74,8 @@ pub enum Answer {
     Order(Ordering),
     /// The byte that was taken off.
     Byte(u8),
+    /// The character that was taken off.
+    Char(char),
     /// The kind that was asked for.
     Kind(Kind),
     /// It was refused.
@@ -77,6 +87,12 @@ pub enum Answer {
 pub enum Reason {
     /// A slot isn't there.
     NoSlot,
+    /// The slot is bytes.
+    NotText,
+    /// The slot is a text.
+    NotBytes,
+    /// The bytes aren't UTF-8.
+    NotUtf8,
     /// The bytes are too many for a handle itself, or for any list.
     TooLong,
     /// The range's start comes after its end.
@@ -85,23 +101,97 @@ pub enum Reason {
     StartOutOfBounds,
     /// The range's end is past the length.
     EndOutOfBounds,
+    /// The range of a text begins within a character.
+    StartNotACharBoundary,
+    /// The range of a text, or what is to be kept of it, ends within a character.
+    EndNotACharBoundary,
     /// The position is past the items.
     OutOfRange,
     /// Memory ran out, or an owner couldn't be shared once more.
     Memory,
 }
 
-impl From<SliceErrorKind> for Reason {
+impl From<bytes::SliceErrorKind> for Reason {
     ghost use Rattle.std.specs.Prelude.{◌≡◌};
-    ghost use Rattle.hipstr.specs.Step.{reason_of};
+    ghost use Rattle.hipstr.specs.Reason.{reason_of};
 
     ghost from_gives = { λ kind reason. reason ≡ reason_of kind };
 
-    fn from(kind: SliceErrorKind) -> Reason {
+    fn from(kind: bytes::SliceErrorKind) -> Reason {
         match kind {
-            SliceErrorKind::StartGreaterThanEnd => Reason::StartGreaterThanEnd,
-            SliceErrorKind::StartOutOfBounds => Reason::StartOutOfBounds,
-            SliceErrorKind::EndOutOfBounds => Reason::EndOutOfBounds,
+            bytes::SliceErrorKind::StartGreaterThanEnd => Reason::StartGreaterThanEnd,
+            bytes::SliceErrorKind::StartOutOfBounds => Reason::StartOutOfBounds,
+            bytes::SliceErrorKind::EndOutOfBounds => Reason::EndOutOfBounds,
         }
+    }
+}
+
+impl From<string::SliceErrorKind> for Reason {
+    ghost use Rattle.std.specs.Prelude.{◌≡◌};
+    ghost use Rattle.hipstr.specs.Reason.{text_reason_of};
+
+    ghost from_gives = { λ kind reason. reason ≡ text_reason_of kind };
+
+    fn from(kind: string::SliceErrorKind) -> Reason {
+        match kind {
+            string::SliceErrorKind::StartGreaterThanEnd => Reason::StartGreaterThanEnd,
+            string::SliceErrorKind::StartOutOfBounds => Reason::StartOutOfBounds,
+            string::SliceErrorKind::EndOutOfBounds => Reason::EndOutOfBounds,
+            string::SliceErrorKind::StartNotACharBoundary => Reason::StartNotACharBoundary,
+            string::SliceErrorKind::EndNotACharBoundary => Reason::EndNotACharBoundary,
+        }
+    }
+}
+
+impl<'a, 'b, B: Backend> From<bytes::SliceRefusal<'a, 'b, B>> for Reason {
+    ghost use Rattle.std.specs.Prelude.{◌≡◌};
+    ghost use Rattle.hipstr.specs.Reason.{bytes_refusal};
+
+    ghost from_gives = { λ refusal reason. reason ≡ bytes_refusal refusal };
+
+    fn from(refusal: bytes::SliceRefusal<'a, 'b, B>) -> Reason {
+        match refusal {
+            bytes::SliceRefusal::Slice(error) => Reason::from(error.kind()),
+            bytes::SliceRefusal::Memory => Reason::Memory,
+        }
+    }
+}
+
+impl<'a, 'b, B: Backend> From<string::SliceRefusal<'a, 'b, B>> for Reason {
+    ghost use Rattle.std.specs.Prelude.{◌≡◌};
+    ghost use Rattle.hipstr.specs.Reason.{text_refusal};
+
+    ghost from_gives = { λ refusal reason. reason ≡ text_refusal refusal };
+
+    fn from(refusal: string::SliceRefusal<'a, 'b, B>) -> Reason {
+        match refusal {
+            string::SliceRefusal::Slice(error) => Reason::from(error.kind()),
+            string::SliceRefusal::Memory => Reason::Memory,
+        }
+    }
+}
+
+impl From<GrowFault> for Reason {
+    ghost use Rattle.std.specs.Prelude.{◌≡◌};
+    ghost use Rattle.hipstr.specs.Reason.{grow_reason_of};
+
+    ghost from_gives = { λ fault reason. reason ≡ grow_reason_of fault };
+
+    fn from(fault: GrowFault) -> Reason {
+        match fault {
+            GrowFault::TooLong => Reason::TooLong,
+            GrowFault::Memory => Reason::Memory,
+        }
+    }
+}
+
+impl From<AllocError> for Reason {
+    ghost use Rattle.std.specs.Prelude.{◌≡◌};
+    ghost use Rattle.hipstr.specs.declared.command.Reason.TheVariants.{Memory};
+
+    ghost from_gives = { λ _ reason. reason ≡ Memory };
+
+    fn from(_refused: AllocError) -> Reason {
+        Reason::Memory
     }
 }

@@ -1,4 +1,4 @@
-//! Byte strings that are cheap to clone and to cut, ported from the Rust crate hipstr 0.8.0.
+//! Byte strings and texts that are cheap to clone and to cut, ported from the Rust crate hipstr 0.8.0.
 //!
 //! **A handle is a list with a kind and a capacity; a call is a step of the list machine within a cost.** [`Pool`] keeps many
 //! handles, and [`run`] performs a list of [`Command`]s on them. Its contract says that each [`Answer`] and every handle's bytes
@@ -6,7 +6,7 @@
 //! that no more bytes are copied than the run costs.
 //!
 //! [`bytes`] has the byte strings themselves, [`HipByt`](bytes::HipByt) generic in the [`Backend`]: owners are shared on [`Rc`],
-//! and not on [`Unique`]. Anyone may implement [`Backend`]; the names that this takes, and the three representations of a byte string
+//! and not on [`Unique`]. [`string`] has the texts, [`HipStr`](string::HipStr): byte strings that are UTF-8. Anyone may implement [`Backend`]; the names that this takes, and the three representations of a byte string
 //! ([`Inline`], [`Borrowed`], [`Allocated`]), are handed on here.
 //!
 //! What the clauses of `run` say in words is defined in `specs/`: `Slot` (the machine's state), `Step` (one command: its fault, its
@@ -17,9 +17,11 @@ pub mod bytes;
 mod command;
 mod machine;
 mod pool;
+pub mod string;
+mod text;
 
 pub use command::{Answer, Command, Reason};
-pub use hip_bytes::{
+pub use hip_text::{
     Allocated, Appended, Backend, Block, Borrowed, Inline, Kind, Meter, Rc, Room, Unique,
     copy_counted, fill_counted,
 };
@@ -30,4 +32,7 @@ pub use pool::{MAX_SLOTS, Pool, Slot};
 pub type Local = Rc;
 
 /// A byte string whose owners are shared in one thread.
-pub type LocalHipByt<'b> = hip_bytes::HipByt<'b, Rc>;
+pub type LocalHipByt<'b> = hip_text::HipByt<'b, Rc>;
+
+/// A text whose owners are shared in one thread.
+pub type LocalHipStr<'b> = hip_text::HipStr<'b, Rc>;

@@ -8,8 +8,8 @@ use crate::pool::Pool;
 use hip_bytes::{Backend, Meter};
 use std::alloc::{AllocError, Global};
 
-mod build;
 mod change;
+mod flag;
 mod join;
 mod make;
 mod tell;
@@ -21,7 +21,7 @@ impl<'b, B: Backend> Pool<'b, B> {
         ensures step { Step B.SHARES self.old command.entry result self.new }
         ensures counted { RisesAtMost meter.old meter.new (cost_of B.SHARES self.old command.entry) }
     {
-        match command {
+        let performed = match command {
             Command::New(t) => self.make_new(t),
             Command::Inline(t, bytes) => self.make_inline(t, bytes, meter),
             Command::Borrow(t, bytes) => self.make_borrowed(t, bytes),
@@ -43,11 +43,14 @@ impl<'b, B: Backend> Pool<'b, B> {
             }
             Command::Mutate(t, addition) => self.mutate(alloc, t, addition, meter),
             Command::Owned(t) => self.make_owned(alloc, t, meter),
+            Command::Text(t) => self.make_text(t),
+            Command::Bytes(t) => self.make_bytes(t),
             Command::Compare(s, t) => self.compare(s, t),
             Command::Len(t) => self.tell_len(t),
             Command::Kind(t) => self.tell_kind(t),
             Command::Capacity(t) => self.tell_capacity(t),
-        }
+        };
+        performed.unwrap_or_else(Answer::Refused)
     }
 }
 

@@ -1,7 +1,7 @@
 ghost use Rattle.std.specs.Prelude.{◌≡◌, ◌≤◌, ◌<◌, ◌==◌, ◌↔◌, replicate, length, slice_set, IfOk, IfSome, IsSome};
-ghost use Rattle.hipstr.specs.Slot.{state_of, slot_at, empty_slot};
+ghost use Rattle.hipstr.specs.Slot.{state_of, state_at, empty_slot};
 
-use hip_bytes::{Backend, HipByt, Kind};
+use hip_text::{Backend, HipByt, HipStr, Kind};
 use std::alloc::{AllocError, Global};
 use std::marker::Model;
 use std::mem;
@@ -14,26 +14,59 @@ pub const MAX_SLOTS: usize = 4096;
 pub enum Slot<'b, B: Backend> {
     /// A handle of bytes.
     Bytes(HipByt<'b, B>),
+    /// A handle of a text.
+    Text(HipStr<'b, B>),
 }
 
 impl<'b, B: Backend> Slot<'b, B> {
+    /// An empty slot of bytes.
+    pub(crate) fn empty() -> Self
+        ensures { state_of result ≡ empty_slot }
+    {
+        Slot::Bytes(HipByt::new())
+    }
+
+    /// Whether it is a text.
+    #[inline]
+    pub fn is_text(&self) -> bool
+        ensures text { result ≡ (state_of self.now).is_text }
+    {
+        match self {
+            Slot::Bytes(_) => false,
+            Slot::Text(_) => true,
+        }
+    }
+
     /// The slot's bytes.
     #[inline]
     pub fn as_bytes(&self) -> &[u8]
-        ensures items { result.now ≡ (state_of self.now).items }
+        ensures items { result.now ≡ (state_of self.now).handle.items }
     {
         match self {
-            Slot::Bytes(handle) => handle.as_slice(),
+            Slot::Bytes(bytes) => bytes.as_slice(),
+            Slot::Text(text) => text.as_bytes(),
         }
     }
 
     /// Where the slot's bytes lie.
     #[inline]
     pub fn kind(&self) -> Kind
-        ensures kind { result ≡ (state_of self.now).kind }
+        ensures kind { result ≡ (state_of self.now).handle.kind }
     {
         match self {
-            Slot::Bytes(handle) => handle.kind(),
+            Slot::Bytes(bytes) => bytes.kind(),
+            Slot::Text(text) => text.kind(),
+        }
+    }
+
+    /// How many bytes the slot can hold where they lie.
+    #[inline]
+    pub fn capacity(&self) -> usize
+        ensures capacity { result ≡ (state_of self.now).handle.capacity }
+    {
+        match self {
+            Slot::Bytes(bytes) => bytes.capacity(),
+            Slot::Text(text) => text.capacity(),
         }
     }
 }
@@ -46,10 +79,9 @@ pub struct Pool<'b, B: Backend> {
 
 impl<'b, B: Backend> Model for Pool<'b, B> {
     ghost use Rattle.std.specs.Prelude.{List, map};
-    ghost use Rattle.hip_bytes.specs.Handle.{Handle};
-    ghost use Rattle.hipstr.specs.Slot.{state_of};
+    ghost use Rattle.hipstr.specs.Slot.{SlotState, state_of};
 
-    ghost Value = { List Handle };
+    ghost Value = { List SlotState };
 
     ghost view = { λ p. map state_of p.slots.items };
 }
@@ -62,7 +94,7 @@ impl<'b, B: Backend> Pool<'b, B> {
     {
         let mut slots = Vec::with_capacity(alloc, count)?;
         for _ in 0..count {
-            slots.push(Slot::Bytes(HipByt::new()))?;
+            slots.push(Slot::empty())?;
         }
         Ok(Pool { slots })
     }
@@ -87,39 +119,36 @@ impl<'b, B: Backend> Pool<'b, B> {
     #[inline]
     pub fn slot(&self, i: usize) -> Option<&Slot<'b, B>>
         ensures found { IsSome result ↔ (i < length self.now) }
-        ensures slot { IfSome result (λ slot. state_of slot.now ≡ slot_at self.now i) }
+        ensures slot { IfSome result (λ slot. state_of slot.now ≡ state_at self.now i) }
     {
         self.slots.get(i)
     }
 
-    /// The handle at a position.
+    /// The slot at a position that is there.
     #[inline]
-    pub(crate) fn bytes(&self, i: usize) -> &HipByt<'b, B>
+    pub(crate) fn at(&self, i: usize) -> &Slot<'b, B>
         requires { i < length self.now }
-        ensures { result.now ≡ slot_at self.now i }
+        ensures { state_of result.now ≡ state_at self.now i }
     {
-        match &self.slots[i] {
-            Slot::Bytes(handle) => handle,
-        }
+        &self.slots[i]
     }
 
-    /// Takes the handle at a position, and leaves an empty one.
+    /// Takes the slot at a position, and leaves an empty one.
     #[inline]
-    pub(crate) fn take(&mut self, i: usize) -> HipByt<'b, B>
+    pub(crate) fn take(&mut self, i: usize) -> Slot<'b, B>
         requires { i < length self.old }
-        ensures taken { result ≡ slot_at self.old i }
+        ensures taken { state_of result ≡ state_at self.old i }
         ensures emptied { self.new ≡ slice_set self.old i empty_slot }
     {
-        let Slot::Bytes(handle) = mem::replace(&mut self.slots[i], Slot::Bytes(HipByt::new()));
-        handle
+        mem::replace(&mut self.slots[i], Slot::empty())
     }
 
-    /// Puts a handle in the place of the one at a position, which is dropped.
+    /// Puts a slot in the place of the one at a position, which is dropped.
     #[inline]
-    pub(crate) fn put(&mut self, i: usize, handle: HipByt<'b, B>)
+    pub(crate) fn put(&mut self, i: usize, slot: Slot<'b, B>)
         requires { i < length self.old }
-        ensures { self.new ≡ slice_set self.old i handle.entry }
+        ensures { self.new ≡ slice_set self.old i (state_of slot.entry) }
     {
-        self.slots[i] = Slot::Bytes(handle);
+        self.slots[i] = slot;
     }
 }

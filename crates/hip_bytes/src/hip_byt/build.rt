@@ -1,6 +1,6 @@
 //! Values that are made of others.
 ghost use Rattle.std.specs.Prelude.{◌≡◌, ◌≤◌, ◌<◌, ◌+◌, ◌*◌, ◌^◌, [], ◌++◌, nat_le, length, take, IfOk, IfErr, OnErr};
-ghost use Rattle.std.specs.List.{repeat};
+ghost use Rattle.std.specs.List.{join_by, repeat};
 ghost use Rattle.std.specs.Option.{SomeIff};
 ghost use Rattle.hip_raw.specs.Meter.{RisesAtMost};
 ghost use Rattle.hip_bytes.specs.Cost.{clone_cost};
@@ -12,6 +12,7 @@ use super::HipByt;
 use crate::gathering::Gathering;
 use crate::grow_fault::GrowFault;
 use crate::kind::INLINE_CAPACITY;
+use crate::piece::Piece;
 use hip_raw::{Backend, Filling, Inline, Meter};
 use std::alloc::{AllocError, Global};
 
@@ -85,12 +86,28 @@ impl<'b, B: Backend> HipByt<'b, B> {
         ensures counted { RisesAtMost meter.old meter.new (join_cost B.SHARES (length (joined sep.now slices.now))) }
         ensures refused_counts_none { result ≡ Err GrowFault.TooLong → meter.new ≡ meter.old }
     {
-        let Some(len) = joined_len(slices, sep) else {
+        Self::join_piece_slices_metered(alloc, slices, sep, meter)
+    }
+
+    /// [`HipByt::join_slices_metered`] of any pieces, of which the separator keeps what each does.
+    pub fn join_piece_slices_metered<P: Piece>(
+        alloc: Global,
+        pieces: &[P],
+        sep: &[u8],
+        meter: &mut Meter,
+    ) -> Result<Self, GrowFault>
+        requires separator { P.keeps sep.now }
+        ensures joined { JoinAnswers (join_by P.bytes sep.now pieces.now) result }
+        ensures kept { IfOk result (λ handle. P.keeps handle.items) }
+        ensures counted { RisesAtMost meter.old meter.new (join_cost B.SHARES (length (join_by P.bytes sep.now pieces.now))) }
+        ensures refused_counts_none { result ≡ Err GrowFault.TooLong → meter.new ≡ meter.old }
+    {
+        let Some(len) = joined_len(pieces, sep) else {
             return Err(GrowFault::TooLong);
         };
         // A meter of its own, since what was lent to a call that isn't inlined lies in memory.
         let mut apart = Meter::new();
-        let made = joined_within(alloc, slices, sep, len, &mut apart);
+        let made = joined_within(alloc, pieces, sep, len, &mut apart);
         meter.add(&apart);
         Ok(made?.finish(alloc, meter)?)
     }
@@ -105,42 +122,44 @@ fn gap(i: usize, sep: &[u8]) -> &[u8]
 }
 
 /// How many bytes a join has, if that is a `usize`.
-fn joined_len(slices: &[&[u8]], sep: &[u8]) -> Option<usize>
-    ensures { SomeIff result (length (joined sep.now slices.now) < 2 ^ 64) (length (joined sep.now slices.now)) }
+fn joined_len<P: Piece>(pieces: &[P], sep: &[u8]) -> Option<usize>
+    ensures { SomeIff result (length (join_by P.bytes sep.now pieces.now) < 2 ^ 64) (length (join_by P.bytes sep.now pieces.now)) }
 {
-    let mut len = slices.len().saturating_sub(1).checked_mul(sep.len())?;
-    for slice in slices {
-        len = len.checked_add(slice.len())?;
+    let mut len = pieces.len().saturating_sub(1).checked_mul(sep.len())?;
+    for piece in pieces {
+        len = len.checked_add(piece.as_piece().len())?;
     }
     Some(len)
 }
 
-/// The slices of a join, which are `len` bytes in all.
+/// The pieces of a join, which are `len` bytes in all.
 #[inline(always)]
-fn joined_within(
+fn joined_within<P: Piece>(
     alloc: Global,
-    slices: &[&[u8]],
+    pieces: &[P],
     sep: &[u8],
     len: usize,
     meter: &mut Meter,
 ) -> Result<Gathering, AllocError>
-    requires { len ≡ length (joined sep.now slices.now) }
-    ensures items { IfOk result (λ made. made.items ≡ joined sep.now slices.now) }
+    requires whole { len ≡ length (join_by P.bytes sep.now pieces.now) }
+    requires separator { P.keeps sep.now }
+    ensures items { IfOk result (λ made. made.items ≡ join_by P.bytes sep.now pieces.now) }
+    ensures kept { IfOk result (λ made. P.keeps made.items) }
     ensures place { IfOk result (λ made. made.in_handle ≡ nat_le len INLINE_CAPACITY) }
     ensures memory { OnErr result (INLINE_CAPACITY < len) }
     ensures counted { RisesAtMost meter.old meter.new len }
 {
     if len <= INLINE_CAPACITY {
         let mut inline = Inline::empty();
-        for (i, slice) in slices.iter().enumerate() {
+        for (i, piece) in pieces.iter().enumerate() {
             inline.push_slice_unchecked_metered(gap(i, sep), meter);
-            inline.push_slice_unchecked_metered(slice, meter);
+            inline.push_slice_unchecked_metered(piece.as_piece(), meter);
         }
         return Ok(Gathering::in_handle(inline));
     }
     let mut filling = Filling::with_capacity(alloc, len)?;
-    for (i, slice) in slices.iter().enumerate() {
-        filling.push_behind_within(gap(i, sep), slice, meter);
+    for (i, piece) in pieces.iter().enumerate() {
+        filling.push_behind_within(gap(i, sep), piece.as_piece(), meter);
     }
     Ok(Gathering::in_vector(filling))
 }

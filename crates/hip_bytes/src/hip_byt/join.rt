@@ -2,13 +2,15 @@
 ghost use Rattle.std.specs.Prelude.{◌≡◌, ◌≤◌, ◌<◌, ◌+◌, ◌^◌, [], nat_le, length, IfOk, OnErr};
 ghost use Rattle.std.specs.Iterator.{IsFinite};
 ghost use Rattle.hip_raw.specs.Meter.{RisesAtMost};
-ghost use Rattle.hip_bytes.specs.Join.{joined, GivesAll, GivesFirst};
+ghost use Rattle.std.specs.List.{join_by};
+ghost use Rattle.hip_bytes.specs.Join.{bytes_of, GivesAll, GivesFirst};
 ghost use Rattle.hip_bytes.specs.Made.{GatherAnswers, GatherCosts};
 ghost use Rattle.hip_bytes.specs.declared.kind.TheConstants.{INLINE_CAPACITY};
 
 use super::HipByt;
 use crate::gathering::Gathering;
 use crate::grow_fault::GrowFault;
+use crate::piece::Piece;
 use hip_raw::{Backend, Meter};
 use std::alloc::Global;
 
@@ -19,7 +21,7 @@ impl<'b, B: Backend> HipByt<'b, B> {
         pieces: I,
     ) -> Result<Self, GrowFault>
         requires { (it : I.IntoIter) → I.into_iter_gives pieces it → I.IntoIter.can_next it × IsFinite (I.IntoIter.remaining it) }
-        ensures joined { GatherAnswers I.into_iter_gives I.IntoIter.next_gives pieces [] result }
+        ensures joined { GatherAnswers bytes_of I.into_iter_gives I.IntoIter.next_gives pieces [] result }
     {
         Self::join(alloc, pieces, &[])
     }
@@ -31,8 +33,8 @@ impl<'b, B: Backend> HipByt<'b, B> {
         meter: &mut Meter,
     ) -> Result<Self, GrowFault>
         requires { (it : I.IntoIter) → I.into_iter_gives pieces it → I.IntoIter.can_next it × IsFinite (I.IntoIter.remaining it) }
-        ensures joined { GatherAnswers I.into_iter_gives I.IntoIter.next_gives pieces [] result }
-        ensures counted { GatherCosts B.SHARES I.into_iter_gives I.IntoIter.next_gives pieces [] result meter.old meter.new }
+        ensures joined { GatherAnswers bytes_of I.into_iter_gives I.IntoIter.next_gives pieces [] result }
+        ensures counted { GatherCosts B.SHARES bytes_of I.into_iter_gives I.IntoIter.next_gives pieces [] result meter.old meter.new }
     {
         Self::join_metered(alloc, pieces, &[], meter)
     }
@@ -44,7 +46,7 @@ impl<'b, B: Backend> HipByt<'b, B> {
         sep: &[u8],
     ) -> Result<Self, GrowFault>
         requires { (it : I.IntoIter) → I.into_iter_gives pieces it → I.IntoIter.can_next it × IsFinite (I.IntoIter.remaining it) }
-        ensures joined { GatherAnswers I.into_iter_gives I.IntoIter.next_gives pieces sep.now result }
+        ensures joined { GatherAnswers bytes_of I.into_iter_gives I.IntoIter.next_gives pieces sep.now result }
     {
         Self::join_metered(alloc, pieces, sep, &mut Meter::new())
     }
@@ -57,8 +59,24 @@ impl<'b, B: Backend> HipByt<'b, B> {
         meter: &mut Meter,
     ) -> Result<Self, GrowFault>
         requires { (it : I.IntoIter) → I.into_iter_gives pieces it → I.IntoIter.can_next it × IsFinite (I.IntoIter.remaining it) }
-        ensures joined { GatherAnswers I.into_iter_gives I.IntoIter.next_gives pieces sep.now result }
-        ensures counted { GatherCosts B.SHARES I.into_iter_gives I.IntoIter.next_gives pieces sep.now result meter.old meter.new }
+        ensures joined { GatherAnswers bytes_of I.into_iter_gives I.IntoIter.next_gives pieces sep.now result }
+        ensures counted { GatherCosts B.SHARES bytes_of I.into_iter_gives I.IntoIter.next_gives pieces sep.now result meter.old meter.new }
+    {
+        Self::join_pieces_metered(alloc, pieces, sep, meter)
+    }
+
+    /// [`HipByt::join_metered`] of any pieces, of which the separator keeps what each does.
+    pub fn join_pieces_metered<P: Piece, I: IntoIterator<Item = P>>(
+        alloc: Global,
+        pieces: I,
+        sep: &[u8],
+        meter: &mut Meter,
+    ) -> Result<Self, GrowFault>
+        requires finite { (it : I.IntoIter) → I.into_iter_gives pieces it → I.IntoIter.can_next it × IsFinite (I.IntoIter.remaining it) }
+        requires separator { P.keeps sep.now }
+        ensures joined { GatherAnswers P.bytes I.into_iter_gives I.IntoIter.next_gives pieces sep.now result }
+        ensures kept { IfOk result (λ handle. P.keeps handle.items) }
+        ensures counted { GatherCosts B.SHARES P.bytes I.into_iter_gives I.IntoIter.next_gives pieces sep.now result meter.old meter.new }
     {
         // A meter of its own, since what was lent to a call that isn't inlined lies in memory.
         let mut apart = Meter::new();
@@ -70,24 +88,26 @@ impl<'b, B: Backend> HipByt<'b, B> {
 
 /// The pieces, gathered with the separator between each two.
 #[inline(always)]
-fn gathered<'s, I: IntoIterator<Item = &'s [u8]>>(
+fn gathered<P: Piece, I: IntoIterator<Item = P>>(
     alloc: Global,
     pieces: I,
     sep: &[u8],
     meter: &mut Meter,
 ) -> Result<Gathering, GrowFault>
-    requires { (it : I.IntoIter) → I.into_iter_gives pieces it → I.IntoIter.can_next it × IsFinite (I.IntoIter.remaining it) }
-    ensures items { IfOk result (λ made. GivesAll I.into_iter_gives I.IntoIter.next_gives pieces (λ xs. made.items ≡ joined sep.now xs)) }
+    requires finite { (it : I.IntoIter) → I.into_iter_gives pieces it → I.IntoIter.can_next it × IsFinite (I.IntoIter.remaining it) }
+    requires separator { P.keeps sep.now }
+    ensures items { IfOk result (λ made. GivesAll I.into_iter_gives I.IntoIter.next_gives pieces (λ xs. made.items ≡ join_by P.bytes sep.now xs)) }
+    ensures kept { IfOk result (λ made. P.keeps made.items) }
     ensures place { IfOk result (λ made. made.in_handle ≡ nat_le (length made.items) INLINE_CAPACITY) }
-    ensures too_long { result ≡ Err GrowFault.TooLong → GivesFirst I.into_iter_gives I.IntoIter.next_gives pieces (λ xs. 2 ^ 64 ≤ length (joined sep.now xs)) }
-    ensures memory { result ≡ Err GrowFault.Memory → GivesFirst I.into_iter_gives I.IntoIter.next_gives pieces (λ xs. INLINE_CAPACITY < length (joined sep.now xs)) }
+    ensures too_long { result ≡ Err GrowFault.TooLong → GivesFirst I.into_iter_gives I.IntoIter.next_gives pieces (λ xs. 2 ^ 64 ≤ length (join_by P.bytes sep.now xs)) }
+    ensures memory { result ≡ Err GrowFault.Memory → GivesFirst I.into_iter_gives I.IntoIter.next_gives pieces (λ xs. INLINE_CAPACITY < length (join_by P.bytes sep.now xs)) }
     ensures counted { IfOk result (λ made. RisesAtMost meter.old meter.new (length made.items + INLINE_CAPACITY)) }
-    ensures refused_counts { OnErr result (GivesFirst I.into_iter_gives I.IntoIter.next_gives pieces (λ xs. RisesAtMost meter.old meter.new (length (joined sep.now xs) + INLINE_CAPACITY))) }
+    ensures refused_counts { OnErr result (GivesFirst I.into_iter_gives I.IntoIter.next_gives pieces (λ xs. RisesAtMost meter.old meter.new (length (join_by P.bytes sep.now xs) + INLINE_CAPACITY))) }
 {
     let mut made = Gathering::new();
     let mut gap: &[u8] = &[];
     for piece in pieces {
-        if let Err(fault) = made.add_behind(alloc, gap, piece, meter) {
+        if let Err(fault) = made.add_behind(alloc, gap, piece.as_piece(), meter) {
             return Err(fault);
         }
         gap = sep;

@@ -104,6 +104,7 @@ impl<'b, B: Backend> HipStr<'b, B> {
         ensures capacity { IfOk result (λ text. HasCapacity text.kind (length text.items) text.capacity) }
         ensures memory { OnErr result (INLINE_CAPACITY < length (cow_str_bytes cow.entry)) }
         ensures handed_back { IfErr result (λ back. cow_str_bytes back ≡ cow_str_bytes cow.entry) }
+        ensures stays_owned { IfErr result IsOwnedStr }
     {
         match cow {
             CowStr::Borrowed(text) => Ok(HipStr::borrowed(text)),

@@ -10,6 +10,7 @@ use crate::faults::BytesFault;
 use crate::from_utf8_error::FromUtf8Error;
 use bstr::ByteSlice;
 use hip_bytes::{Backend, HipByt};
+use simdutf8::is_utf8;
 use std::alloc::Global;
 use std::borrow::CowStr;
 use std::str;
@@ -49,14 +50,17 @@ impl<'b, B: Backend> HipStr<'b, B> {
     }
 
     /// A copy of these bytes, where they are UTF-8, which is tested first.
+    #[tactic(auto, using(crate::proofs::Texts::texts))]
     #[inline]
     pub fn try_from_slice(alloc: Global, bytes: &[u8]) -> Result<Self, BytesFault>
         ensures read { ReadAnswers bytes.now result }
     {
-        match str::from_utf8(bytes) {
-            Ok(text) => Ok(HipStr::from_str(alloc, text)?),
-            Err(_) => Err(BytesFault::NotUtf8),
+        if !is_utf8(bytes) {
+            return Err(BytesFault::NotUtf8);
         }
+        Ok(HipStr {
+            bytes: HipByt::from_slice(alloc, bytes)?,
+        })
     }
 
     /// The text of a vector, which is taken over where it is too long for the handle itself, where it is UTF-8, which is tested first. A
@@ -82,5 +86,8 @@ fn fault_of(bytes: &[u8]) -> Option<Utf8Error>
     ensures none { IfNone result (IsUtf8 bytes.now) }
     ensures some { IfSome result (λ error. ¬ (IsUtf8 bytes.now) × IsValidUpTo bytes.now (valid_up_to error)) }
 {
+    if is_utf8(bytes) {
+        return None;
+    }
     str::from_utf8(bytes).err()
 }

@@ -5,10 +5,11 @@ ghost use Rattle.hip_bytes.specs.Join.{gap_at, join_cost};
 ghost use Rattle.hip_bytes.specs.Kinds.{HoldsByLength};
 ghost use Rattle.hip_bytes.specs.Meter.{RisesAtMost};
 ghost use Rattle.hipstr.specs.declared.command.Command.{Command};
+ghost use Rattle.hipstr.specs.Reason.{answer_of};
 ghost use Rattle.hipstr.specs.Step.{Step, cost_of, items_of, joined_slots};
 
 use crate::command::{Answer, Reason};
-use crate::pool::Pool;
+use crate::pool::{Pool, Slot};
 use hip_bytes::{Backend, GrowFault, HipByt, Meter};
 use std::alloc::{AllocError, Global};
 
@@ -21,21 +22,16 @@ impl<'b, B: Backend> Pool<'b, B> {
         sep: &'b [u8],
         t: usize,
         meter: &mut Meter,
-    ) -> Answer
-        ensures step { Step B.SHARES self.old (Command.Join first count sep.entry t) result self.new }
+    ) -> Result<Answer, Reason>
+        ensures step { Step B.SHARES self.old (Command.Join first count sep.entry t) (answer_of result) self.new }
         ensures counted { RisesAtMost meter.old meter.new (cost_of B.SHARES self.old (Command.Join first count sep.entry t)) }
     {
         if !self.has_slots(first, count) || t >= self.len() {
-            return Answer::Refused(Reason::NoSlot);
+            return Err(Reason::NoSlot);
         }
-        match self.joined(alloc, first, count, sep, meter) {
-            Ok(handle) => {
-                self.put(t, handle);
-                Answer::Done
-            }
-            Err(GrowFault::TooLong) => Answer::Refused(Reason::TooLong),
-            Err(GrowFault::Memory) => Answer::Refused(Reason::Memory),
-        }
+        let handle = self.joined(alloc, first, count, sep, meter)?;
+        self.put(t, Slot::Bytes(handle));
+        Ok(Answer::Done)
     }
 
     /// Whether there are `count` slots from `first` on.
@@ -78,7 +74,7 @@ impl<'b, B: Backend> Pool<'b, B> {
         for i in 0..count {
             len = len
                 .checked_add(gap_len(i, sep))?
-                .checked_add(self.bytes(first + i).len())?;
+                .checked_add(self.at(first + i).as_bytes().len())?;
         }
         Some(len)
     }
@@ -91,7 +87,7 @@ impl<'b, B: Backend> Pool<'b, B> {
     {
         let mut pieces = Vec::with_capacity(alloc, count)?;
         for i in 0..count {
-            pieces.push(self.bytes(first + i).as_slice())?;
+            pieces.push(self.at(first + i).as_bytes())?;
         }
         Ok(pieces)
     }

@@ -1,49 +1,60 @@
 //! Commands that make a slot's value.
 ghost use Rattle.hip_bytes.specs.Meter.{RisesAtMost};
 ghost use Rattle.hipstr.specs.declared.command.Command.{Command};
+ghost use Rattle.hipstr.specs.Reason.{answer_of};
 ghost use Rattle.hipstr.specs.Step.{Step, cost_of};
 
 use crate::command::{Answer, Reason};
-use crate::pool::Pool;
-use hip_bytes::{Backend, HipByt, Meter, SliceRefusal};
-use std::alloc::{AllocError, Global};
+use crate::pool::{Pool, Slot};
+use hip_bytes::{Backend, HipByt, Meter};
+use std::alloc::Global;
 use std::ops::Bound;
 
 impl<'b, B: Backend> Pool<'b, B> {
-    pub(super) fn make_new(&mut self, t: usize) -> Answer
-        ensures step { Step B.SHARES self.old (Command.New t) result self.new }
+    pub(super) fn make_new(
+        &mut self,
+        t: usize,
+    ) -> Result<Answer, Reason>
+        ensures step { Step B.SHARES self.old (Command.New t) (answer_of result) self.new }
     {
         if t >= self.len() {
-            return Answer::Refused(Reason::NoSlot);
+            return Err(Reason::NoSlot);
         }
-        self.put(t, HipByt::new());
-        Answer::Done
+        self.put(t, Slot::empty());
+        Ok(Answer::Done)
     }
 
-    pub(super) fn make_inline(&mut self, t: usize, bytes: &'b [u8], meter: &mut Meter) -> Answer
-        ensures step { Step B.SHARES self.old (Command.Inline t bytes.entry) result self.new }
+    pub(super) fn make_inline(
+        &mut self,
+        t: usize,
+        bytes: &'b [u8],
+        meter: &mut Meter,
+    ) -> Result<Answer, Reason>
+        ensures step { Step B.SHARES self.old (Command.Inline t bytes.entry) (answer_of result) self.new }
         ensures counted { RisesAtMost meter.old meter.new (cost_of B.SHARES self.old (Command.Inline t bytes.entry)) }
     {
         if t >= self.len() {
-            return Answer::Refused(Reason::NoSlot);
+            return Err(Reason::NoSlot);
         }
-        match HipByt::try_inline_metered(bytes, meter) {
-            Some(handle) => {
-                self.put(t, handle);
-                Answer::Done
-            }
-            None => Answer::Refused(Reason::TooLong),
-        }
+        let Some(handle) = HipByt::try_inline_metered(bytes, meter) else {
+            return Err(Reason::TooLong);
+        };
+        self.put(t, Slot::Bytes(handle));
+        Ok(Answer::Done)
     }
 
-    pub(super) fn make_borrowed(&mut self, t: usize, bytes: &'b [u8]) -> Answer
-        ensures step { Step B.SHARES self.old (Command.Borrow t bytes.entry) result self.new }
+    pub(super) fn make_borrowed(
+        &mut self,
+        t: usize,
+        bytes: &'b [u8],
+    ) -> Result<Answer, Reason>
+        ensures step { Step B.SHARES self.old (Command.Borrow t bytes.entry) (answer_of result) self.new }
     {
         if t >= self.len() {
-            return Answer::Refused(Reason::NoSlot);
+            return Err(Reason::NoSlot);
         }
-        self.put(t, HipByt::borrowed(bytes));
-        Answer::Done
+        self.put(t, Slot::Bytes(HipByt::borrowed(bytes)));
+        Ok(Answer::Done)
     }
 
     pub(super) fn make_copy(
@@ -52,35 +63,32 @@ impl<'b, B: Backend> Pool<'b, B> {
         t: usize,
         bytes: &'b [u8],
         meter: &mut Meter,
-    ) -> Answer
-        ensures step { Step B.SHARES self.old (Command.Copy t bytes.entry) result self.new }
+    ) -> Result<Answer, Reason>
+        ensures step { Step B.SHARES self.old (Command.Copy t bytes.entry) (answer_of result) self.new }
         ensures counted { RisesAtMost meter.old meter.new (cost_of B.SHARES self.old (Command.Copy t bytes.entry)) }
     {
         if t >= self.len() {
-            return Answer::Refused(Reason::NoSlot);
+            return Err(Reason::NoSlot);
         }
-        match HipByt::from_slice_metered(alloc, bytes, meter) {
-            Ok(handle) => {
-                self.put(t, handle);
-                Answer::Done
-            }
-            Err(AllocError) => Answer::Refused(Reason::Memory),
-        }
+        let handle = HipByt::from_slice_metered(alloc, bytes, meter)?;
+        self.put(t, Slot::Bytes(handle));
+        Ok(Answer::Done)
     }
 
-    pub(super) fn make_room(&mut self, alloc: Global, t: usize, capacity: usize) -> Answer
-        ensures step { Step B.SHARES self.old (Command.Room t capacity) result self.new }
+    pub(super) fn make_room(
+        &mut self,
+        alloc: Global,
+        t: usize,
+        capacity: usize,
+    ) -> Result<Answer, Reason>
+        ensures step { Step B.SHARES self.old (Command.Room t capacity) (answer_of result) self.new }
     {
         if t >= self.len() {
-            return Answer::Refused(Reason::NoSlot);
+            return Err(Reason::NoSlot);
         }
-        match HipByt::with_capacity(alloc, capacity) {
-            Ok(handle) => {
-                self.put(t, handle);
-                Answer::Done
-            }
-            Err(AllocError) => Answer::Refused(Reason::Memory),
-        }
+        let handle = HipByt::with_capacity(alloc, capacity)?;
+        self.put(t, Slot::Bytes(handle));
+        Ok(Answer::Done)
     }
 
     pub(super) fn make_clone(
@@ -89,20 +97,19 @@ impl<'b, B: Backend> Pool<'b, B> {
         s: usize,
         t: usize,
         meter: &mut Meter,
-    ) -> Answer
-        ensures step { Step B.SHARES self.old (Command.Clone s t) result self.new }
+    ) -> Result<Answer, Reason>
+        ensures step { Step B.SHARES self.old (Command.Clone s t) (answer_of result) self.new }
         ensures counted { RisesAtMost meter.old meter.new (cost_of B.SHARES self.old (Command.Clone s t)) }
     {
         if s >= self.len() || t >= self.len() {
-            return Answer::Refused(Reason::NoSlot);
+            return Err(Reason::NoSlot);
         }
-        match self.bytes(s).clone_metered(alloc, meter) {
-            Ok(handle) => {
-                self.put(t, handle);
-                Answer::Done
-            }
-            Err(AllocError) => Answer::Refused(Reason::Memory),
-        }
+        let made = match self.at(s) {
+            Slot::Bytes(bytes) => Slot::Bytes(bytes.clone_metered(alloc, meter)?),
+            Slot::Text(text) => Slot::Text(text.clone_metered(alloc, meter)?),
+        };
+        self.put(t, made);
+        Ok(Answer::Done)
     }
 
     pub(super) fn make_slice(
@@ -113,23 +120,40 @@ impl<'b, B: Backend> Pool<'b, B> {
         low: Bound<usize>,
         high: Bound<usize>,
         meter: &mut Meter,
-    ) -> Answer
-        ensures step { Step B.SHARES self.old (Command.Slice s t low high) result self.new }
+    ) -> Result<Answer, Reason>
+        ensures step { Step B.SHARES self.old (Command.Slice s t low high) (answer_of result) self.new }
         ensures counted { RisesAtMost meter.old meter.new (cost_of B.SHARES self.old (Command.Slice s t low high)) }
     {
         if s >= self.len() || t >= self.len() {
-            return Answer::Refused(Reason::NoSlot);
+            return Err(Reason::NoSlot);
         }
-        match self
-            .bytes(s)
-            .try_slice_bounds_metered(alloc, low, high, meter)
-        {
-            Ok(handle) => {
-                self.put(t, handle);
-                Answer::Done
-            }
-            Err(SliceRefusal::Slice(error)) => Answer::Refused(Reason::from(error.kind())),
-            Err(SliceRefusal::Memory) => Answer::Refused(Reason::Memory),
+        let made = match self.at(s) {
+            Slot::Bytes(bytes) => Slot::Bytes(bytes.try_slice_bounds_metered(alloc, low, high, meter)?),
+            Slot::Text(text) => Slot::Text(text.try_slice_bounds_metered(alloc, low, high, meter)?),
+        };
+        self.put(t, made);
+        Ok(Answer::Done)
+    }
+
+    pub(super) fn make_repeat(
+        &mut self,
+        alloc: Global,
+        s: usize,
+        t: usize,
+        n: usize,
+        meter: &mut Meter,
+    ) -> Result<Answer, Reason>
+        ensures step { Step B.SHARES self.old (Command.Repeat s t n) (answer_of result) self.new }
+        ensures counted { RisesAtMost meter.old meter.new (cost_of B.SHARES self.old (Command.Repeat s t n)) }
+    {
+        if s >= self.len() || t >= self.len() {
+            return Err(Reason::NoSlot);
         }
+        let made = match self.at(s) {
+            Slot::Bytes(bytes) => Slot::Bytes(bytes.repeat_metered(alloc, n, meter)?),
+            Slot::Text(text) => Slot::Text(text.repeat_metered(alloc, n, meter)?),
+        };
+        self.put(t, made);
+        Ok(Answer::Done)
     }
 }

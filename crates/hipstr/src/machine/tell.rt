@@ -1,5 +1,6 @@
 //! Commands that tell of a slot and change nothing.
 ghost use Rattle.hipstr.specs.declared.command.Command.{Command};
+ghost use Rattle.hipstr.specs.Reason.{answer_of};
 ghost use Rattle.hipstr.specs.Step.{Step};
 
 use crate::command::{Answer, Reason};
@@ -7,39 +8,41 @@ use crate::pool::Pool;
 use hip_bytes::Backend;
 
 impl<'b, B: Backend> Pool<'b, B> {
-    pub(super) fn tell_len(&self, t: usize) -> Answer
-        ensures step { Step B.SHARES self.now (Command.Len t) result self.now }
+    pub(super) fn tell_len(&self, t: usize) -> Result<Answer, Reason>
+        ensures step { Step B.SHARES self.now (Command.Len t) (answer_of result) self.now }
     {
         if t >= self.len() {
-            return Answer::Refused(Reason::NoSlot);
+            return Err(Reason::NoSlot);
         }
-        Answer::Number(self.bytes(t).len())
+        Ok(Answer::Number(self.at(t).as_bytes().len()))
     }
 
-    pub(super) fn tell_kind(&self, t: usize) -> Answer
-        ensures step { Step B.SHARES self.now (Command.Kind t) result self.now }
+    pub(super) fn tell_kind(&self, t: usize) -> Result<Answer, Reason>
+        ensures step { Step B.SHARES self.now (Command.Kind t) (answer_of result) self.now }
     {
         if t >= self.len() {
-            return Answer::Refused(Reason::NoSlot);
+            return Err(Reason::NoSlot);
         }
-        Answer::Kind(self.bytes(t).kind())
+        Ok(Answer::Kind(self.at(t).kind()))
     }
 
-    pub(super) fn tell_capacity(&self, t: usize) -> Answer
-        ensures step { Step B.SHARES self.now (Command.Capacity t) result self.now }
+    pub(super) fn tell_capacity(&self, t: usize) -> Result<Answer, Reason>
+        ensures step { Step B.SHARES self.now (Command.Capacity t) (answer_of result) self.now }
     {
         if t >= self.len() {
-            return Answer::Refused(Reason::NoSlot);
+            return Err(Reason::NoSlot);
         }
-        Answer::Number(self.bytes(t).capacity())
+        Ok(Answer::Number(self.at(t).capacity()))
     }
 
-    pub(super) fn compare(&self, s: usize, t: usize) -> Answer
-        ensures step { Step B.SHARES self.now (Command.Compare s t) result self.now }
+    pub(super) fn compare(&self, s: usize, t: usize) -> Result<Answer, Reason>
+        ensures step { Step B.SHARES self.now (Command.Compare s t) (answer_of result) self.now }
     {
         if s >= self.len() || t >= self.len() {
-            return Answer::Refused(Reason::NoSlot);
+            return Err(Reason::NoSlot);
         }
-        Answer::Order(self.bytes(s).cmp_slice(self.bytes(t).as_slice()))
+        Ok(Answer::Order(
+            self.at(s).as_bytes().cmp(self.at(t).as_bytes()),
+        ))
     }
 }

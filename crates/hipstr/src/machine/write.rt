@@ -1,47 +1,63 @@
 //! Commands that write over a slot's items.
 ghost use Rattle.std.specs.Prelude.{◌≡◌, ◌+◌, ◌++◌, ◌⊎◌, length, max, OnOk, OnErr};
+ghost use Rattle.std.specs.String.{string_bytes};
 ghost use Rattle.hip_bytes.specs.Meter.{RisesAtMost};
 ghost use Rattle.hipstr.specs.declared.command.Command.{Command};
+ghost use Rattle.hipstr.specs.Reason.{answer_of};
 ghost use Rattle.hipstr.specs.Step.{Step, cost_of};
 
 use crate::command::{Answer, Reason};
-use crate::pool::Pool;
+use crate::pool::{Pool, Slot};
+use crate::text::text_of;
 use hip_bytes::{Backend, Meter, RefMut, Source};
+use hip_text::TextSource;
 use std::alloc::{AllocError, Global};
 
 impl<'b, B: Backend> Pool<'b, B> {
     #[tactic(auto, using(crate::proofs::Places::put_back))]
-    pub(super) fn make_upper(&mut self, alloc: Global, t: usize, meter: &mut Meter) -> Answer
-        ensures step { Step B.SHARES self.old (Command.Upper t) result self.new }
+    pub(super) fn make_upper(
+        &mut self,
+        alloc: Global,
+        t: usize,
+        meter: &mut Meter,
+    ) -> Result<Answer, Reason>
+        ensures step { Step B.SHARES self.old (Command.Upper t) (answer_of result) self.new }
         ensures counted { RisesAtMost meter.old meter.new (cost_of B.SHARES self.old (Command.Upper t)) }
     {
         if t >= self.len() {
-            return Answer::Refused(Reason::NoSlot);
+            return Err(Reason::NoSlot);
         }
-        let mut handle = self.take(t);
-        let outcome = handle.make_ascii_uppercase_metered(alloc, meter);
-        self.put(t, handle);
-        match outcome {
-            Ok(()) => Answer::Done,
-            Err(AllocError) => Answer::Refused(Reason::Memory),
-        }
+        let mut slot = self.take(t);
+        let outcome = match &mut slot {
+            Slot::Bytes(bytes) => bytes.make_ascii_uppercase_metered(alloc, meter),
+            Slot::Text(text) => text.make_ascii_uppercase_metered(alloc, meter),
+        };
+        self.put(t, slot);
+        outcome?;
+        Ok(Answer::Done)
     }
 
     #[tactic(auto, using(crate::proofs::Places::put_back))]
-    pub(super) fn make_lower(&mut self, alloc: Global, t: usize, meter: &mut Meter) -> Answer
-        ensures step { Step B.SHARES self.old (Command.Lower t) result self.new }
+    pub(super) fn make_lower(
+        &mut self,
+        alloc: Global,
+        t: usize,
+        meter: &mut Meter,
+    ) -> Result<Answer, Reason>
+        ensures step { Step B.SHARES self.old (Command.Lower t) (answer_of result) self.new }
         ensures counted { RisesAtMost meter.old meter.new (cost_of B.SHARES self.old (Command.Lower t)) }
     {
         if t >= self.len() {
-            return Answer::Refused(Reason::NoSlot);
+            return Err(Reason::NoSlot);
         }
-        let mut handle = self.take(t);
-        let outcome = handle.make_ascii_lowercase_metered(alloc, meter);
-        self.put(t, handle);
-        match outcome {
-            Ok(()) => Answer::Done,
-            Err(AllocError) => Answer::Refused(Reason::Memory),
-        }
+        let mut slot = self.take(t);
+        let outcome = match &mut slot {
+            Slot::Bytes(bytes) => bytes.make_ascii_lowercase_metered(alloc, meter),
+            Slot::Text(text) => text.make_ascii_lowercase_metered(alloc, meter),
+        };
+        self.put(t, slot);
+        outcome?;
+        Ok(Answer::Done)
     }
 
     #[tactic(auto, using(crate::proofs::Places::put_back))]
@@ -52,66 +68,56 @@ impl<'b, B: Backend> Pool<'b, B> {
         i: usize,
         byte: u8,
         meter: &mut Meter,
-    ) -> Answer
-        ensures step { Step B.SHARES self.old (Command.Set t i byte) result self.new }
+    ) -> Result<Answer, Reason>
+        ensures step { Step B.SHARES self.old (Command.Set t i byte) (answer_of result) self.new }
         ensures counted { RisesAtMost meter.old meter.new (cost_of B.SHARES self.old (Command.Set t i byte)) }
     {
         if t >= self.len() {
-            return Answer::Refused(Reason::NoSlot);
+            return Err(Reason::NoSlot);
         }
-        if i >= self.bytes(t).len() {
-            return Answer::Refused(Reason::OutOfRange);
-        }
-        let mut handle = self.take(t);
-        let outcome = handle.with_to_mut_slice_metered(alloc, |bytes| bytes[i] = byte, meter);
-        self.put(t, handle);
-        match outcome {
-            Ok(()) => Answer::Done,
-            Err(AllocError) => Answer::Refused(Reason::Memory),
+        match self.take(t) {
+            Slot::Bytes(mut bytes) => {
+                if i >= bytes.len() {
+                    self.put(t, Slot::Bytes(bytes));
+                    return Err(Reason::OutOfRange);
+                }
+                let outcome = bytes.with_to_mut_slice_metered(alloc, |bytes| bytes[i] = byte, meter);
+                self.put(t, Slot::Bytes(bytes));
+                outcome?;
+                Ok(Answer::Done)
+            }
+            text => {
+                self.put(t, text);
+                Err(Reason::NotBytes)
+            }
         }
     }
 
     #[tactic(auto, using(crate::proofs::Places::put_back))]
-    pub(super) fn shrink(
+    pub(super) fn make_owned(
         &mut self,
         alloc: Global,
         t: usize,
-        least: usize,
         meter: &mut Meter,
-    ) -> Answer
-        ensures step { Step B.SHARES self.old (Command.Shrink t least) result self.new }
-        ensures counted { RisesAtMost meter.old meter.new (cost_of B.SHARES self.old (Command.Shrink t least)) }
-    {
-        if t >= self.len() {
-            return Answer::Refused(Reason::NoSlot);
-        }
-        let mut handle = self.take(t);
-        let outcome = handle.shrink_to_metered(alloc, least, meter);
-        self.put(t, handle);
-        match outcome {
-            Ok(()) => Answer::Done,
-            Err(AllocError) => Answer::Refused(Reason::Memory),
-        }
-    }
-
-    #[tactic(auto, using(crate::proofs::Places::put_back))]
-    pub(super) fn make_owned(&mut self, alloc: Global, t: usize, meter: &mut Meter) -> Answer
-        ensures step { Step B.SHARES self.old (Command.Owned t) result self.new }
+    ) -> Result<Answer, Reason>
+        ensures step { Step B.SHARES self.old (Command.Owned t) (answer_of result) self.new }
         ensures counted { RisesAtMost meter.old meter.new (cost_of B.SHARES self.old (Command.Owned t)) }
     {
         if t >= self.len() {
-            return Answer::Refused(Reason::NoSlot);
+            return Err(Reason::NoSlot);
         }
-        match self.take(t).into_owned_metered(alloc, meter) {
-            Ok(owned) => {
-                self.put(t, owned);
-                Answer::Done
-            }
-            Err(handle) => {
-                self.put(t, handle);
-                Answer::Refused(Reason::Memory)
-            }
-        }
+        let (slot, outcome) = match self.take(t) {
+            Slot::Bytes(bytes) => match bytes.into_owned_metered(alloc, meter) {
+                Ok(owned) => (Slot::Bytes(owned), Ok(Answer::Done)),
+                Err(back) => (Slot::Bytes(back), Err(Reason::Memory)),
+            },
+            Slot::Text(text) => match text.into_owned_metered(alloc, meter) {
+                Ok(owned) => (Slot::Text(owned), Ok(Answer::Done)),
+                Err(back) => (Slot::Text(back), Err(Reason::Memory)),
+            },
+        };
+        self.put(t, slot);
+        outcome
     }
 
     #[tactic(auto, using(crate::proofs::Places::put_back))]
@@ -121,20 +127,31 @@ impl<'b, B: Backend> Pool<'b, B> {
         t: usize,
         addition: &'b [u8],
         meter: &mut Meter,
-    ) -> Answer
-        ensures step { Step B.SHARES self.old (Command.Mutate t addition.entry) result self.new }
+    ) -> Result<Answer, Reason>
+        ensures step { Step B.SHARES self.old (Command.Mutate t addition.entry) (answer_of result) self.new }
         ensures counted { RisesAtMost meter.old meter.new (cost_of B.SHARES self.old (Command.Mutate t addition.entry)) }
     {
         if t >= self.len() {
-            return Answer::Refused(Reason::NoSlot);
+            return Err(Reason::NoSlot);
         }
-        let mut handle = self.take(t);
-        let outcome = extend_lent(&mut handle, alloc, addition, meter);
-        self.put(t, handle);
-        match outcome {
-            Ok(()) => Answer::Done,
-            Err(AllocError) => Answer::Refused(Reason::Memory),
-        }
+        let outcome = match self.take(t) {
+            Slot::Bytes(mut bytes) => {
+                let outcome = extend_lent(&mut bytes, alloc, addition, meter);
+                self.put(t, Slot::Bytes(bytes));
+                outcome
+            }
+            Slot::Text(mut text) => {
+                let Some(addition) = text_of(addition) else {
+                    self.put(t, Slot::Text(text));
+                    return Err(Reason::NotUtf8);
+                };
+                let outcome = extend_lent_text(&mut text, alloc, addition, meter);
+                self.put(t, Slot::Text(text));
+                outcome
+            }
+        };
+        outcome?;
+        Ok(Answer::Done)
     }
 }
 
@@ -152,6 +169,25 @@ fn extend_lent<S: Source>(
     let (vec, block) = source.lend_vec_metered(alloc, meter)?;
     let mut guard = RefMut::new(source, vec, block);
     let added = guard.as_mut_vec().extend_from_slice(addition);
+    let written = guard.finish_metered(alloc, meter);
+    added?;
+    written.or(Err(AllocError))
+}
+
+/// Adds a text to a value by a guard: through the `String` that it lends.
+fn extend_lent_text<S: TextSource>(
+    source: &mut S,
+    alloc: Global,
+    addition: &str,
+    meter: &mut Meter,
+) -> Result<(), AllocError>
+    ensures put { OnOk result (S.has_put source.new (S.items source.old ++ addition.now)) }
+    ensures err { OnErr result ((source.new ≡ source.old) ⊎ (S.has_put source.new (S.items source.old) ⊎ S.is_emptied source.new)) }
+    ensures counted { RisesAtMost meter.old meter.new (length (S.items source.old) + max (S.put_cost (length (S.items source.old))) (S.put_cost (length (S.items source.old) + length addition.now))) }
+{
+    let (string, block) = source.lend_string_metered(alloc, meter)?;
+    let mut guard = hip_text::RefMut::new(source, string, block);
+    let added = guard.as_mut_string().push_str(addition);
     let written = guard.finish_metered(alloc, meter);
     added?;
     written.or(Err(AllocError))

@@ -1,19 +1,21 @@
 use Rattle.std.proofs.Common.{◌≡◌, ◌≤◌, length, take}
+use Rattle.std.specs.List.{join_by}
 use Rattle.hip_raw.specs.Meter.{RisesAtMost}
-use Rattle.hip_bytes.specs.Join.{joined}
 use Rattle.hip_bytes.proofs.hip_byt.build.joined_within.Given as goal
 
 -- the join so far lies in the handle
 abbrev pub invariant-loop-i : goal.invariant-loop-i
-invariant-loop-i l = record {
-  items : l.inline ≡ joined l.sep (take l.i l.slices);
+invariant-loop-i g l = record {
+  items : l.inline ≡ join_by g.P.Piece.bytes l.sep (take l.i l.pieces);
+  kept : g.P.Piece.keeps l.inline;
   counted : RisesAtMost l.fn.meter l.meter (length l.inline);
 }
 
 -- the join so far lies in the vector, with room for the rest
 abbrev pub invariant-loop-i-2 : goal.invariant-loop-i-2
-invariant-loop-i-2 l = record {
-  items : l.filling.items ≡ joined l.sep (take l.i l.slices);
+invariant-loop-i-2 g l = record {
+  items : l.filling.items ≡ join_by g.P.Piece.bytes l.sep (take l.i l.pieces);
+  kept : g.P.Piece.keeps l.filling.items;
   room : l.len ≤ l.filling.capacity;
   counted : RisesAtMost l.fn.meter l.meter (length l.filling.items);
 }

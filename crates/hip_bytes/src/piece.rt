@@ -1,0 +1,55 @@
+//! What joins are made of.
+ghost use Rattle.std.specs.Prelude.{◌≡◌, List, ℕ, [], ◌++◌};
+
+/// Bytes, or a text: what a join puts one behind another.
+pub trait Piece: Drop {
+    /// Its bytes.
+    ghost bytes: { Self → List ℕ };
+
+    /// What holds of the bytes of each, and so of their joins: of texts, that they are UTF-8.
+    ghost keeps: { List ℕ → Type 0 };
+
+    /// Its bytes.
+    fn as_piece(&self) -> &[u8]
+        ensures bytes { result.now ≡ bytes self.now }
+        ensures kept { keeps result.now };
+
+    /// It holds of nothing.
+    ghost empty: { keeps [] };
+
+    /// It holds of what is put together.
+    ghost together: { (front rest : List ℕ) → keeps front → keeps rest → keeps (front ++ rest) };
+}
+
+impl<'a> Piece for &'a [u8] {
+    ghost bytes = { λ slice. slice.now };
+
+    ghost keeps = { λ _. Unit {0} };
+
+    #[inline(always)]
+    fn as_piece(&self) -> &[u8] {
+        *self
+    }
+
+    ghost empty = { tt };
+
+    ghost together = { λ _ _ _ _. tt };
+}
+
+impl<'a> Piece for &'a str {
+    ghost use Rattle.std.specs.Prelude.{IsUtf8};
+    ghost use Rattle.std.proofs.lemmas.Str.{IsUtf8-nil, IsUtf8-append};
+
+    ghost bytes = { λ text. text.now };
+
+    ghost keeps = { IsUtf8 };
+
+    #[inline(always)]
+    fn as_piece(&self) -> &[u8] {
+        self.as_bytes()
+    }
+
+    ghost empty = { IsUtf8-nil };
+
+    ghost together = { λ front rest. IsUtf8-append front rest };
+}
