@@ -1,3 +1,3 @@
 mod Cased
-mod Texts
+pub mod Texts
 mod Utf16

@@ -90,7 +90,7 @@ not-true false never = refl
 pub not-is_utf8 : (bytes : List ℕ) → ¬ (IsUtf8 bytes) → is_utf8 bytes ≡ false
 not-is_utf8 bytes never = not-true (is_utf8 bytes) (λ utf8. never (IsUtf8-from_is_utf8 bytes utf8))
 
-pub ruleset texts = (IsUtf8-from_is_utf8, is_utf8-from_IsUtf8)
+pub ruleset texts = (IsUtf8-from_is_utf8, is_utf8-from_IsUtf8, not-is_utf8)
 
 pub ruleset pushes = (texts, is_utf8-pushed)
 

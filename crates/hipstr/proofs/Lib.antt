@@ -1,3 +1,4 @@
 pub mod Joins
 pub mod Places
 pub mod Runs
+pub mod Steps

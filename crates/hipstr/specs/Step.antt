@@ -1,6 +1,6 @@
 -- One step of the list machine: what a command may answer, what it leaves of the slots, and how many bytes it copies at most.
 -- `shares` says whether owners are shared.
-use Rattle.std.specs.Prelude.{◌≡◌, ℕ, ◌+◌, ◌*◌, ◌^◌, ◌<◌, ◌≤◌, ◌⊎◌, Bool, true, false, not, ◌&&◌, List, [], ◌∷◌, ◌++◌, length, map, take, drop, max, Option, Some, None, is_none, if◌then◌else◌, nat_le, nat_lt, slice_set, MatchOption, codes, refl}
+use Rattle.std.specs.Prelude.{◌≡◌, ℕ, ◌+◌, ◌*◌, ◌^◌, ◌<◌, ◌≤◌, ◌⊎◌, Bool, true, false, List, [], ◌∷◌, ◌++◌, length, map, take, drop, max, Option, Some, None, is_none, if◌then◌else◌, nat_le, nat_lt, slice_set, MatchOption, codes, refl}
 use Rattle.std.specs.Char.{to_ascii_lowercase, to_ascii_uppercase}
 use Rattle.std.specs.Cmp.Lexicographic.{slice_cmp}
 use Rattle.std.specs.List.{join_by, repeat}
@@ -28,7 +28,7 @@ use Rattle.hipstr.specs.declared.command.Command.TheVariants.{New, Inline, Borro
 use Rattle.hipstr.specs.declared.command.Answer.{Answer}
 use Rattle.hipstr.specs.declared.command.Answer.TheVariants.{Done, Nothing, Number, Order, Byte, Char, Kind as KindOf, Refused}
 use Rattle.hipstr.specs.declared.command.Reason.{Reason}
-use Rattle.hipstr.specs.declared.command.Reason.TheVariants.{NoSlot, NotText, NotBytes, NotUtf8, TooLong, StartGreaterThanEnd, StartOutOfBounds, EndOutOfBounds, StartNotACharBoundary, EndNotACharBoundary, OutOfRange, Memory}
+use Rattle.hipstr.specs.declared.command.Reason.TheVariants.{NoSlot, NotText, NotBytes, NotUtf8, TooLong, StartOutOfBounds, EndNotACharBoundary, OutOfRange, Memory}
 
 -- a slot that isn't there
 abbrev pub slot_fault : List SlotState → ℕ → Option Reason
@@ -57,10 +57,11 @@ abbrev pub addition_fault : List SlotState → ℕ → List ℕ → Option Reaso
 addition_fault slots t bytes = if text_at slots t then utf8_fault bytes else None
 
 -- a text that is to end within a character
+abbrev pub within_fault : List ℕ → ℕ → Option Reason
+within_fault text n = if nat_le n (length text) then (if is_boundary text n then None else Some EndNotACharBoundary) else None
+
 abbrev pub end_fault : List SlotState → ℕ → ℕ → Option Reason
-end_fault slots t n =
-    if text_at slots t && nat_le n (length (slot_at slots t).items) && not (is_boundary (slot_at slots t).items n)
-    then Some EndNotACharBoundary else None
+end_fault slots t n = if text_at slots t then within_fault (slot_at slots t).items n else None
 
 -- a length that is no `usize`
 abbrev pub length_fault : ℕ → Option Reason
@@ -232,7 +233,7 @@ pub none_at_the_end : (slots_fault (empty_slot ∷ []) 1 0 ≡ None) × (slots_f
 none_at_the_end = (refl, refl)
 
 -- a byte is set in bytes alone, whatever the position; `é` isn't cut in two
-pub a_text : List SlotState
+abbrev pub a_text : List SlotState
 a_text = record { is_text = true; handle = record { kind = inline_kind; items = 195 ∷ 169 ∷ []; capacity = INLINE_CAPACITY } } ∷ []
 
 pub not_bytes_first : fault_of a_text (Set 0 5 65) ≡ Some NotBytes

@@ -1,6 +1,5 @@
-use crate::bytes;
 use crate::bytes::{GrowFault, Kind};
-use crate::string;
+use crate::{bytes, string};
 use hip_bytes::Backend;
 use std::alloc::AllocError;
 use std::cmp::Ordering;
@@ -193,5 +192,19 @@ impl From<AllocError> for Reason {
 
     fn from(_refused: AllocError) -> Reason {
         Reason::Memory
+    }
+}
+
+impl From<Result<Answer, Reason>> for Answer {
+    ghost use Rattle.std.specs.Prelude.{◌≡◌};
+    ghost use Rattle.hipstr.specs.Reason.{answer_of};
+
+    ghost from_gives = { λ outcome answer. answer ≡ answer_of outcome };
+
+    fn from(outcome: Result<Answer, Reason>) -> Answer {
+        match outcome {
+            Ok(answer) => answer,
+            Err(reason) => Answer::Refused(reason),
+        }
     }
 }

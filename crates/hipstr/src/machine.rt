@@ -1,9 +1,10 @@
 ghost use Rattle.std.specs.Prelude.{◌≡◌, ℕ, IfOk, OnErr};
 ghost use Rattle.hip_bytes.specs.Meter.{RisesAtMost};
+ghost use Rattle.hipstr.specs.Reason.{answer_of};
 ghost use Rattle.hipstr.specs.Step.{Step, cost_of};
 ghost use Rattle.hipstr.specs.Run.{Run};
 
-use crate::command::{Answer, Command};
+use crate::command::{Answer, Command, Reason};
 use crate::pool::Pool;
 use hip_bytes::{Backend, Meter};
 use std::alloc::{AllocError, Global};
@@ -17,11 +18,16 @@ mod write;
 
 impl<'b, B: Backend> Pool<'b, B> {
     /// Performs one command.
-    fn perform(&mut self, alloc: Global, command: Command<'b>, meter: &mut Meter) -> Answer
-        ensures step { Step B.SHARES self.old command.entry result self.new }
+    fn perform(
+        &mut self,
+        alloc: Global,
+        command: Command<'b>,
+        meter: &mut Meter,
+    ) -> Result<Answer, Reason>
+        ensures step { Step B.SHARES self.old command.entry (answer_of result) self.new }
         ensures counted { RisesAtMost meter.old meter.new (cost_of B.SHARES self.old command.entry) }
     {
-        let performed = match command {
+        match command {
             Command::New(t) => self.make_new(t),
             Command::Inline(t, bytes) => self.make_inline(t, bytes, meter),
             Command::Borrow(t, bytes) => self.make_borrowed(t, bytes),
@@ -49,8 +55,7 @@ impl<'b, B: Backend> Pool<'b, B> {
             Command::Len(t) => self.tell_len(t),
             Command::Kind(t) => self.tell_kind(t),
             Command::Capacity(t) => self.tell_capacity(t),
-        };
-        performed.unwrap_or_else(Answer::Refused)
+        }
     }
 }
 
@@ -70,7 +75,7 @@ pub fn run<'b, B: Backend>(
 {
     let mut answers = Vec::with_capacity(alloc, commands.len())?;
     for command in commands {
-        answers.push_reserved(pool.perform(alloc, *command, meter));
+        answers.push_reserved(Answer::from(pool.perform(alloc, *command, meter)));
     }
     Ok(answers)
 }

@@ -1,5 +1,5 @@
 ghost use Rattle.std.specs.Prelude.{◌≡◌, ◌≤◌, ◌<◌, ◌==◌, ◌↔◌, replicate, length, slice_set, IfOk, IfSome, IsSome};
-ghost use Rattle.hipstr.specs.Slot.{state_of, state_at, empty_slot};
+ghost use Rattle.hipstr.specs.Slot.{state_of, state_at, slot_at, text_at, empty_slot};
 
 use hip_text::{Backend, HipByt, HipStr, Kind};
 use std::alloc::{AllocError, Global};
@@ -20,6 +20,7 @@ pub enum Slot<'b, B: Backend> {
 
 impl<'b, B: Backend> Slot<'b, B> {
     /// An empty slot of bytes.
+    #[tactic(auto, using(crate::proofs::Places::empty_handle))]
     pub(crate) fn empty() -> Self
         ensures { state_of result ≡ empty_slot }
     {
@@ -137,7 +138,8 @@ impl<'b, B: Backend> Pool<'b, B> {
     #[inline]
     pub(crate) fn take(&mut self, i: usize) -> Slot<'b, B>
         requires { i < length self.old }
-        ensures taken { state_of result ≡ state_at self.old i }
+        ensures handle { (state_of result).handle ≡ slot_at self.old i }
+        ensures flag { (state_of result).is_text ≡ text_at self.old i }
         ensures emptied { self.new ≡ slice_set self.old i empty_slot }
     {
         mem::replace(&mut self.slots[i], Slot::empty())

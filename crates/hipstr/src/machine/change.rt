@@ -25,11 +25,12 @@ impl<'b, B: Backend> Pool<'b, B> {
         if t >= self.len() {
             return Err(Reason::NoSlot);
         }
-        let outcome = match self.take(t) {
+        match self.take(t) {
             Slot::Bytes(mut bytes) => {
                 let outcome = bytes.push_slice_metered(alloc, addition, meter);
                 self.put(t, Slot::Bytes(bytes));
-                outcome
+                outcome?;
+                Ok(Answer::Done)
             }
             Slot::Text(mut text) => {
                 let Some(addition) = text_of(addition) else {
@@ -38,19 +39,14 @@ impl<'b, B: Backend> Pool<'b, B> {
                 };
                 let outcome = text.push_str_metered(alloc, addition, meter);
                 self.put(t, Slot::Text(text));
-                outcome
+                outcome?;
+                Ok(Answer::Done)
             }
-        };
-        outcome?;
-        Ok(Answer::Done)
+        }
     }
 
     #[tactic(auto, using(crate::proofs::Places::put_back))]
-    pub(super) fn pop(
-        &mut self,
-        t: usize,
-        meter: &mut Meter,
-    ) -> Result<Answer, Reason>
+    pub(super) fn pop(&mut self, t: usize, meter: &mut Meter) -> Result<Answer, Reason>
         ensures step { Step B.SHARES self.old (Command.Pop t) (answer_of result) self.new }
         ensures counted { RisesAtMost meter.old meter.new (cost_of B.SHARES self.old (Command.Pop t)) }
     {
@@ -83,6 +79,7 @@ impl<'b, B: Backend> Pool<'b, B> {
             Slot::Bytes(mut bytes) => {
                 bytes.truncate_metered(n, meter);
                 self.put(t, Slot::Bytes(bytes));
+                Ok(Answer::Done)
             }
             Slot::Text(mut text) => {
                 if n <= text.len() && !text.as_str().is_char_boundary(n) {
@@ -91,17 +88,13 @@ impl<'b, B: Backend> Pool<'b, B> {
                 }
                 text.truncate_metered(n, meter);
                 self.put(t, Slot::Text(text));
+                Ok(Answer::Done)
             }
         }
-        Ok(Answer::Done)
     }
 
     #[tactic(auto, using(crate::proofs::Places::put_back))]
-    pub(super) fn clear(
-        &mut self,
-        t: usize,
-        meter: &mut Meter,
-    ) -> Result<Answer, Reason>
+    pub(super) fn clear(&mut self, t: usize, meter: &mut Meter) -> Result<Answer, Reason>
         ensures step { Step B.SHARES self.old (Command.Clear t) (answer_of result) self.new }
         ensures counted { RisesAtMost meter.old meter.new (cost_of B.SHARES self.old (Command.Clear t)) }
     {
@@ -110,8 +103,8 @@ impl<'b, B: Backend> Pool<'b, B> {
         }
         let mut slot = self.take(t);
         match &mut slot {
-            Slot::Bytes(bytes) => bytes.truncate_metered(0, meter),
-            Slot::Text(text) => text.truncate_metered(0, meter),
+            Slot::Bytes(bytes) => bytes.clear_metered(meter),
+            Slot::Text(text) => text.clear_metered(meter),
         }
         self.put(t, slot);
         Ok(Answer::Done)

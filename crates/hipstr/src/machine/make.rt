@@ -11,10 +11,7 @@ use std::alloc::Global;
 use std::ops::Bound;
 
 impl<'b, B: Backend> Pool<'b, B> {
-    pub(super) fn make_new(
-        &mut self,
-        t: usize,
-    ) -> Result<Answer, Reason>
+    pub(super) fn make_new(&mut self, t: usize) -> Result<Answer, Reason>
         ensures step { Step B.SHARES self.old (Command.New t) (answer_of result) self.new }
     {
         if t >= self.len() {
@@ -43,11 +40,7 @@ impl<'b, B: Backend> Pool<'b, B> {
         Ok(Answer::Done)
     }
 
-    pub(super) fn make_borrowed(
-        &mut self,
-        t: usize,
-        bytes: &'b [u8],
-    ) -> Result<Answer, Reason>
+    pub(super) fn make_borrowed(&mut self, t: usize, bytes: &'b [u8]) -> Result<Answer, Reason>
         ensures step { Step B.SHARES self.old (Command.Borrow t bytes.entry) (answer_of result) self.new }
     {
         if t >= self.len() {
@@ -128,7 +121,9 @@ impl<'b, B: Backend> Pool<'b, B> {
             return Err(Reason::NoSlot);
         }
         let made = match self.at(s) {
-            Slot::Bytes(bytes) => Slot::Bytes(bytes.try_slice_bounds_metered(alloc, low, high, meter)?),
+            Slot::Bytes(bytes) => Slot::Bytes(bytes.try_slice_bounds_metered(
+                alloc, low, high, meter,
+            )?),
             Slot::Text(text) => Slot::Text(text.try_slice_bounds_metered(alloc, low, high, meter)?),
         };
         self.put(t, made);

@@ -41,8 +41,6 @@ impl<'b, B: Backend> Pool<'b, B> {
         if s >= self.len() || t >= self.len() {
             return Err(Reason::NoSlot);
         }
-        Ok(Answer::Order(
-            self.at(s).as_bytes().cmp(self.at(t).as_bytes()),
-        ))
+        Ok(Answer::Order(self.at(s).as_bytes().cmp(self.at(t).as_bytes())))
     }
 }

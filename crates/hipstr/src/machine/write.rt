@@ -81,7 +81,11 @@ impl<'b, B: Backend> Pool<'b, B> {
                     self.put(t, Slot::Bytes(bytes));
                     return Err(Reason::OutOfRange);
                 }
-                let outcome = bytes.with_to_mut_slice_metered(alloc, |bytes| bytes[i] = byte, meter);
+                let outcome = bytes.with_to_mut_slice_metered(
+                    alloc,
+                    |items| items[i] = byte,
+                    meter,
+                );
                 self.put(t, Slot::Bytes(bytes));
                 outcome?;
                 Ok(Answer::Done)
@@ -106,18 +110,28 @@ impl<'b, B: Backend> Pool<'b, B> {
         if t >= self.len() {
             return Err(Reason::NoSlot);
         }
-        let (slot, outcome) = match self.take(t) {
+        match self.take(t) {
             Slot::Bytes(bytes) => match bytes.into_owned_metered(alloc, meter) {
-                Ok(owned) => (Slot::Bytes(owned), Ok(Answer::Done)),
-                Err(back) => (Slot::Bytes(back), Err(Reason::Memory)),
+                Ok(owned) => {
+                    self.put(t, Slot::Bytes(owned));
+                    Ok(Answer::Done)
+                }
+                Err(back) => {
+                    self.put(t, Slot::Bytes(back));
+                    Err(Reason::Memory)
+                }
             },
             Slot::Text(text) => match text.into_owned_metered(alloc, meter) {
-                Ok(owned) => (Slot::Text(owned), Ok(Answer::Done)),
-                Err(back) => (Slot::Text(back), Err(Reason::Memory)),
+                Ok(owned) => {
+                    self.put(t, Slot::Text(owned));
+                    Ok(Answer::Done)
+                }
+                Err(back) => {
+                    self.put(t, Slot::Text(back));
+                    Err(Reason::Memory)
+                }
             },
-        };
-        self.put(t, slot);
-        outcome
+        }
     }
 
     #[tactic(auto, using(crate::proofs::Places::put_back))]
@@ -134,11 +148,14 @@ impl<'b, B: Backend> Pool<'b, B> {
         if t >= self.len() {
             return Err(Reason::NoSlot);
         }
-        let outcome = match self.take(t) {
+        match self.take(t) {
             Slot::Bytes(mut bytes) => {
                 let outcome = extend_lent(&mut bytes, alloc, addition, meter);
                 self.put(t, Slot::Bytes(bytes));
-                outcome
+                match outcome {
+                    Ok(()) => Ok(Answer::Done),
+                    Err(AllocError) => Err(Reason::Memory),
+                }
             }
             Slot::Text(mut text) => {
                 let Some(addition) = text_of(addition) else {
@@ -147,11 +164,12 @@ impl<'b, B: Backend> Pool<'b, B> {
                 };
                 let outcome = extend_lent_text(&mut text, alloc, addition, meter);
                 self.put(t, Slot::Text(text));
-                outcome
+                match outcome {
+                    Ok(()) => Ok(Answer::Done),
+                    Err(AllocError) => Err(Reason::Memory),
+                }
             }
-        };
-        outcome?;
-        Ok(Answer::Done)
+        }
     }
 }
 

@@ -8,7 +8,7 @@ loop-command-preserved g c =
     record {
       run = (
         _,
-        Run-take_more _ _ _ _ _ _ _ _ _ _ _ c.loop-command-test.true so_far.1 c.perform.ensures.step c.push_reserved.ensures.items,
+        Run-take_more _ _ _ _ _ _ _ _ _ _ _ c.loop-command-test.true so_far.1 (rw (← c.from.ensures) at c.perform.ensures.step) c.push_reserved.ensures.items,
         record { never_falls = omega (arith, so_far.2.never_falls, c.perform.ensures.counted.never_falls); at_most = omega (arith, so_far.2.at_most, c.perform.ensures.counted.at_most) },
       );
       answered = omega arith;

@@ -1,10 +1,9 @@
 use Rattle.std.proofs.Common.{◌∙◌, ap, slice_set}
 use Rattle.std.proofs.lemmas.List.{map-set}
 use Rattle.hipstr.specs.Slot.{state_of}
-use Rattle.hipstr.specs.declared.pool.Slot.TheVariants.{Bytes}
 use Rattle.hipstr.proofs.pool.Pool.put.Goals as goal
 
 pub returns : goal.returns
 returns g c =
-    map-set (state_of {B = g.row.B.Denot} {S = g.row.B-Sole.Denot}) c.self.inside.slots.items c.args.i (Bytes c.args.handle)
-    ∙ ap (λ slots. slice_set slots c.args.i (c.args.handle)) c.self.view_is
+    map-set (state_of {B = g.row.B.Denot} {S = g.row.B-Sole.Denot}) c.self.inside.slots.items c.args.i c.args.slot
+    ∙ ap (λ slots. slice_set slots c.args.i (state_of c.args.slot)) c.self.view_is

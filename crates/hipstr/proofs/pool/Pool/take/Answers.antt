@@ -1,12 +1,11 @@
 use Rattle.std.proofs.Common.{◌∙◌, ap, slice_set}
 use Rattle.std.proofs.lemmas.List.{map-set}
 use Rattle.hipstr.specs.Slot.{state_of}
-use Rattle.hipstr.proofs.Places.{empty_handle}
 use Rattle.hipstr.proofs.pool.Pool.take.Goals as goal
 
 pub returns-clause-emptied : goal.returns-clause-emptied
 returns-clause-emptied g c =
-    map-set (state_of {B = g.row.B.Denot} {S = g.row.B-Sole.Denot}) c.self.inside.slots.items c.args.i c.replace-handle.new.dest
-    ∙ ap (λ slots. slice_set slots c.args.i (state_of c.replace-handle.new.dest)) c.self.view_is
-    ∙ ap (λ slot. slice_set c.args.self.now c.args.i (state_of slot)) c.replace-handle.ensures.after
-    ∙ ap (λ slot. slice_set c.args.self.now c.args.i slot) (empty_handle c.new.result c.new.ensures.holds)
+    map-set (state_of {B = g.row.B.Denot} {S = g.row.B-Sole.Denot}) c.self.inside.slots.items c.args.i c.replace.new.dest
+    ∙ ap (λ slots. slice_set slots c.args.i (state_of c.replace.new.dest)) c.self.view_is
+    ∙ ap (λ slot. slice_set c.args.self.now c.args.i (state_of slot)) c.replace.ensures.after
+    ∙ ap (λ slot. slice_set c.args.self.now c.args.i slot) c.empty.ensures
