@@ -1,5 +1,7 @@
 //! Bytes that aren't a text.
-ghost use Rattle.std.specs.Prelude.{◌≡◌};
+ghost use Rattle.std.specs.Prelude.{◌≡◌, nat_eq};
+ghost use Rattle.std.specs.Cmp.{partial_equiv_from_equiv, on_per, on_equiv};
+ghost use Rattle.std.specs.Cmp.Lexicographic.{pointwise, nat_list_eq_equiv};
 ghost use Rattle.hip_text.specs.Decode.{error_bytes, error_cause, CloneErrorAnswers};
 
 use hip_bytes::{Backend, HipByt};
@@ -9,7 +11,7 @@ use std::fmt;
 use std::str::Utf8Error;
 
 /// Bytes that aren't UTF-8, and what is wrong with them.
-#[derive(Drop, PartialEq, Eq)]
+#[derive(Drop)]
 pub struct FromUtf8Error<'b, B: Backend> {
     bytes: HipByt<'b, B>,
     error: Utf8Error,
@@ -56,6 +58,21 @@ impl<'b, B: Backend> FromUtf8Error<'b, B> {
             error: self.error,
         })
     }
+}
+
+/// By the bytes, which decide what is wrong with them.
+impl<'b, B: Backend> PartialEq for FromUtf8Error<'b, B> {
+    ghost eq = { λ a b. pointwise nat_eq (error_bytes a).items (error_bytes b).items };
+
+    ghost laws = { on_per (λ error. (error_bytes error).items) (partial_equiv_from_equiv nat_list_eq_equiv) };
+
+    fn eq(&self, other: &Self) -> bool {
+        self.bytes == other.bytes
+    }
+}
+
+impl<'b, B: Backend> Eq for FromUtf8Error<'b, B> {
+    ghost laws = { on_equiv (λ error. (error_bytes error).items) nat_list_eq_equiv };
 }
 
 impl<'b, B: Backend> fmt::Debug for FromUtf8Error<'b, B> {

@@ -2,10 +2,13 @@
 //! that come from elsewhere. On either backend.
 //!
 //! - `makers`: makers, conversions, pushes, `pop`, case, comparisons and guards.
+//! - `made`: joins and repetitions, and texts of units of UTF-16.
 //! - `errors`: ranges that are refused, and bytes that aren't a text.
 #![tactic(auto)]
 
 #[cfg(test)]
 mod errors;
+#[cfg(test)]
+mod made;
 #[cfg(test)]
 mod makers;
