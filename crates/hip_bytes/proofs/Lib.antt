@@ -1,3 +1,4 @@
 pub mod Costs
 pub mod Joins
 pub mod Repeats
+pub mod Slices

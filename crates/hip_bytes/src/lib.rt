@@ -25,6 +25,7 @@ mod gathering;
 mod grow_fault;
 mod hip_byt;
 mod kind;
+pub mod laws;
 mod piece;
 mod range;
 mod ref_mut;

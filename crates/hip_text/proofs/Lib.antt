@@ -1,3 +1,4 @@
+mod Boundaries
 mod Cased
 pub mod Texts
 mod Utf16

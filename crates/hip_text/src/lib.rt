@@ -11,6 +11,7 @@
 mod faults;
 mod from_utf8_error;
 mod hip_str;
+pub mod laws;
 mod ref_mut;
 mod slice_error;
 

@@ -40,7 +40,10 @@ fn concatenates<B: Backend>(rt: &impl Abort, alloc: Global) -> Result<(), Fail> 
 fn repeats<B: Backend>(rt: &impl Abort, alloc: Global) -> Result<(), Fail> {
     let text = HipStr::<B>::from_str(alloc, "é")?;
     assert_eq!(rt; text.repeat(alloc, 3)?.as_str(), "ééé");
-    assert_eq!(rt; text.repeat(alloc, usize::MAX).err(), Some(GrowFault::TooLong));
+    assert_eq!(rt;
+        text.repeat(alloc, usize::MAX).err(),
+        Some(GrowFault::TooLong)
+    );
     Ok(())
 }
 
@@ -52,7 +55,9 @@ const SPELT: &[(&[u16], &str)] = &[
     (&[0xD800, 0xDC00, 0xDBFF, 0xDFFF], "\u{10000}\u{10FFFF}"),
     (&[0xD7FF, 0xE000, 0xFFFF], "\u{D7FF}\u{E000}\u{FFFF}"),
     (
-        &[0x4E2D, 0x4E2D, 0x4E2D, 0x4E2D, 0x4E2D, 0x4E2D, 0x4E2D, 0x4E2D],
+        &[
+            0x4E2D, 0x4E2D, 0x4E2D, 0x4E2D, 0x4E2D, 0x4E2D, 0x4E2D, 0x4E2D,
+        ],
         "中中中中中中中中",
     ),
 ];
@@ -80,7 +85,10 @@ fn refuses_units<B: Backend>(rt: &impl Abort, alloc: Global) -> Result<(), Fail>
     for (units, at, text) in UNPAIRED {
         let fault = HipStr::<B>::from_utf16(alloc, units).err();
         assert_eq!(rt; fault, Some(Utf16Fault::Unpaired(*at)));
-        assert_eq!(rt; HipStr::<B>::from_utf16_lossy(alloc, units)?.as_str(), *text);
+        assert_eq!(rt;
+            HipStr::<B>::from_utf16_lossy(alloc, units)?.as_str(),
+            *text
+        );
     }
     Ok(())
 }
