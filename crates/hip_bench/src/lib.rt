@@ -1,4 +1,4 @@
-//! Workloads over byte strings, for a driver in C or Rust that measures them.
+//! Workloads over byte strings and texts, for a driver in C or Rust that measures them.
 //!
 //! Each function `hip_NAME(alloc, input, rounds)` makes its sources from the input, does the same work `rounds` times by the public
 //! calls of hipstr, and answers a checksum of what it made. A call with no rounds costs what the sources cost. Where memory is
@@ -16,3 +16,4 @@ mod intern;
 mod large;
 mod made;
 mod ring;
+mod text;
