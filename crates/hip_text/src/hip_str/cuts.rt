@@ -15,6 +15,7 @@ use std::alloc::{AllocError, Global};
 use std::ops::{Bound, RangeBounds};
 
 /// The start and the end that two bounds have in a text, or why they are no range of it.
+#[inline]
 fn text_range(
     text: &str,
     low: Bound<usize>,
