@@ -45,6 +45,7 @@ impl<'b, B: Backend> HipStr<'b, B> {
     }
 
     /// [`HipStr::push`], counted.
+    #[tactic(auto, using(crate::proofs::Texts::pushes))]
     #[inline(always)]
     pub fn push_metered(
         &mut self,
@@ -56,7 +57,14 @@ impl<'b, B: Backend> HipStr<'b, B> {
         ensures counted { RisesAtMost meter.old meter.new (times_copied B.SHARES (length self.old.items + length (encode_utf8 c))) }
     {
         let mut room = [0; 4];
-        self.push_str_metered(alloc, c.encode_utf8(&mut room), meter)
+        let bytes = c.encode_utf8(&mut room).as_bytes();
+        // In each arm the number of bytes is known, so that copying them takes no call of `memcpy`.
+        match bytes.len() {
+            1 => self.bytes.push_slice_metered(alloc, bytes, meter),
+            2 => self.bytes.push_slice_metered(alloc, bytes, meter),
+            3 => self.bytes.push_slice_metered(alloc, bytes, meter),
+            _ => self.bytes.push_slice_metered(alloc, bytes, meter),
+        }
     }
 
     /// Keeps the first `len` bytes, or all where there are fewer. A position among them is a boundary.
