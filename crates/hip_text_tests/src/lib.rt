@@ -2,10 +2,16 @@
 //! that come from elsewhere. On either backend.
 //!
 //! - `makers`: makers, conversions, pushes, `pop`, case, comparisons and guards.
+//! - `carried`: what hipstr's own tests ask, and the worked rows.
+//! - `decoding`: bytes that are UTF-8, that aren't, and their repair.
 //! - `made`: joins and repetitions, and texts of units of UTF-16.
 //! - `errors`: ranges that are refused, and bytes that aren't a text.
 #![tactic(auto)]
 
+#[cfg(test)]
+mod carried;
+#[cfg(test)]
+mod decoding;
 #[cfg(test)]
 mod errors;
 #[cfg(test)]
