@@ -1,4 +1,4 @@
-use Rattle.std.proofs.Common.{List, ℕ, false, true, subst, arith}
+use Rattle.std.proofs.Common.{◌<◌, List, ℕ, false, true, length, subst, arith}
 use Rattle.hip_bytes.specs.Handle.{Handle}
 use Rattle.hip_bytes.specs.Change.{IsPushed}
 use Rattle.hipstr.proofs.Places.{replaced}
@@ -9,10 +9,16 @@ use Rattle.hipstr.proofs.pool.Pool.push.Goals as goal
 
 pub returns-in_ok-outcome-in-Bytes-clause-step : goal.returns-in_ok-outcome-in-Bytes-clause-step
 returns-in_ok-outcome-in-Bytes-clause-step g c =
-    performed g.B.Backend.SHARES c.args.self.now (Push c.args.t c.args.addition) Done c.put.new.self (neither _ _ (slot-there c.args.self.now c.args.t (omega (arith, c.if-t-len.false, c.len.ensures))) (added-to-bytes c.args.self.now c.args.t c.args.addition.now c.in-Bytes.ensures.flag))
-    (replaced c.args.self.now c.take.new.self _ c.args.t false _ c.in-Bytes.bytes c.push_slice_metered-outcome.new.self (λ (was now : Handle). IsPushed g.B.Backend.SHARES was now c.args.addition.now) (omega (arith, c.if-t-len.false, c.len.ensures)) c.in-Bytes.ensures.flag c.in-Bytes.ensures.handle c.take.ensures.emptied c.put.ensures c.in_ok-outcome-in-Bytes.ensures.push)
+    let within : c.args.t < length c.args.self.now = omega (arith, c.if-t-len.false, c.len.ensures) in
+    let unrefused = neither _ _ (slot-there c.args.self.now c.args.t within) (added-to-bytes c.args.self.now c.args.t c.args.addition.now c.in-Bytes.ensures.flag) in
+    let changed = λ (was now : Handle). IsPushed g.B.Backend.SHARES was now c.args.addition.now in
+    performed g.B.Backend.SHARES c.args.self.now (Push c.args.t c.args.addition) Done c.put.new.self unrefused
+    (replaced c.args.self.now c.take.new.self _ c.args.t false _ c.in-Bytes.bytes c.push_slice_metered-outcome.new.self changed within c.in-Bytes.ensures.flag c.in-Bytes.ensures.handle c.take.ensures.emptied c.put.ensures c.in_ok-outcome-in-Bytes.ensures.push)
 
 pub returns-in_ok-outcome-in-Text-clause-step : goal.returns-in_ok-outcome-in-Text-clause-step
 returns-in_ok-outcome-in-Text-clause-step g c =
-    performed g.B.Backend.SHARES c.args.self.now (Push c.args.t c.args.addition) Done c.put-in-Text.new.self (neither _ _ (slot-there c.args.self.now c.args.t (omega (arith, c.if-t-len.false, c.len.ensures))) (added-to-text c.args.self.now c.args.t c.args.addition.now c.in-Text.ensures.flag c.in-Some.ensures.utf8))
-    (replaced c.args.self.now c.take.new.self _ c.args.t true _ c.in-Text.text c.push_str_metered-outcome.new.self (λ (was now : Handle). IsPushed g.B.Backend.SHARES was now c.args.addition.now) (omega (arith, c.if-t-len.false, c.len.ensures)) c.in-Text.ensures.flag c.in-Text.ensures.handle c.take.ensures.emptied c.put-in-Text.ensures (subst (λ (added : List ℕ). IsPushed g.B.Backend.SHARES c.in-Text.text c.push_str_metered-outcome.new.self added) c.in-Some.ensures.text c.in_ok-outcome-in-Text.ensures.push))
+    let within : c.args.t < length c.args.self.now = omega (arith, c.if-t-len.false, c.len.ensures) in
+    let unrefused = neither _ _ (slot-there c.args.self.now c.args.t within) (added-to-text c.args.self.now c.args.t c.args.addition.now c.in-Text.ensures.flag c.in-Some.ensures.utf8) in
+    let changed = λ (was now : Handle). IsPushed g.B.Backend.SHARES was now c.args.addition.now in
+    performed g.B.Backend.SHARES c.args.self.now (Push c.args.t c.args.addition) Done c.put-in-Text.new.self unrefused
+    (replaced c.args.self.now c.take.new.self _ c.args.t true _ c.in-Text.text c.push_str_metered-outcome.new.self changed within c.in-Text.ensures.flag c.in-Text.ensures.handle c.take.ensures.emptied c.put-in-Text.ensures (subst (λ (added : List ℕ). IsPushed g.B.Backend.SHARES c.in-Text.text c.push_str_metered-outcome.new.self added) c.in-Some.ensures.text c.in_ok-outcome-in-Text.ensures.push))
