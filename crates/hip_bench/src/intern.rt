@@ -1,7 +1,6 @@
 //! Interning: each word of a text becomes a key of a map. The input has words with one space between.
 //!
-//! The keys are byte strings, since there are no texts yet: they hash and compare as their bytes do, and each is cut from the whole
-//! as a text's piece would be.
+//! The keys are byte strings, which hash and compare by their bytes, each cut from the whole.
 use crate::ring::mix;
 use hipstr::bytes::HipByt;
 use hipstr::{Backend, Rc};
