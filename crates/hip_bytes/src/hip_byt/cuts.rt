@@ -40,9 +40,9 @@ impl<'b, B: Backend> HipByt<'b, B> {
         Ok(HipByt::of(repr))
     }
 
-    /// The part from `start` up to `end`.
+    /// The part from `start` up to `end`, counted: [`HipByt::slice_unchecked_metered`] of two ends that are tested already.
     #[inline]
-    fn part(
+    pub fn part_metered(
         &self,
         alloc: Global,
         start: usize,
@@ -101,7 +101,7 @@ impl<'b, B: Backend> HipByt<'b, B> {
     {
         let len = self.len();
         match range_of(low, high, len) {
-            Ok((start, end)) => match self.part(alloc, start, end, meter) {
+            Ok((start, end)) => match self.part_metered(alloc, start, end, meter) {
                 Ok(part) => Ok(part),
                 Err(AllocError) => Err(SliceRefusal::Memory),
             },
@@ -165,7 +165,7 @@ impl<'b, B: Backend> HipByt<'b, B> {
             bound_of(range.end_bound()),
             self.len(),
         );
-        self.part(alloc, start, end, meter)
+        self.part_metered(alloc, start, end, meter)
     }
 
     /// [`HipByt::slice`] under the name that it has where the range is tested already.

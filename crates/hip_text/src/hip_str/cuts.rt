@@ -58,10 +58,10 @@ impl<'b, B: Backend> HipStr<'b, B> {
         })
     }
 
-    /// The part from `start` up to `end`.
+    /// The part from `start` up to `end`, counted: [`HipStr::slice_unchecked_metered`] of two boundaries that are tested already.
     #[tactic(auto, using(crate::proofs::Texts::cuts))]
     #[inline]
-    fn part(
+    pub fn part_metered(
         &self,
         alloc: Global,
         start: usize,
@@ -76,9 +76,7 @@ impl<'b, B: Backend> HipStr<'b, B> {
         ensures counted { RisesAtMost meter.old meter.new (cut_cost B.SHARES self.now.kind (end - start)) }
     {
         Ok(HipStr {
-            bytes: self
-                .bytes
-                .slice_unchecked_metered(alloc, start..end, meter)?,
+            bytes: self.bytes.part_metered(alloc, start, end, meter)?,
         })
     }
 
@@ -109,7 +107,7 @@ impl<'b, B: Backend> HipStr<'b, B> {
         ensures counted { RisesAtMost meter.old meter.new (slice_cost B.SHARES self.now low high) }
     {
         match text_range(self.as_str(), low, high) {
-            Ok((start, end)) => match self.part(alloc, start, end, meter) {
+            Ok((start, end)) => match self.part_metered(alloc, start, end, meter) {
                 Ok(part) => Ok(part),
                 Err(AllocError) => Err(SliceRefusal::Memory),
             },
@@ -171,7 +169,7 @@ impl<'b, B: Backend> HipStr<'b, B> {
         let low = bound_of(range.start_bound());
         let high = bound_of(range.end_bound());
         let (start, end) = text_range(self.as_str(), low, high).unwrap();
-        self.part(alloc, start, end, meter)
+        self.part_metered(alloc, start, end, meter)
     }
 
     /// [`HipStr::slice`] under the name that it has where the range is tested already.

@@ -1,0 +1,27 @@
+//! Cuts of texts: **a piece is the source's part at its range, with that part's kind and cost.**
+//!
+//! - [`TextCuts`] has the calls by which a [`HipStr`] is taken apart: pieces, trims, strips, and splits into two.
+//! - [`IterWrapper`] gives pieces, from the front and, where their ranges come from both ends, from the back.
+//!
+//! Where a text is cut is found by hip_match, whose ranges these are; how, by hip_text. The words of the contracts are theirs, and `Piece`
+//! (what a walk gives) and `Cut` (what trims and strips leave) of `specs/`. A walk proved by nothing but the contract:
+//!
+//! ```text
+//! fn fields<'b, B: Backend>(line: &HipStr<'b, B>, alloc: Global) -> usize {
+//!     let mut fields = line.split(alloc, ',');
+//!     let mut longest = 0;
+//!     while let Some(Ok(field)) = fields.next() {
+//!         longest = max(longest, field.len());
+//!     }
+//!     longest
+//! }
+//! ```
+#![tactic(auto)]
+
+mod pieces;
+mod text_cuts;
+
+pub use hip_match;
+pub use hip_text::{Backend, HipStr, INLINE_CAPACITY, Kind, Meter, Rc, Unique};
+pub use pieces::{IterWrapper, Pieces, Source, Unnumbered, Walk};
+pub use text_cuts::TextCuts;
