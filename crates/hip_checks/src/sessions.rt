@@ -1,5 +1,7 @@
 //! Lists of commands, each with its answer.
-use hipstr::{Answer, Backend, Command, Kind, Meter, Pool, Rc, Reason, Unique, run};
+use hipstr::{
+    Answer, Backend, Command, End, How, Kind, Meter, Pat, Pool, Rc, Reason, Side, Unique, run,
+};
 use std::alloc::Global;
 use std::ops::Bound;
 use std::process::Abort;
@@ -8,15 +10,17 @@ use std::test::Fail;
 /// A command, and what it answers.
 type Row = (Command<'static>, Answer);
 
-/// Commands on a pool of three slots, and what each slot holds after them, and whether it is borrowed.
+/// Commands on a pool, and what slots hold after them, and whether each is borrowed.
 #[derive(Clone, Copy)]
 struct Session {
+    slots: usize,
     rows: &'static [Row],
-    left: [(usize, &'static [u8], bool); 3],
+    left: &'static [(usize, &'static [u8], bool)],
 }
 
 /// Makers, cuts and questions; ranges that wrap in 64 bits; slots that aren't there.
 const CUTS: Session = Session {
+    slots: 3,
     rows: &[
         (Command::Copy(0, b"Hello John"), Answer::Done),
         (
@@ -55,11 +59,12 @@ const CUTS: Session = Session {
         (Command::Borrow(0, b"abc"), Answer::Done),
         (Command::Capacity(0), Answer::Number(3)),
     ],
-    left: [(0, b"abc", true), (1, b"John!", false), (2, b"John", false)],
+    left: &[(0, b"abc", true), (1, b"John!", false), (2, b"John", false)],
 };
 
 /// No write through one handle shows in another.
 const WRITES: Session = Session {
+    slots: 3,
     rows: &[
         (Command::Copy(0, &[b'a'; 30]), Answer::Done),
         (Command::Clone(0, 1), Answer::Done),
@@ -80,12 +85,184 @@ const WRITES: Session = Session {
         (Command::Len(1), Answer::Number(31)),
         (Command::Len(2), Answer::Number(28)),
     ],
-    left: [
+    left: &[
         (0, b"baaaaaaaaaaaaaaaaaaaaaaaaaaaaa", false),
         (1, b"AAAAAAAAAAAAAAAAAAAAAAAAAAAAAA!", false),
         (2, b"aaaaaaaaaaaaaaaaaaaaaaaaaaac", false),
     ],
 };
+
+/// Trims, strips and parts of texts, with each refusal.
+const TEXTS: Session = Session {
+    slots: 4,
+    rows: &[
+        (Command::Copy(0, b"xxaxx"), Answer::Done),
+        (
+            Command::Trim(0, 1, Side::Both),
+            Answer::Refused(Reason::NotText),
+        ),
+        (Command::Text(0), Answer::Done),
+        (
+            Command::TrimMatches(0, 1, Side::Both, Pat::Char('x')),
+            Answer::Done,
+        ),
+        (
+            Command::TrimMatches(0, 1, Side::Both, Pat::Text("x")),
+            Answer::Refused(Reason::OneEnd),
+        ),
+        (
+            Command::Strip(0, 1, End::Front, Pat::Text("y")),
+            Answer::Nothing,
+        ),
+        (
+            Command::Strip(0, 2, End::Back, Pat::Set(&['x', 'y'])),
+            Answer::Done,
+        ),
+        (
+            Command::Strip(0, 4, End::Back, Pat::Char('x')),
+            Answer::Refused(Reason::NoSlot),
+        ),
+        (
+            Command::Once(0, 3, 0, End::Front, Pat::Char('a')),
+            Answer::Done,
+        ),
+        (Command::Borrow(1, b" a\xC2\xA0"), Answer::Done),
+        (Command::Text(1), Answer::Done),
+        (Command::Trim(1, 1, Side::Start), Answer::Done),
+        (Command::Len(1), Answer::Number(3)),
+        (Command::Trim(1, 1, Side::End), Answer::Done),
+        (
+            Command::TrimMatches(2, 2, Side::Start, Pat::Text("xx")),
+            Answer::Done,
+        ),
+        (
+            Command::TrimMatches(3, 3, Side::End, Pat::Text("x")),
+            Answer::Done,
+        ),
+        (
+            Command::Once(0, 1, 2, End::Back, Pat::Text("y")),
+            Answer::Nothing,
+        ),
+    ],
+    left: &[
+        (0, b"xx", false),
+        (1, b"a", true),
+        (2, b"ax", false),
+        (3, b"", false),
+    ],
+};
+
+/// Pieces by scripts, with each refusal in its order; targets past the last piece stay as they are.
+const PIECES: Session = Session {
+    slots: 8,
+    rows: &[
+        (Command::Copy(0, b"a,b,c,d"), Answer::Done),
+        (
+            Command::Pieces(0, How::Lines, &[], 1),
+            Answer::Refused(Reason::NotText),
+        ),
+        (Command::Text(0), Answer::Done),
+        (
+            Command::Pieces(0, How::Split(Pat::Char(',')), &[End::Front, End::Front], 0),
+            Answer::Refused(Reason::Overlap),
+        ),
+        (
+            Command::Pieces(0, How::SplitN(2, Pat::Char(',')), &[End::Back], 1),
+            Answer::Refused(Reason::OneEnd),
+        ),
+        (
+            Command::Pieces(0, How::Split(Pat::Text(",")), &[End::Front; 6], 1),
+            Answer::Number(4),
+        ),
+        (
+            Command::Pieces(0, How::Split(Pat::Char(',')), &[End::Front, End::Front], 7),
+            Answer::Refused(Reason::NoSlot),
+        ),
+        (
+            Command::Pieces(0, How::Split(Pat::Char(',')), &[End::Back], 7),
+            Answer::Number(1),
+        ),
+        (
+            Command::Once(0, 5, 6, End::Back, Pat::Char(',')),
+            Answer::Done,
+        ),
+        (
+            Command::Once(0, 5, 5, End::Front, Pat::Char(',')),
+            Answer::Refused(Reason::Overlap),
+        ),
+    ],
+    left: &[
+        (0, b"a,b,c,d", false),
+        (1, b"a", false),
+        (2, b"b", false),
+        (3, b"c", false),
+        (4, b"d", false),
+        (5, b"a,b,c", false),
+        (6, b"d", false),
+        (7, b"d", false),
+    ],
+};
+
+const FRONT: &[End] = &[End::Front; 6];
+
+const BACK: &[End] = &[End::Back; 6];
+
+const TURNS: &[End] = &[End::Front, End::Back, End::Back, End::Front, End::Front];
+
+/// How `a, ,b,` is taken apart, by which ends, and into which pieces.
+type Way = (How<'static>, &'static [End], &'static [&'static [u8]]);
+
+const WAYS: &[Way] = &[
+    (How::Split(Pat::Char(',')), TURNS, &[b"a", b"", b"b", b" "]),
+    (
+        How::Split(Pat::Set(&[',', ' '])),
+        FRONT,
+        &[b"a", b"", b"", b"b", b""],
+    ),
+    (How::Inclusive(Pat::Char(',')), BACK, &[b"b,", b" ,", b"a,"]),
+    (
+        How::Inclusive(Pat::Text(",")),
+        FRONT,
+        &[b"a,", b" ,", b"b,"],
+    ),
+    (How::Terminator(Pat::Char(',')), TURNS, &[b"a", b"b", b" "]),
+    (How::SplitN(2, Pat::Char(',')), FRONT, &[b"a", b" ,b,"]),
+    (How::Matches(Pat::Set(&['a', 'b'])), BACK, &[b"b", b"a"]),
+    (How::RSplit(Pat::Text(",")), FRONT, &[b"", b"b", b" ", b"a"]),
+    (How::RTerminator(Pat::Char(',')), BACK, &[b"a", b" ", b"b"]),
+    (How::RSplitN(2, Pat::Text(",")), FRONT, &[b"", b"a, ,b"]),
+    (How::RMatches(Pat::Text(", ")), FRONT, &[b", "]),
+    (How::Lines, FRONT, &[b"a, ,b,"]),
+    (How::Words, BACK, &[b",b,", b"a,"]),
+    (How::AsciiWords, FRONT, &[b"a,", b",b,"]),
+];
+
+fn takes_apart<B: Backend>(alloc: Global, way: Way) -> Result<bool, Fail> {
+    let (how, script, wanted) = way;
+    let mut pool = Pool::<B>::new(alloc, 8)?;
+    let commands = [
+        Command::Borrow(0, b"a, ,b,"),
+        Command::Text(0),
+        Command::Pieces(0, how, script, 1),
+    ];
+    let mut meter = Meter::new();
+    let answers = run(alloc, &mut pool, &commands, &mut meter)?;
+    let mut is_so = answers.as_slice().last() == Some(&Answer::Number(wanted.len()));
+    for (i, piece) in wanted.iter().enumerate() {
+        if let Some(slot) = pool.slot(i + 1) {
+            is_so = is_so && slot.as_bytes() == *piece && slot.kind() == Kind::Borrowed;
+        }
+    }
+    Ok(is_so && meter.copied() == 0)
+}
+
+/// Each way, whose pieces are borrowed as the text is, and copy nothing.
+fn takes_all_apart<B: Backend>(rt: &impl Abort, alloc: Global) -> Result<(), Fail> {
+    for (i, way) in WAYS.iter().enumerate() {
+        assert!(rt; takes_apart::<B>(alloc, *way)?, "way {i}");
+    }
+    Ok(())
+}
 
 /// Runs the commands of the rows, and compares their answers.
 fn answers<'b, B: Backend>(
@@ -107,13 +284,14 @@ fn answers<'b, B: Backend>(
 }
 
 fn plays<B: Backend>(rt: &impl Abort, alloc: Global, session: Session) -> Result<(), Fail> {
-    let mut pool = Pool::<B>::new(alloc, 3)?;
+    assert!(rt; session.slots <= 8);
+    let mut pool = Pool::<B>::new(alloc, session.slots)?;
     answers(rt, alloc, &mut pool, session.rows, &mut Meter::new())?;
     for (i, bytes, is_lent) in session.left {
-        let slot = pool.slot(i).ok_or("no slot")?;
+        let slot = pool.slot(*i).ok_or("no slot")?;
         assert_eq!(rt;
             (slot.as_bytes(), slot.kind() == Kind::Borrowed),
-            (bytes, is_lent),
+            (*bytes, *is_lent),
             "in slot {i}"
         );
     }
@@ -193,6 +371,9 @@ pub(crate) fn on<B: Backend>(rt: &impl Abort, alloc: Global) -> Result<(), Fail>
     pools::<B>(rt, alloc)?;
     plays::<B>(rt, alloc, CUTS)?;
     plays::<B>(rt, alloc, WRITES)?;
+    plays::<B>(rt, alloc, TEXTS)?;
+    plays::<B>(rt, alloc, PIECES)?;
+    takes_all_apart::<B>(rt, alloc)?;
     costs::<B>(rt, alloc)?;
     in_place::<B>(rt, alloc)
 }

@@ -1,4 +1,5 @@
 pub mod Joins
+pub mod Parts
 pub mod Places
 pub mod Runs
 pub mod Steps

@@ -1,17 +1,20 @@
 -- Lemmas on single steps of the list machine.
-use Rattle.std.proofs.Common.{◌≡◌, ◌∙◌, ℕ, ◌<◌, ◌≤◌, Bool, true, false, List, length, nat_le, Option, Some, None, if◌then◌else◌, MatchOption, ap, refl, subst, sym}
+use Rattle.std.proofs.Common.{◌≡◌, ◌∙◌, ℕ, suc, ◌+◌, ◌<◌, ◌≤◌, ◌⊎◌, inl, inr, arith, Bool, true, false, List, length, nat_le, Option, Some, None, if◌then◌else◌, MatchOption, ap, refl, subst, sym}
+use Rattle.std.proofs.Math.Bool.{and-false}
 use Rattle.std.proofs.lemmas.Bool.{lt-ltb, leb-true}
-use Rattle.std.specs.Prelude.{nat_lt}
+use Rattle.std.proofs.lemmas.Bool.Decides.{leb_tells}
+use Rattle.std.specs.Prelude.{◌&&◌, is_none, nat_lt}
 use Rattle.std.specs.Option.{option_or}
 use Rattle.std.specs.Str.{is_utf8}
+use Rattle.hip_bytes.specs.Meter.{RisesAtMost}
 use Rattle.hip_text.specs.Boundary.{is_boundary}
 use Rattle.hipstr.specs.Slot.{SlotState, slot_at, text_at}
-use Rattle.hipstr.specs.Step.{Step, Performs, fault_of, slot_fault, utf8_fault, addition_fault, not_bytes_fault, within_fault, end_fault}
+use Rattle.hipstr.specs.Step.{Step, Performs, copies_of, cost_of, fault_of, slot_fault, utf8_fault, addition_fault, not_bytes_fault, not_text_fault, one_end_fault, overlap_fault, within_fault, end_fault}
 use Rattle.hipstr.specs.declared.command.Command.{Command}
 use Rattle.hipstr.specs.declared.command.Answer.{Answer}
 use Rattle.hipstr.specs.declared.command.Answer.TheVariants.{Refused}
 use Rattle.hipstr.specs.declared.command.Reason.{Reason}
-use Rattle.hipstr.specs.declared.command.Reason.TheVariants.{NoSlot, NotBytes, NotUtf8, EndNotACharBoundary, OutOfRange}
+use Rattle.hipstr.specs.declared.command.Reason.TheVariants.{NoSlot, Overlap, NotText, NotBytes, NotUtf8, EndNotACharBoundary, OutOfRange}
 
 -- a command without a fault is performed
 pub performed : (shares : Bool) (old : List SlotState) (command : Command) (answer : Answer) (new : List SlotState)
@@ -19,6 +22,12 @@ pub performed : (shares : Bool) (old : List SlotState) (command : Command) (answ
 performed shares old command answer new none done =
     subst (λ (fault : Option Reason). MatchOption fault (Performs shares old command answer new) (λ reason. (answer ≡ Refused reason) × (new ≡ old)))
     (sym none) done
+
+-- and costs what it copies
+pub costs-copies : (shares : Bool) (old : List SlotState) (command : Command) (before after : ℕ)
+    → fault_of old command ≡ None → RisesAtMost before after (copies_of shares old command) → RisesAtMost before after (cost_of shares old command)
+costs-copies shares old command before after none rises =
+    subst (λ (fault : Option Reason). RisesAtMost before after (if is_none fault then copies_of shares old command else 0)) (sym none) rises
 
 -- no first fault and no second
 pub neither : (first second : Option Reason) → first ≡ None → second ≡ None → option_or first second ≡ None
@@ -29,6 +38,25 @@ slot-there slots t within = ap (λ b. if b then None else Some NoSlot) (lt-ltb t
 
 pub bytes-there : (slots : List SlotState) (t : ℕ) → false ≡ text_at slots t → not_bytes_fault slots t ≡ None
 bytes-there slots t bytes = ap (λ b. if b then Some NotBytes else None) (sym bytes)
+
+-- a slot that isn't among others
+pub outside : (s first count : ℕ) → (first ≤ s → s < first + count → ⊥) → overlap_fault s first count ≡ None
+outside s first count never = ap (λ b. if b then Some Overlap else None) (by-order (leb_tells first s) (leb_tells (suc s) (first + count))) where
+  by-order : ((nat_le first s ≡ true) × (first ≤ s)) ⊎ ((nat_le first s ≡ false) × (s < first)) → ((nat_lt s (first + count) ≡ true) × (s < first + count)) ⊎ ((nat_lt s (first + count) ≡ false) × (first + count < suc s))
+      → (nat_le first s && nat_lt s (first + count)) ≡ false
+  by-order (inl from) (inl before) = absurd (never from.1 before.1)
+  by-order (inr not_from) before = ap (λ b. b && nat_lt s (first + count)) not_from.0
+  by-order (inl from) (inr past) = ap (λ b. nat_le first s && b) past.0 ∙ and-false (nat_le first s)
+
+pub text-there : (slots : List SlotState) (s : ℕ) → text_at slots s ≡ true → not_text_fault slots s ≡ None
+text-there slots s flag = ap (λ b. if b then None else Some NotText) flag
+
+-- two slots that are apart
+pub apart : (t u : ℕ) → ¬ (t ≡ u) → overlap_fault t u 1 ≡ None
+apart t u other = outside t u 1 (λ from before. other (omega (arith, from, before)))
+
+pub one-end : (is_asked : Bool) → is_asked ≡ false → one_end_fault is_asked ≡ None
+one-end is_asked not = ap one_end_fault not
 
 pub byte-there : (i len : ℕ) → i < len → (if nat_lt i len then None else Some OutOfRange) ≡ None
 byte-there i len within = ap (λ b. if b then None else Some OutOfRange) (lt-ltb i len within)

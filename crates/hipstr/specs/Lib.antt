@@ -1,3 +1,4 @@
+pub mod Cut
 pub mod Slot
 pub mod Step
 pub mod Run

@@ -1,7 +1,7 @@
 -- One step of the list machine: what a command may answer, what it leaves of the slots, and how many bytes it copies at most.
 -- `shares` says whether owners are shared.
-use Rattle.std.specs.Prelude.{◌≡◌, ℕ, ◌+◌, ◌*◌, ◌^◌, ◌<◌, ◌≤◌, ◌⊎◌, Bool, true, false, List, [], ◌∷◌, ◌++◌, length, map, take, drop, max, Option, Some, None, is_none, if◌then◌else◌, nat_le, nat_lt, slice_set, MatchOption, codes, refl}
-use Rattle.std.specs.Char.{to_ascii_lowercase, to_ascii_uppercase}
+use Rattle.std.specs.Prelude.{◌≡◌, ℕ, ◌+◌, ◌-◌, ◌*◌, ◌^◌, ◌<◌, ◌≤◌, ◌⊎◌, Bool, true, false, ◌&&◌, List, [], ◌∷◌, ◌++◌, length, map, take, drop, max, Option, Some, None, is_none, if◌then◌else◌, nat_le, nat_lt, slice_set, MatchOption, codes, refl}
+use Rattle.std.specs.Char.{is_whitespace, to_ascii_lowercase, to_ascii_uppercase}
 use Rattle.std.specs.Cmp.Lexicographic.{slice_cmp}
 use Rattle.std.specs.List.{join_by, repeat}
 use Rattle.std.specs.Option.{option_or, option_map}
@@ -21,14 +21,22 @@ use Rattle.hip_bytes.specs.declared.kind.TheConstants.{INLINE_CAPACITY}
 use Rattle.hip_text.specs.Boundary.{is_boundary}
 use Rattle.hip_text.specs.Change.{PopCharAnswers}
 use Rattle.hip_text.specs.Slice.{text_slice_fault}
+use Rattle.hip_cuts.specs.Piece.{part_cost}
+use Rattle.hip_match.specs.Characters.{char_ends}
+use Rattle.hip_match.specs.Draw.{draw}
+use Rattle.hip_match.specs.declared.draw.End.{End}
+use Rattle.hipstr.specs.Cut.{IsPartAt, Leaves, PutsParts, SomeNeedsMemory, has_back, has_one_end, occurrences, parted, parts_cost, pieces_of, stripped, trims_one_end}
 use Rattle.hipstr.specs.Reason.{reason_of, text_reason_of}
 use Rattle.hipstr.specs.Slot.{SlotState, empty_slot, slot_at, text_at, Replaces}
 use Rattle.hipstr.specs.declared.command.Command.{Command}
-use Rattle.hipstr.specs.declared.command.Command.TheVariants.{New, Inline, Borrow, Copy, Room, Clone, Slice, Push, Pop, Truncate, Clear, Shrink, Upper, Lower, Set, Repeat, Join, Mutate, Owned, Text, Bytes, Compare, Len, Kind, Capacity}
+use Rattle.hipstr.specs.declared.command.Command.TheVariants.{New, Inline, Borrow, Copy, Room, Clone, Slice, Push, Pop, Truncate, Clear, Shrink, Upper, Lower, Set, Repeat, Join, Mutate, Owned, Text, Bytes, Trim, TrimMatches, Strip, Pieces, Once, Compare, Len, Kind, Capacity}
 use Rattle.hipstr.specs.declared.command.Answer.{Answer}
 use Rattle.hipstr.specs.declared.command.Answer.TheVariants.{Done, Nothing, Number, Order, Byte, Char, Kind as KindOf, Refused}
+use Rattle.hipstr.specs.declared.command.How.{How}
+use Rattle.hipstr.specs.declared.command.Pat.{Pat}
 use Rattle.hipstr.specs.declared.command.Reason.{Reason}
-use Rattle.hipstr.specs.declared.command.Reason.TheVariants.{NoSlot, NotText, NotBytes, NotUtf8, TooLong, StartOutOfBounds, EndNotACharBoundary, OutOfRange, Memory}
+use Rattle.hipstr.specs.declared.command.Side.{Side}
+use Rattle.hipstr.specs.declared.command.Reason.TheVariants.{NoSlot, Overlap, NotText, NotBytes, NotUtf8, TooLong, StartOutOfBounds, EndNotACharBoundary, OutOfRange, OneEnd, Memory}
 
 -- a slot that isn't there
 abbrev pub slot_fault : List SlotState → ℕ → Option Reason
@@ -71,6 +79,30 @@ length_fault len = if nat_lt len (2 ^ 64) then None else Some TooLong
 abbrev pub slots_fault : List SlotState → ℕ → ℕ → Option Reason
 slots_fault slots first count = if nat_le (first + count) (length slots) then None else Some NoSlot
 
+-- slots that a command would both take from and put to
+abbrev pub overlap_fault : ℕ → ℕ → ℕ → Option Reason
+overlap_fault s first count = if nat_le first s && nat_lt s (first + count) then Some Overlap else None
+
+-- what comes from one end alone
+abbrev pub one_end_fault : Bool → Option Reason
+one_end_fault is_asked = if is_asked then Some OneEnd else None
+
+-- the ranges at which a text is trimmed, stripped, and parted in two; and those of the pieces that a script draws
+abbrev pub TrimsTo : List SlotState → ℕ → Side → ℕ × ℕ → Type 0
+TrimsTo slots s side range = Leaves side (char_ends is_whitespace (slot_at slots s).items) (length (slot_at slots s).items) range
+
+abbrev pub TrimsMatchesTo : List SlotState → ℕ → Side → Pat → ℕ × ℕ → Type 0
+TrimsMatchesTo slots s side pattern range = Leaves side (occurrences pattern (slot_at slots s).items) (length (slot_at slots s).items) range
+
+abbrev pub stripped_slot : List SlotState → ℕ → End → Pat → Option (ℕ × ℕ)
+stripped_slot slots s end pattern = stripped end (occurrences pattern (slot_at slots s).items) (length (slot_at slots s).items)
+
+abbrev pub parted_slot : List SlotState → ℕ → End → Pat → Option ((ℕ × ℕ) × (ℕ × ℕ))
+parted_slot slots s end pattern = parted end (occurrences pattern (slot_at slots s).items) (length (slot_at slots s).items)
+
+abbrev pub drawn_of : List SlotState → ℕ → How → List End → List (ℕ × ℕ)
+drawn_of slots s how script = draw (pieces_of how (slot_at slots s).items) script
+
 -- the items of a slot
 abbrev pub items_of : SlotState → List ℕ
 items_of slot = slot.handle.items
@@ -110,6 +142,17 @@ fault_of slots (Owned t) = slot_fault slots t
 fault_of slots (Text t) =
     option_or (slot_fault slots t) (option_or (not_bytes_fault slots t) (utf8_fault (slot_at slots t).items))
 fault_of slots (Bytes t) = option_or (slot_fault slots t) (not_text_fault slots t)
+fault_of slots (Trim s t side) = option_or (slot_fault slots s) (option_or (slot_fault slots t) (not_text_fault slots s))
+fault_of slots (TrimMatches s t side pattern) =
+    option_or (slot_fault slots s) (option_or (slot_fault slots t) (option_or (not_text_fault slots s)
+    (one_end_fault (trims_one_end side pattern))))
+fault_of slots (Strip s t end pattern) = option_or (slot_fault slots s) (option_or (slot_fault slots t) (not_text_fault slots s))
+fault_of slots (Pieces s how script first) =
+    option_or (slot_fault slots s) (option_or (slots_fault slots first (length script.now)) (option_or (overlap_fault s first (length script.now))
+    (option_or (not_text_fault slots s) (one_end_fault (has_one_end how && has_back script.now)))))
+fault_of slots (Once s t u end pattern) =
+    option_or (slot_fault slots s) (option_or (slot_fault slots t) (option_or (slot_fault slots u) (option_or (overlap_fault t u 1)
+    (not_text_fault slots s))))
 fault_of slots (Compare s t) = option_or (slot_fault slots s) (slot_fault slots t)
 fault_of slots (Len t) = slot_fault slots t
 fault_of slots (Kind t) = slot_fault slots t
@@ -130,6 +173,14 @@ MayNeedMemory shares slots (Repeat s t n) = RepeatNeedsMemory (slot_at slots s).
 MayNeedMemory shares slots (Join first count sep t) = Unit {0}
 MayNeedMemory shares slots (Mutate t bytes) = Unit {0}
 MayNeedMemory shares slots (Owned t) = OwnNeedsMemory (slot_at slots t).kind (length (slot_at slots t).items)
+MayNeedMemory shares slots (Trim s t side) = (range : ℕ × ℕ) × TrimsTo slots s side range × CutNeedsMemory (slot_at slots s).kind (range.1 - range.0)
+MayNeedMemory shares slots (TrimMatches s t side pattern) =
+    (range : ℕ × ℕ) × TrimsMatchesTo slots s side pattern range × CutNeedsMemory (slot_at slots s).kind (range.1 - range.0)
+MayNeedMemory shares slots (Strip s t end pattern) =
+    MatchOption (stripped_slot slots s end pattern) ⊥ (λ range. CutNeedsMemory (slot_at slots s).kind (range.1 - range.0))
+MayNeedMemory shares slots (Pieces s how script first) = SomeNeedsMemory (slot_at slots s).kind (drawn_of slots s how script.now)
+MayNeedMemory shares slots (Once s t u end pattern) =
+    MatchOption (parted_slot slots s end pattern) ⊥ (λ parts. SomeNeedsMemory (slot_at slots s).kind (parts.0 ∷ parts.1 ∷ []))
 -- no other may
 MayNeedMemory shares slots command = ⊥
 
@@ -179,6 +230,21 @@ Performs shares old (Mutate t bytes) Done new = Replaces old new t (text_at old 
 Performs shares old (Owned t) Done new = Replaces old new t (text_at old t) (λ slot. IsOwned (slot_at old t) slot)
 Performs shares old (Text t) Done new = Replaces old new t true (λ slot. slot ≡ slot_at old t)
 Performs shares old (Bytes t) Done new = Replaces old new t false (λ slot. slot ≡ slot_at old t)
+Performs shares old (Trim s t side) Done new =
+    (range : ℕ × ℕ) × TrimsTo old s side range × Replaces old new t true (IsPartAt (slot_at old s) range)
+Performs shares old (TrimMatches s t side pattern) Done new =
+    (range : ℕ × ℕ) × TrimsMatchesTo old s side pattern range × Replaces old new t true (IsPartAt (slot_at old s) range)
+Performs shares old (Strip s t end pattern) Done new =
+    MatchOption (stripped_slot old s end pattern) ⊥ (λ range. Replaces old new t true (IsPartAt (slot_at old s) range))
+Performs shares old (Strip s t end pattern) Nothing new = (stripped_slot old s end pattern ≡ None) × (new ≡ old)
+Performs shares old (Pieces s how script first) (Number n) new =
+    let ranges = drawn_of old s how script.now in
+    (n ≡ length ranges) × PutsParts (slot_at old s) old first ranges new
+Performs shares old (Once s t u end pattern) Done new =
+    let source = slot_at old s in
+    MatchOption (parted_slot old s end pattern) ⊥ (λ parts. (between : List SlotState)
+    × Replaces old between t true (IsPartAt source parts.0) × Replaces between new u true (IsPartAt source parts.1))
+Performs shares old (Once s t u end pattern) Nothing new = (parted_slot old s end pattern ≡ None) × (new ≡ old)
 Performs shares old (Compare s t) (Order order) new = (order ≡ slice_cmp nat_cmp (slot_at old s).items (slot_at old t).items) × (new ≡ old)
 Performs shares old (Len t) (Number n) new = (n ≡ length (slot_at old t).items) × (new ≡ old)
 Performs shares old (Kind t) (KindOf kind) new = (kind ≡ (slot_at old t).kind) × (new ≡ old)
@@ -191,7 +257,12 @@ abbrev pub Step : Bool → List SlotState → Command → Answer → List SlotSt
 Step shares old command answer new =
     MatchOption (fault_of old command) (Performs shares old command answer new) (λ reason. (answer ≡ Refused reason) × (new ≡ old))
 
--- how many bytes a command without a fault copies at most
+-- what is made at most where there is something to make
+abbrev pub option_cost : {A : Type 0} → (A → ℕ) → Option A → ℕ
+option_cost cost None = 0
+option_cost cost (Some a) = cost a
+
+-- how many bytes a command without a fault copies at most. What a trim copies, `Costs` says
 abbrev pub copies_of : Bool → List SlotState → Command → ℕ
 copies_of shares slots (Inline t bytes) = length bytes.now
 copies_of shares slots (Copy t bytes) = times_copied shares (length bytes.now)
@@ -211,12 +282,26 @@ copies_of shares slots (Mutate t bytes) =
     let len = length (slot_at slots t).items in
     len + (if shares then INLINE_CAPACITY else len + length bytes.now)
 copies_of shares slots (Owned t) = owned_cost shares (slot_at slots t).kind (length (slot_at slots t).items)
+copies_of shares slots (Strip s t end pattern) = option_cost (part_cost shares (slot_at slots s)) (stripped_slot slots s end pattern)
+copies_of shares slots (Pieces s how script first) = parts_cost shares (slot_at slots s) (drawn_of slots s how script.now)
+copies_of shares slots (Once s t u end pattern) =
+    option_cost (λ parts. parts_cost shares (slot_at slots s) (parts.0 ∷ parts.1 ∷ [])) (parted_slot slots s end pattern)
 -- any other copies none
 copies_of shares slots command = 0
 
 -- the cost of a command: how many bytes it copies at most; one with a fault copies none
 abbrev pub cost_of : Bool → List SlotState → Command → ℕ
 cost_of shares slots command = if is_none (fault_of slots command) then copies_of shares slots command else 0
+
+-- so many bytes does a command copy at most: a trim as many as the part that it leaves, any other its cost
+abbrev pub Costs : Bool → List SlotState → Command → ℕ → Type 0
+Costs shares slots (Trim s t side) cost =
+    MatchOption (fault_of slots (Trim s t side))
+    ((range : ℕ × ℕ) × TrimsTo slots s side range × (cost ≡ part_cost shares (slot_at slots s) range)) (λ reason. cost ≡ 0)
+Costs shares slots (TrimMatches s t side pattern) cost =
+    MatchOption (fault_of slots (TrimMatches s t side pattern))
+    ((range : ℕ × ℕ) × TrimsMatchesTo slots s side pattern range × (cost ≡ part_cost shares (slot_at slots s) range)) (λ reason. cost ≡ 0)
+Costs shares slots command cost = cost ≡ cost_of shares slots command
 
 -- of two faults the first is told: no slot 3, and `5..` of the empty list
 pub no_slot_first : fault_of (empty_slot ∷ []) (Slice 0 3 (Included 5) Unbounded) ≡ Some NoSlot

@@ -1,9 +1,61 @@
 use crate::bytes::{GrowFault, Kind};
 use crate::{bytes, string};
 use hip_bytes::Backend;
+use hip_match::draw::End;
 use std::alloc::AllocError;
 use std::cmp::Ordering;
 use std::ops::Bound;
+
+/// Which ends of a text are trimmed.
+#[derive(Clone, Copy, Debug, PartialEq, Eq)]
+pub enum Side {
+    /// Its front.
+    Start,
+    /// Its end.
+    End,
+    /// Its front, and then the end of what is left.
+    Both,
+}
+
+/// What is looked for in a text.
+#[derive(Clone, Copy)]
+pub enum Pat<'b> {
+    /// A text, which may be empty.
+    Text(&'b str),
+    /// A character.
+    Char(char),
+    /// Each of these characters.
+    Set(&'b [char]),
+}
+
+/// How a text is taken apart.
+#[derive(Clone, Copy)]
+pub enum How<'b> {
+    /// Into the parts between the occurrences.
+    Split(Pat<'b>),
+    /// Into the parts that occurrences end, each with its occurrence.
+    Inclusive(Pat<'b>),
+    /// Into the parts between, without the last where that is empty.
+    Terminator(Pat<'b>),
+    /// Into so many parts at most.
+    SplitN(usize, Pat<'b>),
+    /// Into the occurrences.
+    Matches(Pat<'b>),
+    /// Into the parts between, from the end.
+    RSplit(Pat<'b>),
+    /// Into the parts between, from the end, without the first where that is empty.
+    RTerminator(Pat<'b>),
+    /// Into so many parts at most, from the end.
+    RSplitN(usize, Pat<'b>),
+    /// Into the occurrences, from the end.
+    RMatches(Pat<'b>),
+    /// Into lines.
+    Lines,
+    /// Into the runs between white space.
+    Words,
+    /// Into the runs between ASCII white space.
+    AsciiWords,
+}
 
 /// What [`run`](crate::run) can be told to do. Slots are named by their position in the pool.
 #[derive(Clone, Copy)]
@@ -50,6 +102,16 @@ pub enum Command<'b> {
     Text(usize),
     /// The slot becomes bytes again.
     Bytes(usize),
+    /// The second slot becomes the text of the first, without white space at these ends.
+    Trim(usize, usize, Side),
+    /// The same without what occurs there again and again.
+    TrimMatches(usize, usize, Side, Pat<'b>),
+    /// The second slot becomes the text of the first without one occurrence at that end, if there is one.
+    Strip(usize, usize, End, Pat<'b>),
+    /// The slots from the last on become the pieces of the first that the script draws, one after another, as many as there are.
+    Pieces(usize, How<'b>, &'b [End], usize),
+    /// The second slot becomes what lies before the first occurrence from that end, and the third what lies behind it, if there is one.
+    Once(usize, usize, usize, End, Pat<'b>),
     /// The order of the bytes of two slots.
     Compare(usize, usize),
     /// The number of the slot's bytes.
@@ -86,6 +148,8 @@ pub enum Answer {
 pub enum Reason {
     /// A slot isn't there.
     NoSlot,
+    /// A slot would have to be two things at once.
+    Overlap,
     /// The slot is bytes.
     NotText,
     /// The slot is a text.
@@ -106,6 +170,8 @@ pub enum Reason {
     EndNotACharBoundary,
     /// The position is past the items.
     OutOfRange,
+    /// What is drawn or trimmed from both ends can be so from one alone.
+    OneEnd,
     /// Memory ran out, or an owner couldn't be shared once more.
     Memory,
 }

@@ -20,7 +20,8 @@ mod pool;
 pub mod string;
 mod text;
 
-pub use command::{Answer, Command, Reason};
+pub use command::{Answer, Command, How, Pat, Reason, Side};
+pub use hip_match::draw::End;
 pub use hip_text::{
     Allocated, Appended, Backend, Block, Borrowed, Inline, Kind, Meter, Rc, Room, Unique,
     copy_counted, fill_counted,

@@ -1,7 +1,7 @@
 ghost use Rattle.std.specs.Prelude.{◌≡◌, ℕ, IfOk, OnErr};
 ghost use Rattle.hip_bytes.specs.Meter.{RisesAtMost};
 ghost use Rattle.hipstr.specs.Reason.{answer_of};
-ghost use Rattle.hipstr.specs.Step.{Step, cost_of};
+ghost use Rattle.hipstr.specs.Step.{Step, Costs};
 ghost use Rattle.hipstr.specs.Run.{Run};
 
 use crate::command::{Answer, Command, Reason};
@@ -10,9 +10,11 @@ use hip_bytes::{Backend, Meter};
 use std::alloc::{AllocError, Global};
 
 mod change;
+mod cut;
 mod flag;
 mod join;
 mod make;
+mod pieces;
 mod tell;
 mod write;
 
@@ -25,7 +27,7 @@ impl<'b, B: Backend> Pool<'b, B> {
         meter: &mut Meter,
     ) -> Result<Answer, Reason>
         ensures step { Step B.SHARES self.old command.entry (answer_of result) self.new }
-        ensures counted { RisesAtMost meter.old meter.new (cost_of B.SHARES self.old command.entry) }
+        ensures counted { (cost : ℕ) × Costs B.SHARES self.old command.entry cost × RisesAtMost meter.old meter.new cost }
     {
         match command {
             Command::New(t) => self.make_new(t),
@@ -51,6 +53,17 @@ impl<'b, B: Backend> Pool<'b, B> {
             Command::Owned(t) => self.make_owned(alloc, t, meter),
             Command::Text(t) => self.make_text(t),
             Command::Bytes(t) => self.make_bytes(t),
+            Command::Trim(s, t, side) => self.trim(alloc, s, t, side, meter),
+            Command::TrimMatches(s, t, side, pattern) => {
+                self.trim_matches(alloc, s, t, side, pattern, meter)
+            }
+            Command::Strip(s, t, end, pattern) => self.strip(alloc, s, t, end, pattern, meter),
+            Command::Pieces(s, how, script, first) => {
+                self.make_pieces(alloc, s, how, script, first, meter)
+            }
+            Command::Once(s, t, u, end, pattern) => {
+                self.part_once(alloc, s, t, u, end, pattern, meter)
+            }
             Command::Compare(s, t) => self.compare(s, t),
             Command::Len(t) => self.tell_len(t),
             Command::Kind(t) => self.tell_kind(t),

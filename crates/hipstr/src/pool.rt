@@ -1,6 +1,8 @@
-ghost use Rattle.std.specs.Prelude.{◌≡◌, ◌≤◌, ◌<◌, ◌==◌, ◌↔◌, replicate, length, slice_set, IfOk, IfSome, IsSome};
+ghost use Rattle.std.specs.Prelude.{◌≡◌, ◌≤◌, ◌<◌, ◌==◌, ◌↔◌, replicate, length, map, slice_set, Err, is_ok, IfOk, OnErr, IfSome, IsSome};
+ghost use Rattle.hipstr.specs.declared.command.Reason.{Reason};
 ghost use Rattle.hipstr.specs.Slot.{state_of, state_at, slot_at, text_at, empty_slot};
 
+use crate::command::Reason;
 use hip_text::{Backend, HipByt, HipStr, Kind};
 use std::alloc::{AllocError, Global};
 use std::marker::Model;
@@ -75,16 +77,20 @@ impl<'b, B: Backend> Slot<'b, B> {
 /// Handles under numbers from 0, which [`run`](crate::run) works on.
 #[derive(Drop)]
 pub struct Pool<'b, B: Backend> {
-    slots: Vec<Slot<'b, B>>,
+    pub(crate) slots: Vec<Slot<'b, B>>,
+    // As many, in which pieces are made before they go to their slots. Between two commands all are empty.
+    pub(crate) spare: Vec<Slot<'b, B>>,
 }
 
 impl<'b, B: Backend> Model for Pool<'b, B> {
-    ghost use Rattle.std.specs.Prelude.{List, map};
-    ghost use Rattle.hipstr.specs.Slot.{SlotState, state_of};
+    ghost use Rattle.std.specs.Prelude.{◌≡◌, List, length, map, replicate};
+    ghost use Rattle.hipstr.specs.Slot.{SlotState, state_of, empty_slot};
 
     ghost Value = { List SlotState };
 
     ghost view = { λ p. map state_of p.slots.items };
+
+    ghost invariant = { λ p. map state_of p.spare.items ≡ replicate (length p.slots.items) empty_slot };
 }
 
 impl<'b, B: Backend> Pool<'b, B> {
@@ -93,11 +99,10 @@ impl<'b, B: Backend> Pool<'b, B> {
         requires { count ≤ MAX_SLOTS }
         ensures slots { IfOk result (λ pool. pool ≡ replicate count empty_slot) }
     {
-        let mut slots = Vec::with_capacity(alloc, count)?;
-        for _ in 0..count {
-            slots.push(Slot::empty())?;
-        }
-        Ok(Pool { slots })
+        Ok(Pool {
+            slots: empty_slots(alloc, count)?,
+            spare: empty_slots(alloc, count)?,
+        })
     }
 
     /// How many slots there are.
@@ -134,6 +139,20 @@ impl<'b, B: Backend> Pool<'b, B> {
         &self.slots[i]
     }
 
+    /// The text at a position that is there, if it is one.
+    #[inline]
+    pub(crate) fn text(&self, i: usize) -> Result<&HipStr<'b, B>, Reason>
+        requires { i < length self.now }
+        ensures flag { text_at self.now i ≡ is_ok result }
+        ensures text { IfOk result (λ text. text.now ≡ slot_at self.now i) }
+        ensures not_text { OnErr result (result ≡ Err Reason.NotText) }
+    {
+        match self.at(i) {
+            Slot::Bytes(_) => Err(Reason::NotText),
+            Slot::Text(text) => Ok(text),
+        }
+    }
+
     /// Takes the slot at a position, and leaves an empty one.
     #[inline]
     pub(crate) fn take(&mut self, i: usize) -> Slot<'b, B>
@@ -153,4 +172,17 @@ impl<'b, B: Backend> Pool<'b, B> {
     {
         self.slots[i] = slot;
     }
+}
+
+// So many empty slots.
+fn empty_slots<'b, B: Backend>(alloc: Global, count: usize) -> Result<Vec<Slot<'b, B>>, AllocError>
+    requires { count ≤ MAX_SLOTS }
+    ensures empty { IfOk result (λ slots. map state_of slots.items ≡ replicate count empty_slot) }
+    ensures count { IfOk result (λ slots. length slots.items ≡ count) }
+{
+    let mut slots = Vec::with_capacity(alloc, count)?;
+    for _ in 0..count {
+        slots.push(Slot::empty())?;
+    }
+    Ok(slots)
 }

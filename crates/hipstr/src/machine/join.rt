@@ -35,7 +35,7 @@ impl<'b, B: Backend> Pool<'b, B> {
     }
 
     /// Whether there are `count` slots from `first` on.
-    fn has_slots(&self, first: usize, count: usize) -> bool
+    pub(super) fn has_slots(&self, first: usize, count: usize) -> bool
         ensures { result ≡ nat_le (first + count) (length self.now) }
     {
         first <= self.len() && count <= self.len() - first

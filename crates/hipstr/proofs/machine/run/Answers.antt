@@ -8,8 +8,8 @@ loop-command-preserved g c =
     record {
       run = (
         _,
-        Run-take_more _ _ _ _ _ _ _ _ _ _ _ c.loop-command-test.true so_far.1 (rw (← c.from.ensures) at c.perform.ensures.step) c.push_reserved.ensures.items,
-        record { never_falls = omega (arith, so_far.2.never_falls, c.perform.ensures.counted.never_falls); at_most = omega (arith, so_far.2.at_most, c.perform.ensures.counted.at_most) },
+        Run-take_more _ _ _ _ _ _ _ _ _ _ _ c.perform.ensures.counted.0 c.loop-command-test.true so_far.1 (rw (← c.from.ensures) at c.perform.ensures.step) c.perform.ensures.counted.1 c.push_reserved.ensures.items,
+        record { never_falls = omega (arith, so_far.2.never_falls, c.perform.ensures.counted.2.never_falls); at_most = omega (arith, so_far.2.at_most, c.perform.ensures.counted.2.at_most) },
       );
       answered = omega arith;
       room = omega arith;

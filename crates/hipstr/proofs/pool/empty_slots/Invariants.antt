@@ -1,6 +1,6 @@
 use Rattle.std.proofs.Common.{◌≡◌, replicate, map}
 use Rattle.hipstr.specs.Slot.{state_of, empty_slot}
-use Rattle.hipstr.proofs.pool.Pool.new.Given as goal
+use Rattle.hipstr.proofs.pool.empty_slots.Given as goal
 
 -- the slots so far are empty
 abbrev pub invariant-loop : goal.invariant-loop

@@ -1,0 +1,298 @@
+-- Lemmas on the parts that a script draws: in the spare slots, and then in their own.
+use Rattle.std.proofs.Common.{◌≡◌, ◌∙◌, ℕ, zero, suc, ◌+◌, ◌-◌, ◌<◌, ◌≤◌, inl, inr, Bool, true, false, List, [], ◌∷◌, ◌++◌, length, map, take, drop, replicate, slice_set, slice_range, get_or, Option, Some, None, Result, Ok, Err, ap, refl, subst, sym, arith}
+use Rattle.std.proofs.Math.ListN.{drop_of_length-le}
+use Rattle.std.proofs.lemmas.List.{append-nil, append_assoc, get_or_default, length-append, length-drop, length-map, length-replicate, length-set, length-take}
+use Rattle.std.proofs.lemmas.Bool.{false≢true}
+use Rattle.hip_bytes.specs.Cost.{CutNeedsMemory}
+use Rattle.hip_bytes.specs.Handle.{Handle}
+use Rattle.hip_bytes.specs.Made.{CutAnswers}
+use Rattle.hip_bytes.specs.Meter.{RisesAtMost}
+use Rattle.hip_bytes.specs.declared.kind.Kind.{Kind}
+use Rattle.hip_cuts.specs.Piece.{part_cost, FirstPiece, FirstCosts, LastPiece, LastCosts}
+use Rattle.hip_match.proofs.DrawLemmas.{TakesEnd-back}
+use Rattle.hip_match.specs.Draw.{draw, but_last}
+use Rattle.hip_match.specs.declared.draw.End.{End}
+use Rattle.hip_match.specs.declared.draw.End.TheVariants.{Front, Back}
+use Rattle.hipstr.proofs.Places.{placed}
+use Rattle.hipstr.specs.Cut.{DrawsPart, HoldParts, IsPartAt, PutsParts, SomeNeedsMemory, has_back, parts_cost, put_all}
+use Rattle.hipstr.specs.Slot.{SlotState, empty_slot, slot_at}
+
+-- ---- one part
+first-of : (r s : ℕ × ℕ) (l m : List (ℕ × ℕ)) → r ∷ l ≡ s ∷ m → r ≡ s
+first-of r s l m same = ap (λ (l : List (ℕ × ℕ)). head l) same where
+  head : List (ℕ × ℕ) → ℕ × ℕ
+  head [] = r
+  head (x ∷ l) = x
+
+pub draws-front : {E : Type 0} (shares : Bool) (source : Handle) (old new : List (ℕ × ℕ)) (result : Option (Result Handle E)) (before after : ℕ)
+    → FirstPiece source old new result → FirstCosts shares source old new result before after → DrawsPart shares Front source old new result before after
+draws-front shares source old new None before after first costs = (first.0, costs)
+draws-front shares source old new (Some part) before after first costs = (
+  first.0,
+  λ script. ap (λ (l : List (ℕ × ℕ)). draw l (Front ∷ script)) first.1,
+  first.2,
+  subst (λ (range : ℕ × ℕ). RisesAtMost before after (part_cost shares source range)) (first-of costs.0 first.0 new new (sym costs.1 ∙ first.1)) costs.2,
+)
+
+pub draws-back : {E : Type 0} (shares : Bool) (source : Handle) (old new : List (ℕ × ℕ)) (result : Option (Result Handle E)) (before after : ℕ)
+    → LastPiece source old new result → LastCosts shares source old new result before after → DrawsPart shares Back source old new result before after
+draws-back shares source old new None before after last costs = (last.0, costs)
+draws-back shares source old new (Some part) before after last costs =
+    let takes = TakesEnd-back old new (Some last.0) last.1 in
+    let takes_2 = TakesEnd-back old new (Some costs.0) costs.1 in (
+      last.0,
+      λ script. (takes script).0,
+      last.2,
+      subst (λ (range : ℕ × ℕ). RisesAtMost before after (part_cost shares source range)) (first-of costs.0 last.0 (draw new []) (draw new []) (sym (takes_2 []).0 ∙ (takes []).0)) costs.2,
+    )
+
+-- ---- the parts so far, in the spare slots
+tail : List SlotState → List SlotState
+tail [] = []
+tail (slot ∷ slots) = slots
+
+pub hold-next : (source : Handle) (drawn : List (ℕ × ℕ)) (range : ℕ × ℕ) (part : Handle) (slots : List SlotState)
+    → HoldParts source drawn slots → length drawn < length slots → IsPartAt source range part
+    → HoldParts source (drawn ++ range ∷ []) (slice_set slots (length drawn) (record { is_text = true; handle = part }))
+unfolding tail
+hold-next source [] range part [] holds within is = absurd (omega (arith, within))
+hold-next source [] range part (slot ∷ slots) holds within is = (refl, is, ap tail holds)
+hold-next source (first ∷ drawn) range part [] holds within is = absurd holds
+hold-next source (first ∷ drawn) range part (slot ∷ slots) holds within is = (holds.0, holds.1, hold-next source drawn range part slots holds.2 (omega (arith, within)) is)
+
+cost-append : (shares : Bool) (source : Handle) (drawn more : List (ℕ × ℕ)) → parts_cost shares source (drawn ++ more) ≡ parts_cost shares source drawn + parts_cost shares source more
+cost-append shares source [] more = omega arith
+cost-append shares source (range ∷ drawn) more = ap (λ n. part_cost shares source range + n) (cost-append shares source drawn more) ∙ omega arith
+
+needs-append : (kind : Kind) (drawn : List (ℕ × ℕ)) (range : ℕ × ℕ) (more : List (ℕ × ℕ)) → CutNeedsMemory kind (range.1 - range.0) → SomeNeedsMemory kind (drawn ++ range ∷ more)
+needs-append kind [] range more needs = inl needs
+needs-append kind (first ∷ drawn) range more needs = inr (needs-append kind drawn range more needs)
+
+-- what was drawn of all, what is to come, and what that was
+pub record SoFar (shares : Bool) (source : Handle) (all to_come : List (ℕ × ℕ)) (count : ℕ) (slots : List SlotState) (before after : ℕ) : Type 0 where
+  pub drawn : List (ℕ × ℕ)
+  pub count_is : count ≡ length drawn
+  pub holds : HoldParts source drawn slots
+  pub whole : all ≡ drawn ++ to_come
+  pub rises : RisesAtMost before after (parts_cost shares source drawn)
+
+pub so-far-none : (shares : Bool) (source : Handle) (all : List (ℕ × ℕ)) (slots : List SlotState) (before : ℕ)
+    → slots ≡ replicate (length slots) empty_slot → SoFar shares source all all 0 slots before before
+so-far-none shares source all slots before empty = record { drawn = []; count_is = refl; holds = empty; whole = refl; rises = record { never_falls = omega arith; at_most = omega arith } }
+
+pub so-far-next : (shares : Bool) (source : Handle) (all to_come later : List (ℕ × ℕ)) (range : ℕ × ℕ) (count : ℕ) (slots : List SlotState) (part : Handle) (before mid after : ℕ)
+    → SoFar shares source all to_come count slots before mid → to_come ≡ range ∷ later → count < length slots → IsPartAt source range part → RisesAtMost mid after (part_cost shares source range)
+    → SoFar shares source all later (count + 1) (slice_set slots count (record { is_text = true; handle = part })) before after
+so-far-next shares source all to_come later range count slots part before mid after so_far is within is_part rises = record {
+  drawn = so_far.drawn ++ range ∷ [];
+  count_is = omega (arith, so_far.count_is, length-append so_far.drawn (range ∷ []));
+  holds = subst (λ n. HoldParts source (so_far.drawn ++ range ∷ []) (slice_set slots n (record { is_text = true; handle = part }))) (sym so_far.count_is)
+      (hold-next source so_far.drawn range part slots so_far.holds (omega (arith, so_far.count_is, within)) is_part);
+  whole = so_far.whole ∙ ap (λ l. so_far.drawn ++ l) is ∙ sym (append_assoc so_far.drawn (range ∷ []) later);
+  rises = record {
+    never_falls = omega (arith, so_far.rises.never_falls, rises.never_falls);
+    at_most = omega (arith, so_far.rises.at_most, rises.at_most, cost-append shares source so_far.drawn (range ∷ []));
+  };
+}
+
+-- all were drawn
+pub record AllDrawn (shares : Bool) (source : Handle) (all : List (ℕ × ℕ)) (count : ℕ) (slots : List SlotState) (before after : ℕ) : Type 0 where
+  pub made : (count ≡ length all) × HoldParts source all slots
+  pub rises : RisesAtMost before after (parts_cost shares source all)
+
+pub so-far-all : (shares : Bool) (source : Handle) (all to_come : List (ℕ × ℕ)) (count : ℕ) (slots : List SlotState) (before after : ℕ)
+    → SoFar shares source all to_come count slots before after → to_come ≡ [] → AllDrawn shares source all count slots before after
+so-far-all shares source all to_come count slots before after so_far none =
+    let is : all ≡ so_far.drawn = so_far.whole ∙ ap (λ l. so_far.drawn ++ l) none ∙ append-nil so_far.drawn in
+    record {
+      made = (so_far.count_is ∙ ap length (sym is), subst (λ (l : List (ℕ × ℕ)). HoldParts source l slots) (sym is) so_far.holds);
+      rises = subst (λ (l : List (ℕ × ℕ)). RisesAtMost before after (parts_cost shares source l)) (sym is) so_far.rises;
+    }
+
+-- one was refused
+pub record OneRefused (shares : Bool) (source : Handle) (all : List (ℕ × ℕ)) (before after : ℕ) : Type 0 where
+  pub needs : SomeNeedsMemory source.kind all
+  pub rises : RisesAtMost before after (parts_cost shares source all)
+
+part-within : (items : List ℕ) (start end : ℕ) → length (slice_range items start end) ≤ end - start
+part-within items start end = omega (arith, length-take (end - start) (drop start items))
+
+pub so-far-refused : (shares : Bool) (source : Handle) (all to_come later : List (ℕ × ℕ)) (range : ℕ × ℕ) (count : ℕ) (slots : List SlotState) (before mid after : ℕ)
+    → SoFar shares source all to_come count slots before mid → to_come ≡ range ∷ later → CutNeedsMemory source.kind (length (slice_range source.items range.0 range.1))
+    → RisesAtMost mid after (part_cost shares source range) → OneRefused shares source all before after
+so-far-refused shares source all to_come later range count slots before mid after so_far is needs rises =
+    let whole : all ≡ so_far.drawn ++ range ∷ later = so_far.whole ∙ ap (λ l. so_far.drawn ++ l) is in
+    record {
+      needs = subst (λ (l : List (ℕ × ℕ)). SomeNeedsMemory source.kind l) (sym whole)
+          (needs-append source.kind so_far.drawn range later (needs.0, omega (arith, needs.1, part-within source.items range.0 range.1)));
+      rises = subst (λ (l : List (ℕ × ℕ)). RisesAtMost before after (parts_cost shares source l)) (sym whole) (record {
+        never_falls = omega (arith, so_far.rises.never_falls, rises.never_falls);
+        at_most = omega (arith, so_far.rises.at_most, rises.at_most, cost-append shares source so_far.drawn (range ∷ later));
+      });
+    }
+
+-- nothing is drawn of nothing
+pub draw-none : (script : List End) → draw [] script ≡ []
+draw-none [] = refl
+draw-none (end ∷ script) = refl
+
+-- ---- the parts in their slots
+pub parts-put : (source : Handle) (ranges : List (ℕ × ℕ)) (spare slots : List SlotState) (first : ℕ)
+    → HoldParts source ranges spare → first + length ranges ≤ length slots → PutsParts source slots first ranges (put_all slots first (take (length ranges) spare))
+parts-put source [] spare slots first holds within = refl
+parts-put source (range ∷ ranges) [] slots first holds within = absurd holds
+parts-put source (range ∷ ranges) (slot ∷ spare) slots first holds within = (
+  slice_set slots first slot,
+  placed slots (slice_set slots first slot) first true slot.handle (IsPartAt source range) (omega (arith, within))
+      (ap (λ is_text. slice_set slots first (record { is_text = is_text; handle = slot.handle })) holds.0) holds.1,
+  parts-put source ranges spare (slice_set slots first slot) (first + 1) holds.2 (omega (arith, within, length-set slots first slot)),
+)
+
+pub spare-emptied : (source : Handle) (ranges : List (ℕ × ℕ)) (spare : List SlotState) → HoldParts source ranges spare
+    → replicate (length ranges) empty_slot ++ drop (length ranges) spare ≡ replicate (length spare) empty_slot
+spare-emptied source [] spare holds = holds
+spare-emptied source (range ∷ ranges) [] holds = absurd holds
+spare-emptied source (range ∷ ranges) (slot ∷ spare) holds = ap (λ slots. empty_slot ∷ slots) (spare-emptied source ranges spare holds.2)
+
+-- ---- slots that are emptied and put one by one
+pub empties-next : (slots : List SlotState) (i : ℕ) (slot : SlotState) → i < length slots → slot ≡ empty_slot → take i slots ≡ replicate i empty_slot
+    → take (suc i) (slice_set slots i slot) ≡ replicate (suc i) empty_slot
+unfolding tail
+empties-next [] i slot within is so_far = absurd (omega (arith, within))
+empties-next (s ∷ slots) zero slot within is so_far = ap (λ (x : SlotState). x ∷ []) is
+empties-next (s ∷ slots) (suc i) slot within is so_far =
+    let rest = empties-next slots i slot (omega (arith, within)) is (ap tail so_far) in
+    ap (λ (l : List SlotState). s ∷ l) rest ∙ ap (λ (l : List SlotState). first-slot l ∷ replicate (suc i) empty_slot) so_far where
+      first-slot : List SlotState → SlotState
+      first-slot [] = s
+      first-slot (x ∷ l) = x
+
+pub drop-next : {A : Type 0} (default : A) (parts : List A) (i : ℕ) → i < length parts → drop i parts ≡ get_or parts i default ∷ drop (suc i) parts
+drop-next default [] i within = absurd (omega (arith, within))
+drop-next default (part ∷ parts) zero within = refl
+drop-next default (part ∷ parts) (suc i) within = drop-next default parts i (omega (arith, within))
+
+pub put-next : (slots parts : List SlotState) (n i : ℕ) (slot : SlotState) → i < length parts → slot ≡ get_or parts i empty_slot
+    → put_all (slice_set slots n slot) (n + 1) (drop (suc i) parts) ≡ put_all slots n (drop i parts)
+put-next slots parts n i slot within is =
+    ap (λ (x : SlotState). put_all (slice_set slots n x) (n + 1) (drop (suc i) parts)) is ∙ ap (λ (l : List SlotState). put_all slots n l) (sym (drop-next empty_slot parts i within))
+
+pub spare-at : (spare : List SlotState) (i count : ℕ) → i < count → count ≤ length spare
+    → get_or (replicate i empty_slot ++ drop i spare) i empty_slot ≡ get_or (take count spare) i empty_slot
+spare-at [] i count before within = absurd (omega (arith, before, within))
+spare-at (slot ∷ spare) i zero before within = absurd (omega (arith, before))
+spare-at (slot ∷ spare) zero (suc count) before within = refl
+spare-at (slot ∷ spare) (suc i) (suc count) before within = spare-at spare i count (omega (arith, before)) (omega (arith, within))
+
+pub emptied-next : (spare : List SlotState) (i : ℕ) (slot : SlotState) → i < length spare → slot ≡ empty_slot
+    → slice_set (replicate i empty_slot ++ drop i spare) i slot ≡ replicate (suc i) empty_slot ++ drop (suc i) spare
+emptied-next [] i slot within is = absurd (omega (arith, within))
+emptied-next (s ∷ spare) zero slot within is = ap (λ (x : SlotState). x ∷ spare) is
+emptied-next (s ∷ spare) (suc i) slot within is = ap (λ (l : List SlotState). empty_slot ∷ l) (emptied-next spare i slot (omega (arith, within)) is)
+
+next-is : (i : ℕ) → suc i ≡ i + 1
+next-is i = omega arith
+
+-- the same, where a loop counts on
+pub empties-on : (slots : List SlotState) (i : ℕ) (slot : SlotState) → i < length slots → slot ≡ empty_slot → take i slots ≡ replicate i empty_slot
+    → take (i + 1) (slice_set slots i slot) ≡ replicate (i + 1) empty_slot
+empties-on slots i slot within is so_far = subst (λ n. take n (slice_set slots i slot) ≡ replicate n empty_slot) (next-is i) (empties-next slots i slot within is so_far)
+
+pub puts-on : (spare slots mid goal : List SlotState) (first i count : ℕ) (was slot : SlotState)
+    → i < count → count ≤ length spare → mid ≡ replicate i empty_slot ++ drop i spare → slot ≡ get_or mid i was → put_all slots (first + i) (drop i (take count spare)) ≡ goal
+    → put_all (slice_set slots (first + i) slot) (first + (i + 1)) (drop (i + 1) (take count spare)) ≡ goal
+puts-on spare slots mid goal first i count was slot before within is is_slot so_far =
+    let long : i < length (replicate i empty_slot ++ drop i spare) = omega (arith, before, within, length-append (replicate i empty_slot) (drop i spare), length-replicate i empty_slot, length-drop i spare) in
+    let there : slot ≡ get_or (take count spare) i empty_slot =
+    is_slot ∙ ap (λ (l : List SlotState). get_or l i was) is ∙ get_or_default (replicate i empty_slot ++ drop i spare) i was empty_slot long ∙ spare-at spare i count before within in
+    subst (λ n. put_all (slice_set slots (first + i) slot) n (drop (i + 1) (take count spare)) ≡ goal) (omega arith)
+    (subst (λ n. put_all (slice_set slots (first + i) slot) (first + i + 1) (drop n (take count spare)) ≡ goal) (next-is i)
+    (put-next slots (take count spare) (first + i) i slot (omega (arith, before, within, length-take count spare)) there ∙ so_far))
+
+pub empties-front-on : (spare mid : List SlotState) (i : ℕ) (slot : SlotState) → i < length spare → slot ≡ empty_slot → mid ≡ replicate i empty_slot ++ drop i spare
+    → slice_set mid i slot ≡ replicate (i + 1) empty_slot ++ drop (i + 1) spare
+empties-front-on spare mid i slot within is so_far =
+    ap (λ (l : List SlotState). slice_set l i slot) so_far
+    ∙ subst (λ n. slice_set (replicate i empty_slot ++ drop i spare) i slot ≡ replicate n empty_slot ++ drop n spare) (next-is i) (emptied-next spare i slot within is)
+
+-- ---- a walk that goes on by the next end of a script
+to-come : (rest later : List (ℕ × ℕ)) (script : List End) (i : ℕ) (default : End) (range : ℕ × ℕ) → i < length script
+    → ((more : List End) → draw rest (get_or script i default ∷ more) ≡ range ∷ draw later more) → draw rest (drop i script) ≡ range ∷ draw later (drop (i + 1) script)
+to-come rest later script i default range within draws =
+    ap (λ (ends : List End). draw rest ends) (drop-next default script i within) ∙ draws (drop (suc i) script) ∙ ap (λ n. range ∷ draw later (drop n script)) (next-is i)
+
+pub goes-on : {E : Type 0} (result : Result Handle E) (shares : Bool) (source at : Handle) (all rest later : List (ℕ × ℕ)) (script : List End) (i : ℕ) (default : End) (slots new : List SlotState) (part : Handle) (before mid after : ℕ)
+    → SoFar shares source all (draw rest (drop i script)) i slots before mid → at ≡ source → i < length script → length script ≤ length slots
+    → (range : ℕ × ℕ) × ((more : List End) → draw rest (get_or script i default ∷ more) ≡ range ∷ draw later more) × CutAnswers at (slice_range at.items range.0 range.1) result × RisesAtMost mid after (part_cost shares at range)
+    → result ≡ Ok part → new ≡ slice_set slots i (record { is_text = true; handle = part })
+    → SoFar shares source all (draw later (drop (i + 1) script)) (i + 1) new before after
+goes-on {E} result shares source at all rest later script i default slots new part before mid after so_far is within room drawn made put =
+    subst (λ (l : List SlotState). SoFar shares source all (draw later (drop (i + 1) script)) (i + 1) l before after) (sym put)
+    (so-far-next shares source all (draw rest (drop i script)) (draw later (drop (i + 1) script)) drawn.0 i slots part before mid after so_far
+    (to-come rest later script i default drawn.0 within drawn.1) (omega (arith, within, room))
+    (subst (λ (handle : Handle). IsPartAt handle drawn.0 part) is (subst (λ (result : Result Handle E). CutAnswers at (slice_range at.items drawn.0.0 drawn.0.1) result) made drawn.2))
+    (subst (λ (handle : Handle). RisesAtMost mid after (part_cost shares handle drawn.0)) is drawn.3))
+
+pub is-refused : {E : Type 0} (result : Result Handle E) (error : E) (shares : Bool) (source at : Handle) (all rest later : List (ℕ × ℕ)) (script : List End) (i : ℕ) (default : End) (slots : List SlotState) (before mid after : ℕ)
+    → SoFar shares source all (draw rest (drop i script)) i slots before mid → at ≡ source → i < length script
+    → (range : ℕ × ℕ) × ((more : List End) → draw rest (get_or script i default ∷ more) ≡ range ∷ draw later more)
+    × CutAnswers at (slice_range at.items range.0 range.1) result × RisesAtMost mid after (part_cost shares at range)
+    → result ≡ Err error → OneRefused shares source all before after
+is-refused {E} result error shares source at all rest later script i default slots before mid after so_far is within drawn refused =
+    so-far-refused shares source all (draw rest (drop i script)) (draw later (drop (i + 1) script)) drawn.0 i slots before mid after so_far
+    (to-come rest later script i default drawn.0 within drawn.1)
+    (subst (λ (handle : Handle). CutNeedsMemory handle.kind (length (slice_range handle.items drawn.0.0 drawn.0.1))) is (subst (λ (result : Result Handle E). CutAnswers at (slice_range at.items drawn.0.0 drawn.0.1) result) refused drawn.2))
+    (subst (λ (handle : Handle). RisesAtMost mid after (part_cost shares handle drawn.0)) is drawn.3)
+
+pub has-ended : (shares : Bool) (source : Handle) (all rest : List (ℕ × ℕ)) (script : List End) (i : ℕ) (slots : List SlotState) (before mid after : ℕ)
+    → SoFar shares source all (draw rest (drop i script)) i slots before mid → rest ≡ [] → after ≡ mid → AllDrawn shares source all i slots before after
+has-ended shares source all rest script i slots before mid after so_far none still =
+    subst (λ n. AllDrawn shares source all i slots before n) (sym still)
+    (so-far-all shares source all (draw rest (drop i script)) i slots before mid so_far (ap (λ (l : List (ℕ × ℕ)). draw l (drop i script)) none ∙ draw-none (drop i script)))
+
+pub script-ended : (shares : Bool) (source : Handle) (all rest : List (ℕ × ℕ)) (script : List End) (i : ℕ) (slots : List SlotState) (before after : ℕ)
+    → SoFar shares source all (draw rest (drop i script)) i slots before after → length script ≤ i → AllDrawn shares source all i slots before after
+script-ended shares source all rest script i slots before after so_far past =
+    so-far-all shares source all (draw rest (drop i script)) i slots before after so_far (ap (λ (ends : List End). draw rest ends) (drop_of_length-le script past))
+
+-- a script without a back draws from the front
+pub all-front : (script : List End) (i : ℕ) (default : End) → has_back script ≡ false → i < length script → get_or script i default ≡ Front
+all-front [] i default none within = absurd (omega (arith, within))
+all-front (Back ∷ script) i default none within = absurd (false≢true (sym none))
+all-front (Front ∷ script) zero default none within = refl
+all-front (Front ∷ script) (suc i) default none within = all-front script i default none (omega (arith, within))
+
+-- ---- how many there are
+pub hold-within : (source : Handle) (ranges : List (ℕ × ℕ)) (slots : List SlotState) → HoldParts source ranges slots → length ranges ≤ length slots
+hold-within source [] slots holds = omega arith
+hold-within source (range ∷ ranges) [] holds = absurd holds
+hold-within source (range ∷ ranges) (slot ∷ slots) holds = omega (arith, hold-within source ranges slots holds.2)
+
+pub draw-within : (ranges : List (ℕ × ℕ)) (script : List End) → length (draw ranges script) ≤ length script
+draw-within ranges [] = omega arith
+draw-within [] (end ∷ script) = omega arith
+draw-within (range ∷ ranges) (Front ∷ script) = omega (arith, draw-within ranges script)
+draw-within (range ∷ ranges) (Back ∷ script) = omega (arith, draw-within (but_last range ranges) script)
+
+-- what is put, of the text in a slot
+pub pieces-put : (slots spare new : List SlotState) (text : Handle) (s first count : ℕ) (ranges : Handle → List (ℕ × ℕ))
+    → text ≡ slot_at slots s → count ≡ length (ranges text) → HoldParts text (ranges text) spare → first + count ≤ length slots → new ≡ put_all slots first (take count spare)
+    → (count ≡ length (ranges (slot_at slots s))) × PutsParts (slot_at slots s) slots first (ranges (slot_at slots s)) new
+pieces-put slots spare new text s first count ranges is counts holds within put =
+    let counted = subst (λ (handle : Handle). count ≡ length (ranges handle)) is counts in
+    let held = subst (λ (handle : Handle). HoldParts handle (ranges handle) spare) is holds in (
+      counted,
+      subst (λ (l : List SlotState). PutsParts (slot_at slots s) slots first (ranges (slot_at slots s)) l) (sym (put ∙ ap (λ n. put_all slots first (take n spare)) counted))
+          (parts-put (slot_at slots s) (ranges (slot_at slots s)) spare slots first held (omega (arith, counted, within))),
+    )
+
+pub pieces-need : (slots : List SlotState) (text : Handle) (s : ℕ) (ranges : Handle → List (ℕ × ℕ)) → text ≡ slot_at slots s → SomeNeedsMemory text.kind (ranges text)
+    → SomeNeedsMemory (slot_at slots s).kind (ranges (slot_at slots s))
+pieces-need slots text s ranges is needs = subst (λ (handle : Handle). SomeNeedsMemory handle.kind (ranges handle)) is needs
+
+pub pieces-cost : (shares : Bool) (slots : List SlotState) (text : Handle) (s : ℕ) (ranges : Handle → List (ℕ × ℕ)) (before after : ℕ) → text ≡ slot_at slots s
+    → RisesAtMost before after (parts_cost shares text (ranges text)) → RisesAtMost before after (parts_cost shares (slot_at slots s) (ranges (slot_at slots s)))
+pieces-cost shares slots text s ranges before after is rises = subst (λ (handle : Handle). RisesAtMost before after (parts_cost shares handle (ranges handle))) is rises
+
+pub empty-length : {X : Type 0} (state : X → SlotState) (slots : List X) (n : ℕ) → map state slots ≡ replicate n empty_slot → length slots ≡ n
+empty-length state slots n empty = sym (length-map slots state) ∙ ap length empty ∙ length-replicate n empty_slot
