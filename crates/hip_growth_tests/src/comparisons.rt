@@ -51,19 +51,27 @@ fn debug<B: Backend>(rt: &impl Abort, alloc: Global) -> Result<(), Fail> {
     Ok(())
 }
 
-fn hashed<B: Backend>(rt: &impl Abort, alloc: Global) -> Result<(), Fail> {
+/// An age under three letters, by their hash.
+fn hashed<'b, B: Backend>(alloc: Global) -> Result<HashMap<HipByt<'b, B>, i32>, Fail> {
     let mut ages = HashMap::new(alloc);
-    ages.insert(HipByt::<B>::inline(b"abc"), 7)?;
-    assert_eq!(rt; ages.get(&HipByt::<B>::borrowed(b"abc")), Some(&7));
-    assert_eq!(rt; ages.get(&HipByt::<B>::borrowed(b"abd")), None);
-    Ok(())
+    ages.insert(HipByt::inline(b"abc"), 7)?;
+    Ok(ages)
 }
 
-fn ordered<B: Backend>(rt: &impl Abort, alloc: Global) -> Result<(), Fail> {
+/// The same, by their order.
+fn ordered<'b, B: Backend>(alloc: Global) -> Result<BTreeMap<HipByt<'b, B>, i32>, Fail> {
     let mut ages = BTreeMap::new(alloc);
-    ages.insert(HipByt::<B>::inline(b"abc"), 7)?;
-    assert_eq!(rt; ages.get(&HipByt::<B>::borrowed(b"abc")), Some(&7));
-    Ok(())
+    ages.insert(HipByt::inline(b"abc"), 7)?;
+    Ok(ages)
+}
+
+fn found_by_hash<B: Backend>(rt: &impl Abort, ages: &HashMap<HipByt<B>, i32>) {
+    let (same, other) = (HipByt::borrowed(b"abc"), HipByt::borrowed(b"abd"));
+    assert_eq!(rt; (ages.get(&same), ages.get(&other)), (Some(&7), None));
+}
+
+fn found_by_order<B: Backend>(rt: &impl Abort, ages: &BTreeMap<HipByt<B>, i32>) {
+    assert_eq!(rt; ages.get(&HipByt::borrowed(b"abc")), Some(&7));
 }
 
 fn on<B: Backend>(rt: &impl Abort, alloc: Global) -> Result<(), Fail> {
@@ -71,8 +79,9 @@ fn on<B: Backend>(rt: &impl Abort, alloc: Global) -> Result<(), Fail> {
     order_of_slices::<B>(rt);
     other_backend::<B>(rt, alloc)?;
     debug::<B>(rt, alloc)?;
-    hashed::<B>(rt, alloc)?;
-    ordered::<B>(rt, alloc)
+    found_by_hash(rt, &hashed::<B>(alloc)?);
+    found_by_order(rt, &ordered::<B>(alloc)?);
+    Ok(())
 }
 
 #[test]

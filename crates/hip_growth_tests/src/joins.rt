@@ -103,12 +103,12 @@ fn roomy<'b, B: Backend>(alloc: Global) -> Result<HipByt<'b, B>, Fail> {
 
 fn shrinks<B: Backend>(rt: &impl Abort, alloc: Global) -> Result<(), Fail> {
     let mut room = roomy::<B>(alloc)?;
-    assert_eq!(rt;
-        (room.capacity() >= 100, room.capacity() <= 200),
-        (true, true)
-    );
+    let before = room.capacity();
     room.shrink_to_fit(alloc)?;
-    assert!(rt; room.capacity() < 100);
+    assert_eq!(rt;
+        (before >= 100, before <= 200, room.capacity() < 100),
+        (true, true, true)
+    );
     holds(rt, &room, LETTERS, Kind::Allocated);
     Ok(())
 }

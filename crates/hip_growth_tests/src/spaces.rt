@@ -12,12 +12,15 @@ const SPACES: &[u8] = &[0x20; 32];
 /// Asserts that a value has the bytes, and equals a value of another backend and its clone.
 fn is_spaces<B: Backend>(rt: &impl Abort, alloc: Global, handle: &HipByt<B>) -> Result<(), Fail> {
     let other = HipByt::<Unique>::borrowed(SPACES);
-    assert_eq!(rt;
-        (handle.eq_slice(SPACES), handle.eq_with(&other)),
-        (true, true)
-    );
     let clone = handle.clone(alloc)?;
-    assert!(rt; handle == &clone);
+    assert_eq!(rt;
+        (
+            handle.eq_slice(SPACES),
+            handle.eq_with(&other),
+            handle == &clone
+        ),
+        (true, true, true)
+    );
     Ok(())
 }
 
@@ -45,7 +48,7 @@ enum Maker {
 }
 
 /// Each maker, and where its bytes lie.
-const MAKERS: [(Maker, Kind); 5] = [
+const MAKERS: &[(Maker, Kind)] = &[
     (Maker::Slice, Kind::Allocated),
     (Maker::Borrowed, Kind::Borrowed),
     (Maker::Vector, Kind::Allocated),
@@ -74,19 +77,29 @@ fn equals_each<'b, B: Backend>(
     handle: &HipByt<'b, B>,
 ) -> Result<(), Fail> {
     for (maker, _) in MAKERS {
-        let other: HipByt<'b, B> = made(alloc, maker)?;
+        let other: HipByt<'b, B> = made(alloc, *maker)?;
         assert!(rt; handle == &other);
     }
     Ok(())
 }
 
+/// Asserts all of this of a value, and where its bytes lie.
+fn stands<B: Backend>(
+    rt: &impl Abort,
+    alloc: Global,
+    handle: &HipByt<B>,
+    kind: Kind,
+) -> Result<(), Fail> {
+    holds(rt, handle, SPACES, kind);
+    is_spaces(rt, alloc, handle)?;
+    differs_from_front(rt, alloc, handle)?;
+    equals_each(rt, alloc, handle)
+}
+
 fn on<B: Backend>(rt: &impl Abort, alloc: Global) -> Result<(), Fail> {
     for (maker, kind) in MAKERS {
-        let handle = made::<B>(alloc, maker)?;
-        holds(rt, &handle, SPACES, kind);
-        is_spaces(rt, alloc, &handle)?;
-        differs_from_front(rt, alloc, &handle)?;
-        equals_each(rt, alloc, &handle)?;
+        let handle = made::<B>(alloc, *maker)?;
+        stands(rt, alloc, &handle, *kind)?;
     }
     Ok(())
 }
