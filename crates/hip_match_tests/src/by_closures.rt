@@ -5,15 +5,12 @@ ghost use Rattle.hip_match.specs.Answers.{answer_at};
 
 use crate::cuts::{cuts, once, trims};
 use crate::each_way::{
-    CUTS, DRAWN, Drawn, LEFTMOST, RIGHTMOST, TEXT, WALKS, draws_by_turns, searches,
-    tests_at_a_place,
+    CUTS, DRAWN, Drawn, TEXT, TURNS, WALKS, matches_by_turns, searches, tests_at_a_place,
 };
 use crate::walks::{draws, gives, walk_by_script, walks};
 use hip_match::chosen::Chosen;
 use hip_match::draw::{End, draw_into};
-use hip_match::matches::{MatchIndices, Matches};
 use hip_match::predicate::{CharPred, choose_by};
-use hip_match::rmatches::{RMatchIndices, RMatches};
 use hip_match::split::Split;
 use hip_match::trim::trim_matches;
 use std::process::Abort;
@@ -144,17 +141,10 @@ fn places_of(rt: &impl Abort, wanted: char) {
 }
 
 fn matches_of(rt: &impl Abort, wanted: char) {
-    let pattern = CharPred::with(|c| c == wanted, chosen_for(wanted));
-    draws_by_turns(rt, Matches::new(TEXT, pattern), LEFTMOST);
-    let pattern = CharPred::with(|c| c == wanted, chosen_for(wanted));
-    draws_by_turns(rt, MatchIndices::new(TEXT, pattern), LEFTMOST);
-}
-
-fn rightmost_matches_of(rt: &impl Abort, wanted: char) {
-    let pattern = CharPred::with(|c| c == wanted, chosen_for(wanted));
-    draws_by_turns(rt, RMatches::new(TEXT, pattern), RIGHTMOST);
-    let pattern = CharPred::with(|c| c == wanted, chosen_for(wanted));
-    draws_by_turns(rt, RMatchIndices::new(TEXT, pattern), RIGHTMOST);
+    for (kind, want) in TURNS {
+        let pattern = CharPred::with(|c| c == wanted, chosen_for(wanted));
+        matches_by_turns(rt, *kind, pattern, want);
+    }
 }
 
 #[test]
@@ -165,5 +155,4 @@ fn each_way(rt: HostRuntime) {
     once_of(&rt, 'é');
     places_of(&rt, 'é');
     matches_of(&rt, 'é');
-    rightmost_matches_of(&rt, 'é');
 }

@@ -42,10 +42,18 @@ pub(crate) const DRAWN: &[Drawn] = &[
 ];
 
 /// The matches, drawn from the front and the back in turn.
-pub(crate) const LEFTMOST: &[(usize, usize)] = &[(0, 2), (8, 10), (2, 4), (5, 7)];
+const LEFTMOST: &[(usize, usize)] = &[(0, 2), (8, 10), (2, 4), (5, 7)];
 
 /// The rightmost matches, drawn so.
-pub(crate) const RIGHTMOST: &[(usize, usize)] = &[(8, 10), (0, 2), (5, 7), (2, 4)];
+const RIGHTMOST: &[(usize, usize)] = &[(8, 10), (0, 2), (5, 7), (2, 4)];
+
+/// What each walk over matches draws so.
+pub(crate) const TURNS: &[(Walk, &[(usize, usize)])] = &[
+    (Walk::Matches, LEFTMOST),
+    (Walk::MatchIndices, LEFTMOST),
+    (Walk::RMatches, RIGHTMOST),
+    (Walk::RMatchIndices, RIGHTMOST),
+];
 
 /// What is left of the text by a call that takes matches off.
 pub(crate) const CUTS: &[(Cut, (usize, usize))] = &[
@@ -56,17 +64,31 @@ pub(crate) const CUTS: &[(Cut, (usize, usize))] = &[
 ];
 
 /// Asserts the ranges, drawn from the front and the back in turn.
-pub(crate) fn draws_by_turns<R: RangesBack + Drop>(
-    rt: &impl Abort,
-    mut ranges: R,
-    want: &[(usize, usize)],
-)
+fn draws_by_turns<R: RangesBack + Drop>(rt: &impl Abort, mut ranges: R, want: &[(usize, usize)])
     requires { R.ready ranges }
 {
     let mut drawn = [(0, 0); 5];
     let script = [End::Front, End::Back, End::Front, End::Back, End::Front];
     assert_eq!(rt; draw_into(&mut ranges, &script, &mut drawn), 4);
     assert_eq!(rt; &drawn[..4], want);
+}
+
+/// Asserts what a walk over matches draws so.
+pub(crate) fn matches_by_turns<P: OneChar>(
+    rt: &impl Abort,
+    kind: Walk,
+    pattern: P,
+    want: &[(usize, usize)],
+)
+    requires { P.can_search pattern }
+{
+    match kind {
+        Walk::Matches => draws_by_turns(rt, Matches::new(TEXT, pattern), want),
+        Walk::MatchIndices => draws_by_turns(rt, MatchIndices::new(TEXT, pattern), want),
+        Walk::RMatches => draws_by_turns(rt, RMatches::new(TEXT, pattern), want),
+        Walk::RMatchIndices => draws_by_turns(rt, RMatchIndices::new(TEXT, pattern), want),
+        _ => panic!(rt; "it walks over no matches"),
+    }
 }
 
 /// Asserts what the pattern's own calls answer.
@@ -130,10 +152,9 @@ fn pattern_from_both_ends<P: OneChar + Copy>(rt: &impl Abort, pattern: P)
     for Drawn(kind, script, want) in DRAWN {
         walk_by_script(rt, *kind, TEXT, pattern, script, want);
     }
-    draws_by_turns(rt, Matches::new(TEXT, pattern), LEFTMOST);
-    draws_by_turns(rt, MatchIndices::new(TEXT, pattern), LEFTMOST);
-    draws_by_turns(rt, RMatches::new(TEXT, pattern), RIGHTMOST);
-    draws_by_turns(rt, RMatchIndices::new(TEXT, pattern), RIGHTMOST);
+    for (kind, want) in TURNS {
+        matches_by_turns(rt, *kind, pattern, want);
+    }
 }
 
 #[test]
