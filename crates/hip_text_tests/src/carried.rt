@@ -32,9 +32,9 @@ fn made<'b, B: Backend>(
 fn into_strings<B: Backend>(rt: &impl Abort, alloc: Global) -> Result<(), Fail> {
     for way in 0..WAYS {
         let (value, text, kind) = made::<B>(alloc, way)?;
-        assert_eq!(rt; value.kind(), kind);
+        let was = value.kind();
         let string = value.into_string_copied(alloc).or(Err("no memory"))?;
-        assert_eq!(rt; string.as_str(), text);
+        assert_eq!(rt; (string.as_str(), was), (text, kind));
     }
     Ok(())
 }
@@ -43,42 +43,57 @@ fn into_bytes<B: Backend>(rt: &impl Abort, alloc: Global) -> Result<(), Fail> {
     for way in 0..WAYS {
         let (value, text, kind) = made::<B>(alloc, way)?;
         let bytes = HipByt::from(value);
-        assert_eq!(rt; bytes.kind(), kind);
+        let was = bytes.kind();
         let vec = bytes.into_vec_copied(alloc).or(Err("no memory"))?;
-        assert_eq!(rt; vec.as_slice(), text.as_bytes());
+        assert_eq!(rt; (vec.as_slice(), was), (text.as_bytes(), kind));
     }
     Ok(())
 }
 
-fn into_cows<B: Backend>(rt: &impl Abort, alloc: Global) -> Result<(), Fail> {
-    let lent = HipStr::<B>::from_static("abc").into_cow(alloc);
-    let owned = HipStr::<B>::from_str(alloc, "abc")?.into_cow(alloc);
-    let CowStr::Borrowed(lent) = lent.or(Err("no memory"))? else {
+fn into_lent_cow<B: Backend>(rt: &impl Abort, alloc: Global) -> Result<(), Fail> {
+    let Ok(CowStr::Borrowed(lent)) = HipStr::<B>::from_static("abc").into_cow(alloc) else {
         return Err(Fail::from("it was copied"));
     };
-    let CowStr::Owned(owned) = owned.or(Err("no memory"))? else {
+    assert_eq!(rt; lent, "abc");
+    Ok(())
+}
+
+fn into_owned_cow<B: Backend>(rt: &impl Abort, alloc: Global) -> Result<(), Fail> {
+    let Ok(CowStr::Owned(owned)) = HipStr::<B>::from_str(alloc, "abc")?.into_cow(alloc) else {
         return Err(Fail::from("it wasn't copied"));
     };
-    assert_eq!(rt; (lent, owned.as_str()), ("abc", "abc"));
+    assert_eq!(rt; owned.as_str(), "abc");
+    Ok(())
+}
+
+/// Asserts that bytes are a text of the letters.
+fn is_letters<B: Backend>(rt: &impl Abort, bytes: HipByt<B>) -> Result<(), Fail> {
+    let text = HipStr::from_utf8(bytes).or(Err("it isn't UTF-8"))?;
+    assert_eq!(rt; (text.as_str(), text.kind()), (LETTERS, Kind::Borrowed));
     Ok(())
 }
 
 fn from_bytes<B: Backend>(rt: &impl Abort, alloc: Global) -> Result<(), Fail> {
     let lent = HipByt::<B>::borrowed(LETTERS.as_bytes());
-    let again = HipStr::from_utf8(lent.clone(alloc)?).or(Err("it isn't UTF-8"))?;
-    let text = HipStr::from_utf8(lent).or(Err("it isn't UTF-8"))?;
-    assert_eq!(rt;
-        (text.as_str(), text.kind(), again.as_str()),
-        (LETTERS, Kind::Borrowed, LETTERS)
-    );
+    is_letters(rt, lent.clone(alloc)?)?;
+    is_letters(rt, lent)
+}
+
+fn from_slices<B: Backend>(rt: &impl Abort, alloc: Global) -> Result<(), Fail> {
     let copied = HipStr::<B>::try_from_slice(alloc, LETTERS.as_bytes()).or(Err("no text"))?;
-    let vec = Vec::from_slice(alloc, LONG.as_bytes())?;
-    let taken = HipStr::<B>::try_from_vec(alloc, vec).or(Err("no text"))?;
-    assert_eq!(rt; (copied.as_str(), taken.as_str()), (LETTERS, LONG));
+    assert_eq!(rt; copied.as_str(), LETTERS);
     Ok(())
 }
 
-fn compares<B: Backend>(rt: &impl Abort, alloc: Global) -> Result<(), Fail> {
+fn from_vectors<B: Backend>(rt: &impl Abort, alloc: Global) -> Result<(), Fail> {
+    let vec = Vec::from_slice(alloc, LONG.as_bytes())?;
+    let taken = HipStr::<B>::try_from_vec(alloc, vec).or(Err("no text"))?;
+    assert_eq!(rt; taken.as_str(), LONG);
+    Ok(())
+}
+
+/// Texts compare by their bytes, wherever these lie.
+fn order<B: Backend>(rt: &impl Abort, alloc: Global) -> Result<(), Fail> {
     let string = String::from_str(alloc, "bc")?;
     let (bb, bc) = (
         HipStr::<B>::borrowed("bb"),
@@ -98,10 +113,15 @@ fn compares<B: Backend>(rt: &impl Abort, alloc: Global) -> Result<(), Fail> {
             Ordering::Less
         )
     );
+    Ok(())
+}
+
+fn equality<B: Backend>(rt: &impl Abort, alloc: Global) -> Result<(), Fail> {
     for way in 0..WAYS {
         let (value, text, _) = made::<B>(alloc, way)?;
-        assert!(rt; value == value.clone(alloc)?);
-        assert!(rt; value.eq_with(&HipStr::<Unique>::borrowed(text)));
+        let clone = value.clone(alloc)?;
+        let other = HipStr::<Unique>::borrowed(text);
+        assert_eq!(rt; (value == clone, value.eq_with(&other)), (true, true));
     }
     Ok(())
 }
@@ -119,20 +139,22 @@ fn outlives<B: Backend>(rt: &impl Abort, alloc: Global) -> Result<(), Fail> {
     Ok(())
 }
 
-/// What is pushed at the limit of the handle, and where the text lies then.
-const AT_THE_LIMIT: &[(usize, char, Kind)] = &[
-    (19, '😀', Kind::Inline),
-    (21, 'é', Kind::Inline),
-    (20, '😀', Kind::Allocated),
-    (22, 'é', Kind::Allocated),
+/// What is pushed at the limit of the handle, how long the text is then, and where it lies.
+const AT_THE_LIMIT: &[(usize, char, usize, Kind)] = &[
+    (19, '😀', 23, Kind::Inline),
+    (21, 'é', 23, Kind::Inline),
+    (20, '😀', 24, Kind::Allocated),
+    (22, 'é', 24, Kind::Allocated),
 ];
 
 fn pushes<B: Backend>(rt: &impl Abort, alloc: Global) -> Result<(), Fail> {
-    for (len, c, kind) in AT_THE_LIMIT {
-        let mut text = HipStr::<B>::borrowed("a").repeat(alloc, *len)?;
+    for (count, c, len, kind) in AT_THE_LIMIT {
+        let mut text = HipStr::<B>::borrowed("a").repeat(alloc, *count)?;
         text.push(alloc, *c)?;
-        assert_eq!(rt; (text.len(), text.kind()), (len + c.len_utf8(), *kind));
-        assert_eq!(rt; text.pop(), Some(*c));
+        assert_eq!(rt;
+            (text.len(), text.kind(), text.pop()),
+            (*len, *kind, Some(*c))
+        );
     }
     Ok(())
 }
@@ -145,6 +167,10 @@ fn shortens<B: Backend>(rt: &impl Abort, alloc: Global) -> Result<(), Fail> {
         (text.pop(), text.pop(), text.pop(), text.pop()),
         (Some('😀'), Some('é'), Some('a'), None)
     );
+    Ok(())
+}
+
+fn shortens_at_a_boundary<B: Backend>(rt: &impl Abort, alloc: Global) -> Result<(), Fail> {
     let mut text = HipStr::<B>::from_str(alloc, "aé😀")?;
     text.truncate(3);
     assert_eq!(rt; text.as_str(), "aé");
@@ -154,25 +180,41 @@ fn shortens<B: Backend>(rt: &impl Abort, alloc: Global) -> Result<(), Fail> {
 fn on<B: Backend>(rt: &impl Abort, alloc: Global) -> Result<(), Fail> {
     into_strings::<B>(rt, alloc)?;
     into_bytes::<B>(rt, alloc)?;
-    into_cows::<B>(rt, alloc)?;
-    from_bytes::<B>(rt, alloc)
+    into_lent_cow::<B>(rt, alloc)?;
+    into_owned_cow::<B>(rt, alloc)
+}
+
+fn on_bytes<B: Backend>(rt: &impl Abort, alloc: Global) -> Result<(), Fail> {
+    from_bytes::<B>(rt, alloc)?;
+    from_slices::<B>(rt, alloc)?;
+    from_vectors::<B>(rt, alloc)
 }
 
 fn on_too<B: Backend>(rt: &impl Abort, alloc: Global) -> Result<(), Fail> {
-    compares::<B>(rt, alloc)?;
-    outlives::<B>(rt, alloc)?;
+    order::<B>(rt, alloc)?;
+    equality::<B>(rt, alloc)?;
+    outlives::<B>(rt, alloc)
+}
+
+fn on_changes<B: Backend>(rt: &impl Abort, alloc: Global) -> Result<(), Fail> {
     pushes::<B>(rt, alloc)?;
-    shortens::<B>(rt, alloc)
+    shortens::<B>(rt, alloc)?;
+    shortens_at_a_boundary::<B>(rt, alloc)
+}
+
+fn on_each<B: Backend>(rt: &impl Abort, alloc: Global) -> Result<(), Fail> {
+    on::<B>(rt, alloc)?;
+    on_bytes::<B>(rt, alloc)?;
+    on_too::<B>(rt, alloc)?;
+    on_changes::<B>(rt, alloc)
 }
 
 #[test]
 fn on_rc(rt: HostRuntime) -> Result<(), Fail> {
-    on::<Rc>(&rt, rt.alloc())?;
-    on_too::<Rc>(&rt, rt.alloc())
+    on_each::<Rc>(&rt, rt.alloc())
 }
 
 #[test]
 fn on_unique(rt: HostRuntime) -> Result<(), Fail> {
-    on::<Unique>(&rt, rt.alloc())?;
-    on_too::<Unique>(&rt, rt.alloc())
+    on_each::<Unique>(&rt, rt.alloc())
 }

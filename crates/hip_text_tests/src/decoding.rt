@@ -65,8 +65,11 @@ const REPAIRED: &[(&[u8], &str)] = &[
 fn accepts<B: Backend>(rt: &impl Abort, alloc: Global) -> Result<(), Fail> {
     for bytes in ACCEPTED {
         let text = HipStr::<B>::from_utf8(HipByt::borrowed(bytes)).or(Err("it isn't UTF-8"))?;
-        assert_eq!(rt; (text.as_bytes(), text.kind()), (*bytes, Kind::Borrowed));
-        assert!(rt; HipStr::<B>::try_from_slice(alloc, bytes).is_ok());
+        let is_copied = HipStr::<B>::try_from_slice(alloc, bytes).is_ok();
+        assert_eq!(rt;
+            (text.as_bytes(), text.kind(), is_copied),
+            (*bytes, Kind::Borrowed, true)
+        );
     }
     Ok(())
 }
@@ -76,8 +79,10 @@ fn refuses<B: Backend>(rt: &impl Abort) -> Result<(), Fail> {
         let error = HipStr::<B>::from_utf8(HipByt::borrowed(bytes)).err();
         let error = error.ok_or("it is UTF-8")?;
         let cause = error.utf8_error();
-        assert_eq!(rt; (cause.valid_up_to(), cause.error_len()), (*front, *len));
-        assert_eq!(rt; error.as_bytes(), *bytes);
+        assert_eq!(rt;
+            (cause.valid_up_to(), cause.error_len(), error.as_bytes()),
+            (*front, *len, *bytes)
+        );
     }
     Ok(())
 }
@@ -100,16 +105,21 @@ fn repairs_by_length<B: Backend>(rt: &impl Abort, alloc: Global) -> Result<(), F
     Ok(())
 }
 
-fn prints<B: Backend>(rt: &impl Abort, alloc: Global) -> Result<(), Fail> {
+fn prints_itself<B: Backend>(rt: &impl Abort, alloc: Global) -> Result<(), Fail> {
     let error = HipStr::<B>::from_utf8(HipByt::borrowed(b"abc\xFF")).err();
     let error = error.ok_or("it is UTF-8")?;
     assert_eq!(rt;
         format!(in alloc; "{error:?}")?.as_str(),
         "FromUtf8Error { bytes: [97, 98, 99, 255], error: Utf8Error { valid_up_to: 3, error_len: Some(1) } }"
     );
+    Ok(())
+}
+
+fn prints_a_cut<B: Backend>(rt: &impl Abort, alloc: Global) -> Result<(), Fail> {
     let cut = HipStr::<B>::from_utf8(HipByt::borrowed(b"a\xC3")).err();
+    let cut = cut.ok_or("it is UTF-8")?;
     assert_eq!(rt;
-        format!(in alloc; "{}", cut.ok_or("it is UTF-8")?)?.as_str(),
+        format!(in alloc; "{cut}")?.as_str(),
         "incomplete utf-8 byte sequence from index 1"
     );
     Ok(())
@@ -120,7 +130,8 @@ fn on<B: Backend>(rt: &impl Abort, alloc: Global) -> Result<(), Fail> {
     refuses::<B>(rt)?;
     repairs::<B>(rt, alloc)?;
     repairs_by_length::<B>(rt, alloc)?;
-    prints::<B>(rt, alloc)
+    prints_itself::<B>(rt, alloc)?;
+    prints_a_cut::<B>(rt, alloc)
 }
 
 #[test]

@@ -49,8 +49,8 @@ fn refuses<B: Backend>(rt: &impl Abort, alloc: Global, row: Refused) -> Result<(
     let Err(SliceRefusal::Slice(error)) = text.try_slice_bounds(alloc, low, high) else {
         return Err(Fail::from("it was sliced"));
     };
-    assert_eq!(rt; error.kind(), row.kind);
-    assert_eq!(rt; format!(in alloc; "{error}")?.as_str(), row.text);
+    let said = format!(in alloc; "{error}")?;
+    assert_eq!(rt; (error.kind(), said.as_str()), (row.kind, row.text));
     Ok(())
 }
 
@@ -64,10 +64,12 @@ fn refuses_all<B: Backend>(rt: &impl Abort, alloc: Global) -> Result<(), Fail> {
 /// Bytes that aren't a text come back from the error as they were.
 fn is_kept<B: Backend>(rt: &impl Abort, bytes: HipByt<B>, kind: Kind) -> Result<(), Fail> {
     let error = HipStr::from_utf8(bytes).err().ok_or("it is UTF-8")?;
-    assert_eq!(rt; error.utf8_error().valid_up_to(), 3);
+    let front = error.utf8_error().valid_up_to();
     let back = error.into_bytes();
-    assert_eq!(rt; back.kind(), kind);
-    assert!(rt; back.eq_slice(b"abc\xFF"));
+    assert_eq!(rt;
+        (front, back.kind(), back.eq_slice(b"abc\xFF")),
+        (3, kind, true)
+    );
     Ok(())
 }
 
@@ -86,15 +88,22 @@ fn not_utf8_with_room(rt: &impl Abort, alloc: Global) -> Result<(), Fail> {
     is_kept(rt, roomy, Kind::Allocated)
 }
 
-fn texts_of_errors<B: Backend>(rt: &impl Abort, alloc: Global) -> Result<(), Fail> {
+fn text_of_the_error<B: Backend>(rt: &impl Abort, alloc: Global) -> Result<(), Fail> {
     let bytes = HipByt::<B>::from_slice(alloc, b"abc\xFFc")?;
     let error = HipStr::from_utf8(bytes).err().ok_or("it is UTF-8")?;
     assert_eq!(rt;
         format!(in alloc; "{error}")?.as_str(),
         "invalid utf-8 sequence of 1 bytes from index 3"
     );
+    Ok(())
+}
+
+fn not_utf8_in_a_slice<B: Backend>(rt: &impl Abort, alloc: Global) {
     let refused = HipStr::<B>::try_from_slice(alloc, b"abc\x80").err();
     assert_eq!(rt; refused, Some(BytesFault::NotUtf8));
+}
+
+fn not_utf8_in_a_vector<B: Backend>(rt: &impl Abort, alloc: Global) -> Result<(), Fail> {
     let vec = Vec::from_slice(alloc, b"abc\x80")?;
     let (fault, back) = HipStr::<B>::try_from_vec(alloc, vec)
         .err()
@@ -110,6 +119,10 @@ fn repaired<B: Backend>(rt: &impl Abort, alloc: Global) -> Result<(), Fail> {
     let broken = HipByt::<B>::from_slice(alloc, b"a\xFFb")?;
     let text = HipStr::from_utf8_lossy(alloc, broken).or(Err("no memory"))?;
     assert_eq!(rt; text.as_str(), "a\u{FFFD}b");
+    Ok(())
+}
+
+fn whole_as_it_was<B: Backend>(rt: &impl Abort, alloc: Global) -> Result<(), Fail> {
     let whole = HipStr::from_utf8_lossy(alloc, HipByt::<B>::borrowed(b"abc"));
     assert_eq!(rt; whole.or(Err("no memory"))?.kind(), Kind::Borrowed);
     Ok(())
@@ -118,8 +131,11 @@ fn repaired<B: Backend>(rt: &impl Abort, alloc: Global) -> Result<(), Fail> {
 fn on<B: Backend>(rt: &impl Abort, alloc: Global) -> Result<(), Fail> {
     refuses_all::<B>(rt, alloc)?;
     not_utf8::<B>(rt, alloc)?;
-    texts_of_errors::<B>(rt, alloc)?;
-    repaired::<B>(rt, alloc)
+    text_of_the_error::<B>(rt, alloc)?;
+    not_utf8_in_a_slice::<B>(rt, alloc);
+    not_utf8_in_a_vector::<B>(rt, alloc)?;
+    repaired::<B>(rt, alloc)?;
+    whole_as_it_was::<B>(rt, alloc)
 }
 
 #[test]

@@ -1,5 +1,5 @@
 //! Joins and repetitions, and texts of units of UTF-16.
-use hip_text::{Backend, GrowFault, HipByt, HipStr, Meter, Rc, Unique, Utf16Fault};
+use hip_text::{Backend, FromUtf8Error, GrowFault, HipByt, HipStr, Meter, Rc, Unique, Utf16Fault};
 use std::alloc::Global;
 use std::process::Abort;
 use std::test::Fail;
@@ -32,6 +32,10 @@ fn concatenates<B: Backend>(rt: &impl Abort, alloc: Global) -> Result<(), Fail> 
     let mut meter = Meter::new();
     let whole = HipStr::<B>::concat_slices_metered(alloc, &["é", "", "z"], &mut meter)?;
     assert_eq!(rt; (whole.as_str(), meter.copied()), ("éz", 3));
+    Ok(())
+}
+
+fn concatenates_items<B: Backend>(rt: &impl Abort, alloc: Global) -> Result<(), Fail> {
     let whole = HipStr::<B>::concat(alloc, ["é", "", "z"])?;
     assert_eq!(rt; whole.as_str(), "éz");
     Ok(())
@@ -39,10 +43,11 @@ fn concatenates<B: Backend>(rt: &impl Abort, alloc: Global) -> Result<(), Fail> 
 
 fn repeats<B: Backend>(rt: &impl Abort, alloc: Global) -> Result<(), Fail> {
     let text = HipStr::<B>::from_str(alloc, "é")?;
-    assert_eq!(rt; text.repeat(alloc, 3)?.as_str(), "ééé");
+    let repeated = text.repeat(alloc, 3)?;
+    let fault = text.repeat(alloc, usize::MAX).err();
     assert_eq!(rt;
-        text.repeat(alloc, usize::MAX).err(),
-        Some(GrowFault::TooLong)
+        (repeated.as_str(), fault),
+        ("ééé", Some(GrowFault::TooLong))
     );
     Ok(())
 }
@@ -84,33 +89,52 @@ fn reads_units<B: Backend>(rt: &impl Abort, alloc: Global) -> Result<(), Fail> {
 fn refuses_units<B: Backend>(rt: &impl Abort, alloc: Global) -> Result<(), Fail> {
     for (units, at, text) in UNPAIRED {
         let fault = HipStr::<B>::from_utf16(alloc, units).err();
-        assert_eq!(rt; fault, Some(Utf16Fault::Unpaired(*at)));
+        let lossy = HipStr::<B>::from_utf16_lossy(alloc, units)?;
         assert_eq!(rt;
-            HipStr::<B>::from_utf16_lossy(alloc, units)?.as_str(),
-            *text
+            (fault, lossy.as_str()),
+            (Some(Utf16Fault::Unpaired(*at)), *text)
         );
     }
     Ok(())
 }
 
+/// Why bytes aren't a text.
+fn error_of<'b, B: Backend>(bytes: HipByt<'b, B>) -> Result<FromUtf8Error<'b, B>, Fail> {
+    Ok(HipStr::from_utf8(bytes).err().ok_or("it is UTF-8")?)
+}
+
+/// Asserts whether an error is that of `a` and a byte that begins no character.
+fn is_equal<B: Backend>(
+    rt: &impl Abort,
+    error: &FromUtf8Error<B>,
+    is_equal: bool,
+) -> Result<(), Fail> {
+    let lent = error_of::<B>(HipByt::borrowed(b"a\xFF"))?;
+    assert_eq!(rt; (*error == lent, *error != lent), (is_equal, !is_equal));
+    Ok(())
+}
+
 fn compares_errors<B: Backend>(rt: &impl Abort, alloc: Global) -> Result<(), Fail> {
-    let error = HipStr::<B>::from_utf8(HipByt::borrowed(b"a\xFF")).err();
-    let error = error.ok_or("it is UTF-8")?;
-    let copied = HipStr::<B>::from_utf8(HipByt::from_slice(alloc, b"a\xFF")?).err();
-    let copied = copied.ok_or("it is UTF-8")?;
-    let other = HipStr::<B>::from_utf8(HipByt::borrowed(b"b\xFF")).err();
-    let other = other.ok_or("it is UTF-8")?;
-    assert!(rt; error == copied);
-    assert!(rt; error != other);
-    assert!(rt; error.clone(alloc)? == error);
+    let copied = error_of::<B>(HipByt::from_slice(alloc, b"a\xFF")?)?;
+    is_equal(rt, &copied, true)?;
+    let other = error_of::<B>(HipByt::borrowed(b"b\xFF"))?;
+    is_equal(rt, &other, false)
+}
+
+fn compares_a_clone<B: Backend>(rt: &impl Abort, alloc: Global) -> Result<(), Fail> {
+    let error = error_of::<B>(HipByt::borrowed(b"a\xFF"))?;
+    let clone = error.clone(alloc)?;
+    assert!(rt; clone == error);
     Ok(())
 }
 
 fn on<B: Backend>(rt: &impl Abort, alloc: Global) -> Result<(), Fail> {
     joins::<B>(rt, alloc)?;
     concatenates::<B>(rt, alloc)?;
+    concatenates_items::<B>(rt, alloc)?;
     repeats::<B>(rt, alloc)?;
-    compares_errors::<B>(rt, alloc)
+    compares_errors::<B>(rt, alloc)?;
+    compares_a_clone::<B>(rt, alloc)
 }
 
 fn units_on<B: Backend>(rt: &impl Abort, alloc: Global) -> Result<(), Fail> {

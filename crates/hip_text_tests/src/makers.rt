@@ -94,17 +94,18 @@ fn cases<B: Backend>(rt: &impl Abort, alloc: Global) -> Result<(), Fail> {
     Ok(())
 }
 
-fn comparisons<B: Backend>(rt: &impl Abort, alloc: Global) -> Result<(), Fail> {
+fn equality<B: Backend>(rt: &impl Abort, alloc: Global) -> Result<(), Fail> {
     let made = HipStr::<B>::from_str(alloc, STARS)?;
+    let front = made.slice(alloc, 0..4)?;
     let lent = HipStr::<B>::borrowed(STARS);
     assert_eq!(rt;
-        (
-            made == lent,
-            made.str_eq(STARS),
-            made == made.slice(alloc, 0..4)?
-        ),
+        (made == lent, made.str_eq(STARS), made == front),
         (true, true, false)
     );
+    Ok(())
+}
+
+fn order<B: Backend>(rt: &impl Abort) {
     let bb = HipStr::<B>::borrowed("bb");
     for (other, order) in [
         ("bc", Ordering::Less),
@@ -116,15 +117,20 @@ fn comparisons<B: Backend>(rt: &impl Abort, alloc: Global) -> Result<(), Fail> {
             (order, order)
         );
     }
-    Ok(())
 }
 
-fn guards<B: Backend>(rt: &impl Abort, alloc: Global) -> Result<(), Fail> {
-    let mut text = HipStr::<B>::from_str(alloc, "Hello, World!")?;
+/// Adds `é` through the string that is lent, and answers its length then.
+fn adds<B: Backend>(alloc: Global, text: &mut HipStr<B>) -> Result<usize, Fail> {
     let mut guard = text.mutate(alloc)?;
     guard.as_mut_string().push_str("é")?;
     let len = guard.as_string().len();
     guard.finish(alloc).or(Err("no memory"))?;
+    Ok(len)
+}
+
+fn guards<B: Backend>(rt: &impl Abort, alloc: Global) -> Result<(), Fail> {
+    let mut text = HipStr::<B>::from_str(alloc, "Hello, World!")?;
+    let len = adds(alloc, &mut text)?;
     assert_eq!(rt; len, 15);
     holds(rt, &text, "Hello, World!é", Kind::Inline);
     Ok(())
@@ -139,7 +145,8 @@ fn on<B: Backend>(rt: &impl Abort, alloc: Global) -> Result<(), Fail> {
 
 fn on_too<B: Backend>(rt: &impl Abort, alloc: Global) -> Result<(), Fail> {
     cases::<B>(rt, alloc)?;
-    comparisons::<B>(rt, alloc)?;
+    equality::<B>(rt, alloc)?;
+    order::<B>(rt);
     guards::<B>(rt, alloc)
 }
 
