@@ -34,7 +34,7 @@ fn gives_second<'h, 'b, B: Backend>(
 ) -> bool
     requires { ⟦<Pieces<'h, HipStr<'b, B>, MatchIndices<'h, char>> as Walk>⟧.ready matches }
 {
-    is_match(matches.next(), Some((3, ","))) & is_match(matches.next(), None)
+    is_match(matches.next(), Some(3), ",") & is_match(matches.next(), None, "")
 }
 
 fn of_places<B: Backend>(alloc: Global) -> Result<bool, AllocError> {

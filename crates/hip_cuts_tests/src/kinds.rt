@@ -1,5 +1,5 @@
 //! Kinds of pieces, and how many bytes are copied for them.
-use crate::cuts::{Cut, cut_metered};
+use crate::cuts::{Cut, cut_metered, is_left};
 use hip_cuts::{Backend, HipStr, Kind, Meter, Rc, TextCuts, Unique};
 use std::alloc::{AllocError, Global};
 use std::process::Abort;
@@ -77,19 +77,21 @@ fn sees_comma_back<B: Backend>(source: &HipStr<'_, B>, alloc: Global, want: Seen
     is_comma(comma, first, want) & is_comma(back, last, want)
 }
 
-/// Whether this is seen of the rest of the 26 letters.
-fn strips<B: Backend>(alloc: Global, prefix: &str, want: Seen) -> Result<bool, Fail> {
-    let letters = HipStr::<B>::from_str(alloc, "abcdefghijklmnopqrstuvwxyz")?;
+/// Whether this is seen of the rest behind a prefix.
+fn sees_rest<B: Backend>(letters: &HipStr<'_, B>, alloc: Global, prefix: &str, want: Seen) -> bool {
     let mut meter = Meter::new();
-    let rest = cut_metered(&letters, alloc, Cut::StripPrefix, prefix, &mut meter)?;
-    Ok(is_seen(rest.map(Ok), meter, want))
+    match cut_metered(letters, alloc, Cut::StripPrefix, prefix, &mut meter) {
+        Ok(rest) => is_seen(rest.map(Ok), meter, want),
+        Err(_) => false,
+    }
 }
 
-fn copied_is_equal<B: Backend>(alloc: Global) -> Result<bool, Fail> {
-    let source = HipStr::<B>::from_str(alloc, "abc")?;
-    let copy = source.clone(alloc)?;
-    let rest = copy.strip_prefix(alloc, "a")?.ok_or("no prefix")?;
-    Ok((copy == source) & rest.str_eq("bc"))
+/// Whether this is a copy of a text.
+fn is_copy<B: Backend>(copy: Result<HipStr<'_, B>, AllocError>, source: &HipStr<'_, B>) -> bool {
+    match copy {
+        Ok(copy) => copy == *source,
+        Err(_) => false,
+    }
 }
 
 /// A field of either length, and the comma, of a text that has an owner and of one that is lent.
@@ -120,9 +122,17 @@ fn on_lent<B: Backend>(rt: &impl Abort, alloc: Global) {
 }
 
 fn on_letters<B: Backend>(rt: &impl Abort, alloc: Global) -> Result<(), Fail> {
-    assert!(rt; strips::<B>(alloc, "abc", Seen(23, Kind::Inline, 23, 23))?);
-    assert!(rt; strips::<B>(alloc, "ab", Seen(24, Kind::Allocated, 0, 24))?);
-    assert!(rt; copied_is_equal::<B>(alloc)?);
+    let letters = HipStr::<B>::from_str(alloc, "abcdefghijklmnopqrstuvwxyz")?;
+    let inline = sees_rest(&letters, alloc, "abc", Seen(23, Kind::Inline, 23, 23));
+    let shared = sees_rest(&letters, alloc, "ab", Seen(24, Kind::Allocated, 0, 24));
+    assert!(rt; inline & shared);
+    Ok(())
+}
+
+fn on_copy<B: Backend>(rt: &impl Abort, alloc: Global) -> Result<(), Fail> {
+    let source = HipStr::<B>::from_str(alloc, "abc")?;
+    let is_equal = is_copy(source.clone(alloc), &source);
+    assert!(rt; is_equal & is_left(source.strip_prefix(alloc, "a"), Some("bc")));
     Ok(())
 }
 
@@ -130,12 +140,14 @@ fn on_letters<B: Backend>(rt: &impl Abort, alloc: Global) -> Result<(), Fail> {
 fn on_rc(rt: HostRuntime) -> Result<(), Fail> {
     on_lent::<Rc>(&rt, rt.alloc());
     on::<Rc>(&rt, rt.alloc())?;
-    on_letters::<Rc>(&rt, rt.alloc())
+    on_letters::<Rc>(&rt, rt.alloc())?;
+    on_copy::<Rc>(&rt, rt.alloc())
 }
 
 #[test]
 fn on_unique(rt: HostRuntime) -> Result<(), Fail> {
     on_lent::<Unique>(&rt, rt.alloc());
     on::<Unique>(&rt, rt.alloc())?;
-    on_letters::<Unique>(&rt, rt.alloc())
+    on_letters::<Unique>(&rt, rt.alloc())?;
+    on_copy::<Unique>(&rt, rt.alloc())
 }

@@ -4,74 +4,81 @@ use hip_cuts::{Backend, HipStr, Rc, TextCuts, Unique};
 use std::alloc::{AllocError, Global};
 use std::process::Abort;
 
-/// A position and what lies there.
-pub(crate) type Place<'s> = (usize, &'s str);
-
 /// What a walk gives.
-type Found<'b, B> = Option<(usize, Result<HipStr<'b, B>, AllocError>)>;
+pub(crate) type Found<'b, B> = Option<(usize, Result<HipStr<'b, B>, AllocError>)>;
 
-/// Whether this match was found, or none.
-pub(crate) fn is_match<B: Backend>(found: Found<'_, B>, want: Option<Place<'_>>) -> bool {
+/// Whether this text was found at this place, or nothing was.
+pub(crate) fn is_match<B: Backend>(found: Found<'_, B>, place: Option<usize>, text: &str) -> bool {
     match found {
-        Some((at, Ok(piece))) => want == Some((at, piece.as_str())),
+        Some((at, Ok(piece))) => (place == Some(at)) & piece.str_eq(text),
         Some((_, Err(_))) => false,
-        None => want.is_none(),
+        None => place.is_none(),
     }
 }
 
-/// A text, a pattern, and its matches from the front and from the end.
+/// A text, a pattern, and the places of its matches from the front and from the end.
 type Row = (
     &'static str,
     &'static str,
-    &'static [Place<'static>],
-    &'static [Place<'static>],
+    [Option<usize>; 5],
+    [Option<usize>; 5],
 );
 
 const ROWS: &[Row] = &[
-    ("aaa", "aa", &[(0, "aa")], &[(1, "aa")]),
+    (
+        "aaa",
+        "aa",
+        [Some(0), None, None, None, None],
+        [Some(1), None, None, None, None],
+    ),
     (
         "ababababa",
         "aba",
-        &[(0, "aba"), (4, "aba")],
-        &[(6, "aba"), (2, "aba")],
+        [Some(0), Some(4), None, None, None],
+        [Some(6), Some(2), None, None, None],
     ),
-    ("é", "", &[(0, ""), (2, "")], &[(2, ""), (0, "")]),
+    (
+        "é",
+        "",
+        [Some(0), Some(2), None, None, None],
+        [Some(2), Some(0), None, None, None],
+    ),
     (
         "abc",
         "",
-        &[(0, ""), (1, ""), (2, ""), (3, "")],
-        &[(3, ""), (2, ""), (1, ""), (0, "")],
+        [Some(0), Some(1), Some(2), Some(3), None],
+        [Some(3), Some(2), Some(1), Some(0), None],
     ),
 ];
 
-/// Whether these are the matches, and then there is none.
+/// Whether these are the places of the matches, and then there is none.
 fn lists<B: Backend>(
     source: &HipStr<'_, B>,
     alloc: Global,
     pattern: &str,
-    want: &[Place<'_>],
+    places: [Option<usize>; 5],
 ) -> bool {
     let mut matches = source.match_indices(alloc, pattern);
-    is_match(matches.next(), want.first().copied())
-        & is_match(matches.next(), want.get(1).copied())
-        & is_match(matches.next(), want.get(2).copied())
-        & is_match(matches.next(), want.get(3).copied())
-        & is_match(matches.next(), want.get(4).copied())
+    is_match(matches.next(), places[0], pattern)
+        & is_match(matches.next(), places[1], pattern)
+        & is_match(matches.next(), places[2], pattern)
+        & is_match(matches.next(), places[3], pattern)
+        & is_match(matches.next(), places[4], pattern)
 }
 
-/// Whether these are the matches from the end, and then there is none.
+/// Whether these are the places of the matches from the end, and then there is none.
 fn lists_back<B: Backend>(
     source: &HipStr<'_, B>,
     alloc: Global,
     pattern: &str,
-    want: &[Place<'_>],
+    places: [Option<usize>; 5],
 ) -> bool {
     let mut matches = source.rmatch_indices(alloc, pattern);
-    is_match(matches.next(), want.first().copied())
-        & is_match(matches.next(), want.get(1).copied())
-        & is_match(matches.next(), want.get(2).copied())
-        & is_match(matches.next(), want.get(3).copied())
-        & is_match(matches.next(), want.get(4).copied())
+    is_match(matches.next(), places[0], pattern)
+        & is_match(matches.next(), places[1], pattern)
+        & is_match(matches.next(), places[2], pattern)
+        & is_match(matches.next(), places[3], pattern)
+        & is_match(matches.next(), places[4], pattern)
 }
 
 /// Whether the digits of `a1b2c3` are drawn from both ends.
@@ -80,10 +87,10 @@ pub(crate) fn draws_digits<B: Backend, P: OneChar>(alloc: Global, pattern: P) ->
 {
     let source = HipStr::<B>::borrowed("a1b2c3");
     let mut matches = source.match_indices(alloc, pattern);
-    is_match(matches.next(), Some((1, "1")))
-        & is_match(matches.next_back(), Some((5, "3")))
-        & is_match(matches.next(), Some((3, "2")))
-        & is_match(matches.next_back(), None)
+    is_match(matches.next(), Some(1), "1")
+        & is_match(matches.next_back(), Some(5), "3")
+        & is_match(matches.next(), Some(3), "2")
+        & is_match(matches.next_back(), None, "")
 }
 
 /// Whether they are drawn from both ends of the matches from the end.
@@ -92,23 +99,18 @@ pub(crate) fn draws_digits_back<B: Backend, P: OneChar>(alloc: Global, pattern: 
 {
     let source = HipStr::<B>::borrowed("a1b2c3");
     let mut matches = source.rmatch_indices(alloc, pattern);
-    is_match(matches.next(), Some((5, "3")))
-        & is_match(matches.next_back(), Some((1, "1")))
-        & is_match(matches.next(), Some((3, "2")))
-        & is_match(matches.next_back(), None)
+    is_match(matches.next(), Some(5), "3")
+        & is_match(matches.next_back(), Some(1), "1")
+        & is_match(matches.next(), Some(3), "2")
+        & is_match(matches.next_back(), None, "")
 }
 
 fn on<B: Backend>(rt: &impl Abort, alloc: Global) {
-    for (text, pattern, leftmost, rightmost) in ROWS {
+    for (text, pattern, places, places_back) in ROWS {
         let source = HipStr::<B>::borrowed(*text);
-        assert!(rt;
-            lists(&source, alloc, pattern, leftmost),
-            "{text:?} {pattern:?}"
-        );
-        assert!(rt;
-            lists_back(&source, alloc, pattern, rightmost),
-            "{text:?} {pattern:?}"
-        );
+        let is_same = lists(&source, alloc, pattern, *places)
+            & lists_back(&source, alloc, pattern, *places_back);
+        assert!(rt; is_same, "{text}");
     }
 }
 
