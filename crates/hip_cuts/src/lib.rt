@@ -4,16 +4,16 @@
 //! - [`IterWrapper`] gives pieces, from the front and, where their ranges come from both ends, from the back.
 //!
 //! Where a text is cut is found by hip_match, whose ranges these are; how, by hip_text. The words of the contracts are theirs, and `Piece`
-//! (what a walk gives) and `Cut` (what trims and strips leave) of `specs/`. A walk proved by nothing but the contract:
+//! (what a walk gives) and `Cut` (what trims and strips leave) of `specs/`.
+//!
+//! A walk in user code is a loop over `next`; its invariant is that the walk stays `ready`, its measure the number of ranges that are
+//! left (`crates/hip_cuts_tests/src/fields.rt` is one, proved):
 //!
 //! ```text
-//! fn fields<'b, B: Backend>(line: &HipStr<'b, B>, alloc: Global) -> usize {
-//!     let mut fields = line.split(alloc, ',');
-//!     let mut longest = 0;
-//!     while let Some(Ok(field)) = fields.next() {
-//!         longest = max(longest, field.len());
-//!     }
-//!     longest
+//! let mut fields = line.split(alloc, ',');
+//! let mut longest = 0;
+//! while let Some(Ok(field)) = fields.next() {
+//!     longest = longest.max(field.len());
 //! }
 //! ```
 #![tactic(auto)]
