@@ -105,6 +105,38 @@ fn texts(rt: HostRuntime) {
     print::<Unique>(&rt, rt.alloc(), TEXTS);
 }
 
+/// Texts that are cut.
+const CUTS: &[Row] = &[
+    (
+        "copy 0 \"xxaxx\"\ntext 0\ntrimm 0 1 both char \"x\"\nshow 1\ntrimm 0 1 both text \"x\"\nstrip 0 1 front text \"y\"\nshow 1\n",
+        "done\ndone\ndone\ntext \"a\"\nrefused OneEnd\nnothing\ntext \"a\"\n",
+    ),
+    (
+        "copy 0 \"a,b,c,d\"\ntext 0\npieces 0 split char \",\" FF 0\npieces 0 splitn 2 char \",\" B 1\npieces 0 split text \",\" FFFFFF 1\npieces 0 split char \",\" FF 15\npieces 0 split char \",\" B 15\nshow 15\nonce 0 5 6 back char \",\"\nshow 5\nonce 0 5 5 front char \",\"\n",
+        "done\ndone\nrefused Overlap\nrefused OneEnd\n4\nrefused NoSlot\n1\ntext \"d\"\ndone\ntext \"a,b,c\"\nrefused Overlap\n",
+    ),
+    (
+        "borrow 0 \"a,b,c,d\"\ntext 0\npieces 0 split char \",\" FBBFF 1\nshow 2\nkind 2\ncopied\n",
+        "done\ndone\n4\ntext \"d\"\nborrowed\n0\n",
+    ),
+    // Sets of characters, one after another, and scripts beside them; no ends, at the pool's end.
+    (
+        "copy 0 \"a1b22c\"\ntext 0\ntrimm 0 5 start any \"1a\"\npieces 0 split any \"0123456789\" FBF 1\nstrip 0 6 back any \"c\"\npieces 0 rmatches any \"\" BB 7\nshow 5\nshow 1\nshow 2\nshow 3\nshow 6\npieces 0 lines - 16\n",
+        "done\ndone\ndone\n3\ndone\n0\ntext \"b22c\"\ntext \"a\"\ntext \"c\"\ntext \"b\"\ntext \"a1b22\"\n0\n",
+    ),
+    // White space and every way to take a text apart.
+    (
+        "copy 0 \" a\\x0Bb, \"\ntrim 0 1 both\ntext 0\ntrim 0 1 start\nshow 1\ntrim 0 1 end\nshow 1\ntrim 0 1 both\nshow 1\npieces 0 words FFF 2\npieces 0 asciiwords FFF 2\npieces 0 inclusive char \",\" FF 2\npieces 0 terminator text \" \" FFF 2\npieces 0 matches char \" \" BB 2\npieces 0 rsplit text \",\" FF 2\npieces 0 rterminator char \" \" FB 2\npieces 0 rsplitn 1 char \",\" F 2\n",
+        "done\nrefused NotText\ndone\ndone\ntext \"a\\x0bb, \"\ndone\ntext \" a\\x0bb,\"\ndone\ntext \"a\\x0bb,\"\n2\n1\n2\n2\n2\n2\n2\n1\n",
+    ),
+];
+
+#[test]
+fn cuts(rt: HostRuntime) {
+    print::<Rc>(&rt, rt.alloc(), CUTS);
+    print::<Unique>(&rt, rt.alloc(), CUTS);
+}
+
 /// Kinds and capacities.
 const KINDS: &[Row] = &[
     // A borrowed value: its clone is borrowed, and a push of nothing copies it.

@@ -67,6 +67,30 @@ fn read_command<'b>(verb: &[u8], words: &mut Words<'_, 'b>) -> Option<Command<'b
         b"len" => Command::Len(words.number()?),
         b"kind" => Command::Kind(words.number()?),
         b"capacity" => Command::Capacity(words.number()?),
+        _ => return read_cut(verb, words),
+    })
+}
+
+/// Reads what follows the verb of a command that cuts a text.
+fn read_cut<'b>(verb: &[u8], words: &mut Words<'_, 'b>) -> Option<Command<'b>> {
+    Some(match verb {
+        b"trim" => Command::Trim(words.number()?, words.number()?, words.side()?),
+        b"trimm" => {
+            let (s, t) = (words.number()?, words.number()?);
+            Command::TrimMatches(s, t, words.side()?, words.pattern()?)
+        }
+        b"strip" => {
+            let (s, t) = (words.number()?, words.number()?);
+            Command::Strip(s, t, words.end()?, words.pattern()?)
+        }
+        b"pieces" => {
+            let (s, how) = (words.number()?, words.how()?);
+            Command::Pieces(s, how, words.ends()?, words.number()?)
+        }
+        b"once" => {
+            let (s, t, u) = (words.number()?, words.number()?, words.number()?);
+            Command::Once(s, t, u, words.end()?, words.pattern()?)
+        }
         _ => return None,
     })
 }

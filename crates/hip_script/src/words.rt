@@ -1,8 +1,10 @@
 //! The words of a line, with one space between two, and what single words say.
 
 use crate::literal::Decoded;
+use hipstr::{End, How, Pat, Side};
 use memchr::memchr;
 use std::ops::Bound;
+use std::str;
 
 /// What is left of a line.
 #[derive(Drop)]
@@ -71,6 +73,87 @@ impl<'l, 'b> Words<'l, 'b> {
             Some(_) => return None,
         };
         Some(bytes)
+    }
+
+    /// The next word as a literal that is a text.
+    fn text(&mut self) -> Option<&'b str> {
+        str::from_utf8(self.literal()?).ok()
+    }
+
+    /// The next words as what is looked for in a text.
+    pub(crate) fn pattern(&mut self) -> Option<Pat<'b>> {
+        match self.plain()? {
+            b"text" => Some(Pat::Text(self.text()?)),
+            b"char" => Some(Pat::Char(only_char(self.text()?)?)),
+            b"any" => {
+                let count = self.text()?.chars().count();
+                Some(Pat::Set(self.literals.take_set(count)?))
+            }
+            _ => None,
+        }
+    }
+
+    /// The next words as how a text is taken apart.
+    pub(crate) fn how(&mut self) -> Option<How<'b>> {
+        Some(match self.plain()? {
+            b"split" => How::Split(self.pattern()?),
+            b"inclusive" => How::Inclusive(self.pattern()?),
+            b"terminator" => How::Terminator(self.pattern()?),
+            b"splitn" => How::SplitN(self.number()?, self.pattern()?),
+            b"matches" => How::Matches(self.pattern()?),
+            b"rsplit" => How::RSplit(self.pattern()?),
+            b"rterminator" => How::RTerminator(self.pattern()?),
+            b"rsplitn" => How::RSplitN(self.number()?, self.pattern()?),
+            b"rmatches" => How::RMatches(self.pattern()?),
+            b"lines" => How::Lines,
+            b"words" => How::Words,
+            b"asciiwords" => How::AsciiWords,
+            _ => return None,
+        })
+    }
+
+    /// The next word as the ends that pieces are drawn from: `-`, or letters `F` and `B`.
+    pub(crate) fn ends(&mut self) -> Option<&'b [End]> {
+        let word = match self.plain()? {
+            b"" => return None,
+            b"-" => return Some(&[]),
+            word => word,
+        };
+        for byte in word {
+            if *byte != b'F' && *byte != b'B' {
+                return None;
+            }
+        }
+        self.literals.take_ends(word.len())
+    }
+
+    /// The next word as an end.
+    pub(crate) fn end(&mut self) -> Option<End> {
+        match self.plain()? {
+            b"front" => Some(End::Front),
+            b"back" => Some(End::Back),
+            _ => None,
+        }
+    }
+
+    /// The next word as a side.
+    pub(crate) fn side(&mut self) -> Option<Side> {
+        match self.plain()? {
+            b"start" => Some(Side::Start),
+            b"end" => Some(Side::End),
+            b"both" => Some(Side::Both),
+            _ => None,
+        }
+    }
+}
+
+/// The character of a text that is one.
+fn only_char(text: &str) -> Option<char> {
+    let mut chars = text.chars();
+    let c = chars.next()?;
+    match chars.next() {
+        None => Some(c),
+        Some(_) => None,
     }
 }
 
