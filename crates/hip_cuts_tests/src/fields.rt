@@ -11,7 +11,7 @@ use hip_cuts::{Backend, HipStr, IterWrapper, Pieces, TextCuts, Unnumbered, Walk}
 use std::alloc::{AllocError, Global};
 
 /// The length of the longest field of a line, or of those before the first that is refused for memory.
-pub fn longest_field<'b, B: Backend>(line: &HipStr<'b, B>, alloc: Global) -> usize {
+pub(crate) fn longest_field<'b, B: Backend>(line: &HipStr<'b, B>, alloc: Global) -> usize {
     longest_of(line.split(alloc, ','))
 }
 
