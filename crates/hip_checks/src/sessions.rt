@@ -378,6 +378,54 @@ pub(crate) fn on<B: Backend>(rt: &impl Abort, alloc: Global) -> Result<(), Fail>
     in_place::<B>(rt, alloc)
 }
 
+/// A push on a slice that outlives its source: what follows the slice in the owner is cut off.
+const PUSHED_SLICE: Session = Session {
+    slots: 2,
+    rows: &[
+        (
+            Command::Copy(0, b"abcdefghijklmnopqrstuvwxyz"),
+            Answer::Done,
+        ),
+        (
+            Command::Slice(0, 1, Bound::Unbounded, Bound::Excluded(24)),
+            Answer::Done,
+        ),
+        (Command::New(0), Answer::Done),
+        (Command::Push(1, b"!"), Answer::Done),
+        (Command::Kind(1), Answer::Kind(Kind::Allocated)),
+    ],
+    left: &[(0, b"", false), (1, b"abcdefghijklmnopqrstuvwx!", false)],
+};
+
+/// Pieces of a borrowed text, from both ends.
+const BORROWED_PIECES: Session = Session {
+    slots: 6,
+    rows: &[
+        (Command::Borrow(0, b"a,b,c,d"), Answer::Done),
+        (Command::Text(0), Answer::Done),
+        (
+            Command::Pieces(0, How::Split(Pat::Char(',')), TURNS, 1),
+            Answer::Number(4),
+        ),
+    ],
+    left: &[
+        (1, b"a", true),
+        (2, b"d", true),
+        (3, b"c", true),
+        (4, b"b", true),
+        (5, b"", false),
+    ],
+};
+
+/// A machine that refuses whatever may be refused for memory is proved, and fails here.
+#[test]
+fn everything_refused(rt: HostRuntime) -> Result<(), Fail> {
+    plays::<Rc>(&rt, rt.alloc(), PUSHED_SLICE)?;
+    plays::<Unique>(&rt, rt.alloc(), PUSHED_SLICE)?;
+    plays::<Rc>(&rt, rt.alloc(), BORROWED_PIECES)?;
+    plays::<Unique>(&rt, rt.alloc(), BORROWED_PIECES)
+}
+
 #[test]
 fn runs_on_either_backend(rt: HostRuntime) -> Result<(), Fail> {
     on::<Rc>(&rt, rt.alloc())?;
