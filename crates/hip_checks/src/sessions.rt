@@ -1,6 +1,8 @@
 //! Lists of commands, each with its answer.
+use crate::ways::takes_all_apart;
 use hipstr::{
-    Answer, Backend, Command, End, How, Kind, Meter, Pat, Pool, Rc, Reason, Side, Unique, run,
+    Answer, Backend, Command, End, How, Kind, LocalHipByt, Meter, Pat, Pool, Rc, Reason, Side,
+    Unique, run,
 };
 use std::alloc::Global;
 use std::ops::Bound;
@@ -203,66 +205,7 @@ const PIECES: Session = Session {
     ],
 };
 
-const FRONT: &[End] = &[End::Front; 6];
-
-const BACK: &[End] = &[End::Back; 6];
-
 const TURNS: &[End] = &[End::Front, End::Back, End::Back, End::Front, End::Front];
-
-/// How `a, ,b,` is taken apart, by which ends, and into which pieces.
-type Way = (How<'static>, &'static [End], &'static [&'static [u8]]);
-
-const WAYS: &[Way] = &[
-    (How::Split(Pat::Char(',')), TURNS, &[b"a", b"", b"b", b" "]),
-    (
-        How::Split(Pat::Set(&[',', ' '])),
-        FRONT,
-        &[b"a", b"", b"", b"b", b""],
-    ),
-    (How::Inclusive(Pat::Char(',')), BACK, &[b"b,", b" ,", b"a,"]),
-    (
-        How::Inclusive(Pat::Text(",")),
-        FRONT,
-        &[b"a,", b" ,", b"b,"],
-    ),
-    (How::Terminator(Pat::Char(',')), TURNS, &[b"a", b"b", b" "]),
-    (How::SplitN(2, Pat::Char(',')), FRONT, &[b"a", b" ,b,"]),
-    (How::Matches(Pat::Set(&['a', 'b'])), BACK, &[b"b", b"a"]),
-    (How::RSplit(Pat::Text(",")), FRONT, &[b"", b"b", b" ", b"a"]),
-    (How::RTerminator(Pat::Char(',')), BACK, &[b"a", b" ", b"b"]),
-    (How::RSplitN(2, Pat::Text(",")), FRONT, &[b"", b"a, ,b"]),
-    (How::RMatches(Pat::Text(", ")), FRONT, &[b", "]),
-    (How::Lines, FRONT, &[b"a, ,b,"]),
-    (How::Words, BACK, &[b",b,", b"a,"]),
-    (How::AsciiWords, FRONT, &[b"a,", b",b,"]),
-];
-
-fn takes_apart<B: Backend>(alloc: Global, way: Way) -> Result<bool, Fail> {
-    let (how, script, wanted) = way;
-    let mut pool = Pool::<B>::new(alloc, 8)?;
-    let commands = [
-        Command::Borrow(0, b"a, ,b,"),
-        Command::Text(0),
-        Command::Pieces(0, how, script, 1),
-    ];
-    let mut meter = Meter::new();
-    let answers = run(alloc, &mut pool, &commands, &mut meter)?;
-    let mut is_so = answers.as_slice().last() == Some(&Answer::Number(wanted.len()));
-    for (i, piece) in wanted.iter().enumerate() {
-        if let Some(slot) = pool.slot(i + 1) {
-            is_so = is_so && slot.as_bytes() == *piece && slot.kind() == Kind::Borrowed;
-        }
-    }
-    Ok(is_so && meter.copied() == 0)
-}
-
-/// Each way, whose pieces are borrowed as the text is, and copy nothing.
-fn takes_all_apart<B: Backend>(rt: &impl Abort, alloc: Global) -> Result<(), Fail> {
-    for (i, way) in WAYS.iter().enumerate() {
-        assert!(rt; takes_apart::<B>(alloc, *way)?, "way {i}");
-    }
-    Ok(())
-}
 
 /// Runs the commands of the rows, and compares their answers.
 fn answers<'b, B: Backend>(
@@ -319,6 +262,17 @@ fn costs<B: Backend>(rt: &impl Abort, alloc: Global) -> Result<(), Fail> {
     ];
     answers(rt, alloc, &mut pool, &rows, &mut meter)?;
     assert_eq!(rt; meter.copied(), if B::SHARES { 49 } else { 99 });
+    Ok(())
+}
+
+/// While a clone lives, the two share one vector, which neither hands out.
+fn shares_its_vector(rt: &impl Abort, alloc: Global) -> Result<(), Fail> {
+    let handle = LocalHipByt::from_slice(alloc, b"abcdefghijklmnopqrstuvwxyz")?;
+    let clone = handle.clone(alloc)?;
+    let handle = handle.into_vec(alloc).err().ok_or("a clone lives")?;
+    drop(clone);
+    let vec = handle.into_vec(alloc).or(Err("the only handle"))?;
+    assert_eq!(rt; vec.as_slice(), b"abcdefghijklmnopqrstuvwxyz");
     Ok(())
 }
 
@@ -430,6 +384,14 @@ fn everything_refused(rt: HostRuntime) -> Result<(), Fail> {
 fn runs_on_either_backend(rt: HostRuntime) -> Result<(), Fail> {
     on::<Rc>(&rt, rt.alloc())?;
     on::<Unique>(&rt, rt.alloc())
+}
+
+/// A body that copies past the counter, or keeps a vector for each handle, is proved, and fails here.
+#[test]
+fn copies_past_counter(rt: HostRuntime) -> Result<(), Fail> {
+    costs::<Rc>(&rt, rt.alloc())?;
+    costs::<Unique>(&rt, rt.alloc())?;
+    shares_its_vector(&rt, rt.alloc())
 }
 
 /// A backend that never writes in place is proved: no contract counts owners.

@@ -6,12 +6,20 @@
 //! Where a text is cut is found by hip_match, whose ranges these are; how, by hip_text. The words of the contracts are theirs, and `Piece`
 //! (what a walk gives) and `Cut` (what trims and strips leave) of `specs/`.
 //!
-//! A walk in user code is a loop over `next`; its invariant is that the walk stays `ready`, its measure the number of ranges that are
-//! left (`crates/hip_cuts_tests/src/fields.rt` is one, proved):
+//! Where a vector of the pieces may be made, a loop over them is proved with no proof file:
+//!
+//! ```text
+//! let mut longest = 0;
+//! for field in line.split(alloc, ',').collect()? {
+//!     longest = longest.max(field.len());
+//! }
+//! ```
+//!
+//! A loop over `next` takes no memory; its invariant is that the walk stays `ready`, its measure the number of ranges that are left, and
+//! both are said in a proof file (`crates/hip_cuts_tests/src/fields.rt` has both loops, proved):
 //!
 //! ```text
 //! let mut fields = line.split(alloc, ',');
-//! let mut longest = 0;
 //! while let Some(Ok(field)) = fields.next() {
 //!     longest = longest.max(field.len());
 //! }

@@ -1,7 +1,8 @@
 //! Pieces of a text, drawn one after another.
-ghost use Rattle.std.specs.Prelude.{◌≡◌, ℕ, List};
+ghost use Rattle.std.specs.Prelude.{◌≡◌, ℕ, List, IfOk};
 ghost use Rattle.hip_text.specs.Handle.{Handle};
-ghost use Rattle.hip_cuts.specs.Piece.{FirstPiece, FirstMatch, LastPiece, LastMatch, FirstCosts, LastCosts};
+ghost use Rattle.hip_text.specs.Meter.{RisesAtMost};
+ghost use Rattle.hip_cuts.specs.Piece.{AreParts, FirstPiece, FirstMatch, LastPiece, LastMatch, FirstCosts, LastCosts, parts_cost};
 
 use hip_match::lines::Lines;
 use hip_match::matches::{MatchIndices, Matches};
@@ -138,6 +139,29 @@ impl<'h, 'b, B: Backend, I: Unnumbered> Pieces<'h, HipStr<'b, B>, I> {
     {
         let (start, end) = self.ranges.next()?;
         Some(self.source.part_metered(self.alloc, start, end, meter))
+    }
+}
+
+impl<'h, 'b, B: Backend, I: Unnumbered + Drop> Pieces<'h, HipStr<'b, B>, I> {
+    /// All pieces that are left, in a vector, which wants memory besides what the pieces want.
+    pub fn collect(self) -> Result<Vec<HipStr<'b, B>>, AllocError>
+        requires { ⟦<Pieces<'h, HipStr<'b, B>, I> as Walk>⟧.ready self }
+        ensures { IfOk result (λ pieces. AreParts (⟦<Pieces<'h, HipStr<'b, B>, I> as Walk>⟧.source self.entry) (⟦<Pieces<'h, HipStr<'b, B>, I> as Walk>⟧.rest self.entry) pieces.items) }
+    {
+        self.collect_metered(&mut Meter::new())
+    }
+
+    /// [`Pieces::collect`], counted.
+    pub fn collect_metered(mut self, meter: &mut Meter) -> Result<Vec<HipStr<'b, B>>, AllocError>
+        requires { ⟦<Pieces<'h, HipStr<'b, B>, I> as Walk>⟧.ready self }
+        ensures parts { IfOk result (λ pieces. AreParts (⟦<Pieces<'h, HipStr<'b, B>, I> as Walk>⟧.source self.entry) (⟦<Pieces<'h, HipStr<'b, B>, I> as Walk>⟧.rest self.entry) pieces.items) }
+        ensures counted { RisesAtMost meter.old meter.new (parts_cost B.SHARES (⟦<Pieces<'h, HipStr<'b, B>, I> as Walk>⟧.source self.entry) (⟦<Pieces<'h, HipStr<'b, B>, I> as Walk>⟧.rest self.entry)) }
+    {
+        let mut pieces = Vec::new(self.alloc);
+        while let Some(piece) = self.next_metered(meter) {
+            pieces.push(piece?)?;
+        }
+        Ok(pieces)
     }
 }
 

@@ -1,8 +1,8 @@
 //! Fields of a line, read as user code reads them.
 //!
-//! A walk's own clauses say what each draw gives, so nothing here needs a fact of how a text is split. A loop over a walk has to say that
-//! the walk stays ready, and what is left of it. The words for that stand in a bound, so each loop is a function of any ranges, and the
-//! functions that a line's reader calls hand it the walk.
+//! A loop over a vector of the fields needs no proof file. A loop over the walk itself has to say that the walk stays ready, and what is
+//! left of it. The words for that stand in a bound, so each such loop is a function of any ranges, and the functions that a line's reader
+//! calls hand it the walk.
 ghost use Rattle.std.specs.Prelude.{◌≡◌, ◌==◌, ◌↔◌, IfOk, IsTrue, length};
 ghost use Rattle.hip_match.specs.Characters.{char_ends};
 ghost use Rattle.hip_match.specs.Pieces.{split};
@@ -10,8 +10,20 @@ ghost use Rattle.hip_match.specs.Pieces.{split};
 use hip_cuts::{Backend, HipStr, IterWrapper, Pieces, TextCuts, Unnumbered, Walk};
 use std::alloc::{AllocError, Global};
 
-/// The length of the longest field of a line, or of those before the first that is refused for memory.
-pub(crate) fn longest_field<'b, B: Backend>(line: &HipStr<'b, B>, alloc: Global) -> usize {
+/// The length of the longest field of a line.
+pub(crate) fn longest_field<'b, B: Backend>(
+    line: &HipStr<'b, B>,
+    alloc: Global,
+) -> Result<usize, AllocError> {
+    let mut longest = 0;
+    for field in line.split(alloc, ',').collect()? {
+        longest = longest.max(field.len());
+    }
+    Ok(longest)
+}
+
+/// The same with no vector, or of the fields before the first that is refused for memory.
+pub(crate) fn longest_drawn<'b, B: Backend>(line: &HipStr<'b, B>, alloc: Global) -> usize {
     longest_of(line.split(alloc, ','))
 }
 

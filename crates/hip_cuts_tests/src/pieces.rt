@@ -1,5 +1,5 @@
 //! Pieces by texts and by characters.
-use crate::fields::{has_fields, longest_field};
+use crate::fields::{has_fields, longest_drawn, longest_field};
 use crate::walks::Walk::{
     Matches, RMatches, RSplit, RSplitN, RSplitTerminator, Split, SplitInclusive, SplitN,
     SplitTerminator,
@@ -94,7 +94,8 @@ fn from_both_ends<B: Backend>(rt: &impl Abort, alloc: Global) {
 
 fn reads_fields<B: Backend>(alloc: Global) -> bool {
     let line = HipStr::<B>::borrowed("a,bcd,,é");
-    (longest_field(&line, alloc) == 3)
+    longest_field(&line, alloc).is_ok_and(|longest| longest == 3)
+        & (longest_drawn(&line, alloc) == 3)
         & has_fields(&line, 4, alloc).is_ok_and(|has| has)
         & has_fields(&line, 3, alloc).is_ok_and(|has| !has)
 }

@@ -3,6 +3,27 @@ ghost use Rattle.std.specs.Prelude.{◌≡◌, ℕ};
 use std::alloc::{AllocError, AllocFailed};
 use std::fmt;
 
+/// Why lines that were read were not all played.
+#[derive(Clone, Copy)]
+pub(crate) enum Stop {
+    /// The answers could not be written.
+    WriteFailed,
+    /// Memory ran out.
+    Memory,
+}
+
+impl From<AllocError> for Stop {
+    fn from(_refused: AllocError) -> Stop {
+        Stop::Memory
+    }
+}
+
+impl<T: Drop> From<AllocFailed<T>> for Stop {
+    fn from(_refused: AllocFailed<T>) -> Stop {
+        Stop::Memory
+    }
+}
+
 /// Why a script was not played to its end.
 #[derive(Clone, Copy, Debug, PartialEq, Eq)]
 pub enum PlayFault {
@@ -59,5 +80,18 @@ impl<T: Drop> From<AllocFailed<T>> for PlayFault {
 
     fn from(_refused: AllocFailed<T>) -> PlayFault {
         PlayFault::Memory
+    }
+}
+
+impl From<Stop> for PlayFault {
+    ghost use Rattle.hip_script.specs.declared.fault.PlayFault.TheVariants.{NotACommand};
+
+    ghost from_gives = { λ _ fault. (line : ℕ) → fault ≡ NotACommand line → ⊥ };
+
+    fn from(stop: Stop) -> PlayFault {
+        match stop {
+            Stop::WriteFailed => PlayFault::WriteFailed,
+            Stop::Memory => PlayFault::Memory,
+        }
     }
 }

@@ -1,5 +1,8 @@
 //! Playing a script.
-use crate::fault::PlayFault;
+ghost use Rattle.std.specs.Prelude.{◌≡◌, ◌<◌, ℕ, Err};
+ghost use Rattle.hip_script.specs.declared.fault.PlayFault.TheVariants.{NotACommand};
+
+use crate::fault::{PlayFault, Stop};
 use crate::line::{Aside, Line};
 use crate::literal::Literals;
 use crate::print::{print_answer, print_literal};
@@ -21,7 +24,9 @@ pub fn play<B: Backend, R: Read + Drop, W: Write + Drop>(
     alloc: Global,
     mut reader: R,
     writer: W,
-) -> Result<(), PlayFault> {
+) -> Result<(), PlayFault>
+    ensures bad_line { (line : ℕ) → result ≡ Err (NotACommand line) → 0 < line }
+{
     let mut input = Vec::new(alloc);
     if let Err(error) = reader.read_to_end(&mut input) {
         return Err(read_fault(&error));
@@ -32,11 +37,14 @@ pub fn play<B: Backend, R: Read + Drop, W: Write + Drop>(
         return Err(PlayFault::Memory);
     };
     let played = play_lines::<B, _>(alloc, script.as_slice(), &mut out);
-    leave(out, played)
+    leave(out, played)?;
+    Ok(())
 }
 
 /// Why the script could not be read.
-fn read_fault(error: &io::Error) -> PlayFault {
+fn read_fault(error: &io::Error) -> PlayFault
+    ensures { (line : ℕ) → result ≡ NotACommand line → ⊥ }
+{
     match error.kind() {
         ErrorKind::OutOfMemory => PlayFault::Memory,
         _ => PlayFault::ReadFailed,
@@ -48,7 +56,7 @@ fn play_lines<B: Backend, W: Write>(
     alloc: Global,
     lines: &[Line<'_>],
     out: &mut W,
-) -> Result<(), PlayFault> {
+) -> Result<(), Stop> {
     let mut pool = Pool::<B>::new(alloc, SLOTS)?;
     let mut meter = Meter::new();
     let mut commands = Vec::new(alloc);
@@ -72,11 +80,11 @@ fn perform<'b, B: Backend, W: Write>(
     commands: &[Command<'b>],
     meter: &mut Meter,
     out: &mut W,
-) -> Result<(), PlayFault> {
+) -> Result<(), Stop> {
     let answers = run(alloc, pool, commands, meter)?;
     for answer in &answers {
         if print_answer(out, *answer).is_err() {
-            return Err(PlayFault::WriteFailed);
+            return Err(Stop::WriteFailed);
         }
     }
     Ok(())
@@ -88,12 +96,12 @@ fn tell<B: Backend, W: Write>(
     meter: &Meter,
     aside: Aside,
     out: &mut W,
-) -> Result<(), PlayFault> {
+) -> Result<(), Stop> {
     let told = match aside {
         Aside::Show(slot) => show(pool, slot, out),
         Aside::Copied => writeln!(out, "{}", meter.copied()),
     };
-    told.map_err(|_| PlayFault::WriteFailed)
+    told.map_err(|_| Stop::WriteFailed)
 }
 
 /// Prints the bytes of a slot.
@@ -109,13 +117,13 @@ fn show<B: Backend, W: Write>(pool: &Pool<'_, B>, slot: usize, out: &mut W) -> i
 /// Writes what waits in the buffer, but nothing more after a failed write.
 fn leave<W: Write + Drop>(
     mut out: BufWriter<W>,
-    played: Result<(), PlayFault>,
-) -> Result<(), PlayFault> {
+    played: Result<(), Stop>,
+) -> Result<(), Stop> {
     let flushed = match played {
-        Err(PlayFault::WriteFailed) => Ok(()),
+        Err(Stop::WriteFailed) => Ok(()),
         _ => out.flush(),
     };
     let (_writer, _unwritten) = out.into_parts();
     played?;
-    flushed.map_err(|_| PlayFault::WriteFailed)
+    flushed.map_err(|_| Stop::WriteFailed)
 }

@@ -1,5 +1,6 @@
 //! A whole script: its lines, and what each says.
-ghost use Rattle.std.specs.Prelude.{length};
+ghost use Rattle.std.specs.Prelude.{◌≡◌, ◌<◌, ℕ, Err, length};
+ghost use Rattle.hip_script.specs.declared.fault.PlayFault.TheVariants.{NotACommand};
 
 use crate::fault::PlayFault;
 use crate::line::{Line, read_line};
@@ -66,7 +67,9 @@ pub(crate) fn read_script<'b>(
     alloc: Global,
     input: &[u8],
     literals: &'b Literals,
-) -> Result<Vec<Line<'b>>, PlayFault> {
+) -> Result<Vec<Line<'b>>, PlayFault>
+    ensures { (line : ℕ) → result ≡ Err (NotACommand line) → 0 < line }
+{
     let mut script = Vec::new(alloc);
     let mut left = literals.iter();
     let mut number = 0usize;

@@ -8,13 +8,14 @@ use Rattle.hip_bytes.specs.Handle.{Handle}
 use Rattle.hip_bytes.specs.Made.{CutAnswers}
 use Rattle.hip_bytes.specs.Meter.{RisesAtMost}
 use Rattle.hip_bytes.specs.declared.kind.Kind.{Kind}
-use Rattle.hip_cuts.specs.Piece.{part_cost, FirstPiece, FirstCosts, LastPiece, LastCosts}
+use Rattle.hip_cuts.specs.Piece.{IsPartAt, part_cost, parts_cost, FirstPiece, FirstCosts, LastPiece, LastCosts}
 use Rattle.hip_match.proofs.DrawLemmas.{TakesEnd-back}
 use Rattle.hip_match.specs.Draw.{draw, but_last}
 use Rattle.hip_match.specs.declared.draw.End.{End}
 use Rattle.hip_match.specs.declared.draw.End.TheVariants.{Front, Back}
 use Rattle.hipstr.proofs.Places.{placed}
-use Rattle.hipstr.specs.Cut.{DrawsPart, HoldParts, IsPartAt, PutsParts, SomeNeedsMemory, has_back, parts_cost, put_all}
+use Rattle.hipstr.specs.Cut.{PutsParts, SomeNeedsMemory, has_back}
+use Rattle.hipstr.specs.Parts.{DrawsPart, HoldParts, put_all}
 use Rattle.hipstr.specs.Slot.{SlotState, empty_slot, slot_at}
 
 -- ---- one part

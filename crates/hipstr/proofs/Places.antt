@@ -8,7 +8,7 @@ use Rattle.hip_bytes.specs.declared.kind.Kind.{Kind}
 use Rattle.hip_bytes.specs.declared.kind.Kind.TheVariants.{Inline}
 use Rattle.hip_cuts.specs.Cut.{OnceAnswers}
 use Rattle.hip_text.proofs.Texts.{texts}
-use Rattle.hipstr.specs.Cut.{IsPartAt}
+use Rattle.hip_cuts.specs.Piece.{IsPartAt}
 use Rattle.hipstr.specs.Slot.{SlotState, Replaces, empty_slot, slot_at, state_at, text_at}
 
 -- a place that was written twice holds what was written last, and one that is written with what it holds stays as it is

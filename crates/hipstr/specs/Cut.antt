@@ -1,15 +1,12 @@
 -- The commands that cut a text: where it is cut, and which slots the parts go to. `text` are the bytes that are cut.
-use Rattle.std.specs.Prelude.{◌≡◌, ℕ, ◌+◌, ◌-◌, ◌==◌, ◌⊎◌, Bool, true, false, List, [], ◌∷◌, length, Option, Some, None, Result, Ok, Err, replicate, slice_range, slice_set}
+use Rattle.std.specs.Prelude.{◌≡◌, ℕ, ◌+◌, ◌-◌, ◌==◌, ◌⊎◌, Bool, true, false, List, [], ◌∷◌, length, Option}
 use Rattle.std.specs.List.{list_any}
 use Rattle.hip_bytes.specs.Cost.{CutNeedsMemory}
 use Rattle.hip_bytes.specs.Handle.{Handle}
-use Rattle.hip_bytes.specs.Made.{CutAnswers, IsPart}
-use Rattle.hip_bytes.specs.Meter.{RisesAtMost}
 use Rattle.hip_bytes.specs.declared.kind.Kind.{Kind}
 use Rattle.hip_cuts.specs.Cut.{LeavesBetween, LeavesEnd, LeavesStart}
-use Rattle.hip_cuts.specs.Piece.{part_cost}
+use Rattle.hip_cuts.specs.Piece.{IsPartAt}
 use Rattle.hip_match.specs.Characters.{char_ends}
-use Rattle.hip_match.specs.Draw.{draw}
 use Rattle.hip_match.specs.Leftmost.{leftmost}
 use Rattle.hip_match.specs.Pieces.{split, split_inclusive, split_terminator, splitn, rsplit, rsplit_terminator, rsplitn}
 use Rattle.hip_match.specs.Rightmost.{rightmost}
@@ -18,7 +15,7 @@ use Rattle.hip_match.specs.Texts.{text_ends}
 use Rattle.hip_match.specs.Trims.{strip_prefix, strip_suffix, split_once, rsplit_once}
 use Rattle.hip_match.specs.declared.draw.End.{End}
 use Rattle.hip_match.specs.declared.draw.End.TheVariants.{Front, Back}
-use Rattle.hipstr.specs.Slot.{SlotState, Replaces, empty_slot}
+use Rattle.hipstr.specs.Slot.{SlotState, Replaces}
 use Rattle.hipstr.specs.declared.command.How.{How}
 use Rattle.hipstr.specs.declared.command.How.TheVariants.{Split, Inclusive, Terminator, SplitN, Matches, RSplit, RTerminator, RSplitN, RMatches, Lines, Words, AsciiWords}
 use Rattle.hipstr.specs.declared.command.Pat.{Pat}
@@ -38,12 +35,12 @@ Leaves Start ends n range = LeavesEnd ends n range
 Leaves end_side ends n range = LeavesStart ends n range
 Leaves Both ends n range = LeavesBetween ends n range
 
--- a text may not be trimmed at both ends of what isn't one character
 abbrev pub is_both : Side → Bool
 is_both Start = false
 is_both end_side = false
 is_both Both = true
 
+-- a text may not be trimmed at both ends of what isn't one character
 abbrev pub trims_one_end : Side → Pat → Bool
 trims_one_end side (Text pattern) = is_both side
 trims_one_end side (Char c) = false
@@ -97,10 +94,6 @@ has_back [] = false
 has_back (Back ∷ script) = true
 has_back (Front ∷ script) = has_back script
 
--- the handle is the source's part at the range
-abbrev pub IsPartAt : Handle → ℕ × ℕ → Handle → Type 0
-IsPartAt source range part = IsPart source part (slice_range source.items range.0 range.1)
-
 -- the slots from `first` on became the source's parts at these ranges, one after another; every other slot is as it was
 abbrev pub PutsParts : Handle → List SlotState → ℕ → List (ℕ × ℕ) → List SlotState → Type 0
 PutsParts source old first [] new = new ≡ old
@@ -111,32 +104,3 @@ PutsParts source old first (range ∷ ranges) new =
 abbrev pub SomeNeedsMemory : Kind → List (ℕ × ℕ) → Type 0
 SomeNeedsMemory kind [] = ⊥
 SomeNeedsMemory kind (range ∷ ranges) = CutNeedsMemory kind (range.1 - range.0) ⊎ SomeNeedsMemory kind ranges
-
--- how many bytes the parts at these ranges copy at most
-abbrev pub parts_cost : Bool → Handle → List (ℕ × ℕ) → ℕ
-parts_cost shares source [] = 0
-parts_cost shares source (range ∷ ranges) = part_cost shares source range + parts_cost shares source ranges
-
--- ---- pieces that are made in spare slots before they go to their targets
--- the first slots are the source's parts at these ranges, as texts, and all others are empty
-abbrev pub HoldParts : Handle → List (ℕ × ℕ) → List SlotState → Type 0
-HoldParts source [] slots = slots ≡ replicate (length slots) empty_slot
-HoldParts source (range ∷ ranges) [] = ⊥
-HoldParts source (range ∷ ranges) (slot ∷ slots) = (slot.is_text ≡ true) × IsPartAt source range slot.handle × HoldParts source ranges slots
-
--- what a call that makes parts in empty slots answers: their number, or that one is refused, and then the slots are as they were
-abbrev pub MakesParts : {E : Type 0} → Handle → List (ℕ × ℕ) → List SlotState → Result ℕ E → List SlotState → Type 0
-MakesParts source ranges old (Ok count) new = (count ≡ length ranges) × HoldParts source ranges new
-MakesParts source ranges old (Err error) new = SomeNeedsMemory source.kind ranges × (new ≡ old)
-
--- what draws one: the part at the range that this end draws of the ranges that were left, within that part's cost
-abbrev pub DrawsPart : {E : Type 0} → Bool → End → Handle → List (ℕ × ℕ) → List (ℕ × ℕ) → Option (Result Handle E) → ℕ → ℕ → Type 0
-DrawsPart shares end source old new None before after = (old ≡ []) × (after ≡ before)
-DrawsPart shares end source old new (Some part) before after =
-    (range : ℕ × ℕ) × ((script : List End) → draw old (end ∷ script) ≡ range ∷ draw new script) × CutAnswers source (slice_range source.items range.0 range.1) part
-    × RisesAtMost before after (part_cost shares source range)
-
--- these slots put one after another from a position on
-abbrev pub put_all : List SlotState → ℕ → List SlotState → List SlotState
-put_all slots first [] = slots
-put_all slots first (slot ∷ more) = put_all (slice_set slots first slot) (first + 1) more

@@ -1,4 +1,5 @@
 pub mod Cut
+pub mod Parts
 pub mod Slot
 pub mod Step
 pub mod Run

@@ -21,11 +21,11 @@ use Rattle.hip_bytes.specs.declared.kind.TheConstants.{INLINE_CAPACITY}
 use Rattle.hip_text.specs.Boundary.{is_boundary}
 use Rattle.hip_text.specs.Change.{PopCharAnswers}
 use Rattle.hip_text.specs.Slice.{text_slice_fault}
-use Rattle.hip_cuts.specs.Piece.{part_cost}
+use Rattle.hip_cuts.specs.Piece.{IsPartAt, part_cost, parts_cost}
 use Rattle.hip_match.specs.Characters.{char_ends}
 use Rattle.hip_match.specs.Draw.{draw}
 use Rattle.hip_match.specs.declared.draw.End.{End}
-use Rattle.hipstr.specs.Cut.{IsPartAt, Leaves, PutsParts, SomeNeedsMemory, has_back, has_one_end, occurrences, parted, parts_cost, pieces_of, stripped, trims_one_end}
+use Rattle.hipstr.specs.Cut.{Leaves, PutsParts, SomeNeedsMemory, has_back, has_one_end, occurrences, parted, pieces_of, stripped, trims_one_end}
 use Rattle.hipstr.specs.Reason.{reason_of, text_reason_of}
 use Rattle.hipstr.specs.Slot.{SlotState, empty_slot, slot_at, text_at, Replaces}
 use Rattle.hipstr.specs.declared.command.Command.{Command}

@@ -14,6 +14,7 @@ mod cut;
 mod flag;
 mod join;
 mod make;
+mod parts;
 mod pieces;
 mod tell;
 mod write;

@@ -1,5 +1,5 @@
 use Rattle.std.proofs.Common.{◌≡◌, ◌+◌, ◌++◌, map, replicate, take, drop}
-use Rattle.hipstr.specs.Cut.{put_all}
+use Rattle.hipstr.specs.Parts.{put_all}
 use Rattle.hipstr.specs.Slot.{empty_slot, state_of}
 use Rattle.hipstr.proofs.machine.pieces.put_parts.Given as goal
 

@@ -3,7 +3,8 @@ use Rattle.std.proofs.lemmas.Bool.{leb-true}
 use Rattle.std.proofs.lemmas.List.{length-map, with_items_is}
 use Rattle.hip_bytes.specs.Handle.{Handle}
 use Rattle.hip_match.specs.Draw.{draw}
-use Rattle.hipstr.specs.Cut.{pieces_of, put_all}
+use Rattle.hipstr.specs.Cut.{pieces_of}
+use Rattle.hipstr.specs.Parts.{put_all}
 use Rattle.hipstr.specs.Reason.{answer_of}
 use Rattle.hipstr.specs.Slot.{SlotState, empty_slot, slot_at, state_of, text_at}
 use Rattle.hipstr.specs.Step.{Step}

@@ -1,6 +1,6 @@
 use Rattle.std.proofs.Common.{◌≡◌, map, replicate, take}
 use Rattle.hipstr.specs.Slot.{empty_slot, state_of}
-use Rattle.hipstr.proofs.machine.pieces.empty_all.Given as goal
+use Rattle.hipstr.proofs.machine.parts.empty_all.Given as goal
 
 -- those so far are empty
 abbrev pub invariant-loop-i : goal.invariant-loop-i

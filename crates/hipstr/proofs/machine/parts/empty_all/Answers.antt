@@ -2,7 +2,7 @@ use Rattle.std.proofs.Common.{◌<◌, length, map, arith}
 use Rattle.std.proofs.lemmas.List.{length-map, map-set}
 use Rattle.hipstr.specs.Slot.{state_of}
 use Rattle.hipstr.proofs.Parts.{empties-on}
-use Rattle.hipstr.proofs.machine.pieces.empty_all.Goals as goal
+use Rattle.hipstr.proofs.machine.parts.empty_all.Goals as goal
 
 pub loop-i-preserved : goal.loop-i-preserved
 loop-i-preserved g c =

@@ -2,49 +2,46 @@ use Rattle.std.proofs.Common.{◌≡◌, ◌≤◌, ◌∙◌, length, map, repl
 use Rattle.std.proofs.lemmas.List.{length-map}
 use Rattle.hip_match.specs.Draw.{draw}
 use Rattle.hipstr.specs.Slot.{empty_slot, state_of}
-use Rattle.hipstr.proofs.Parts.{all-front, goes-on, has-ended, is-refused}
-use Rattle.hipstr.proofs.machine.pieces.make_front.Goals as goal
+use Rattle.hipstr.proofs.Parts.{goes-on, has-ended, is-refused}
+use Rattle.hipstr.proofs.machine.parts.make_both.Goals as goal
 
 pub loop-i-preserved : goal.loop-i-preserved
 loop-i-preserved g c =
     let state = state_of {B = g.row.B.Denot} {S = g.row.B-Sole.Denot} in
     let room : length c.args.script.now ≤ length (map state c.loop-i.spare) = omega (arith, c.requires.room, c.loop-i.auto.spare, length-map c.loop-i.spare state) in
     record {
-      so_far = goes-on c.in-Some-Ok.field-0 g.B.Backend.SHARES c.args.walk.source.now c.loop-i.walk.source.now (draw (g.I.Ranges.rest c.args.walk.ranges) c.args.script.now) (g.I.Ranges.rest c.loop-i.walk.ranges) (g.I.Ranges.rest c.front_part.new.walk.ranges)
-          c.args.script.now c.loop-i.i _ (map state c.loop-i.spare) (map state c.put_text.new.slots) c.in-Some-Ok.part c.args.meter.now c.loop-i.meter c.front_part.new.meter
+      so_far = goes-on c.in-Some-Ok.field-0 g.B.Backend.SHARES c.args.walk.source.now c.loop-i.walk.source.now (draw (g.I.Ranges.rest c.args.walk.ranges) c.args.script.now) (g.I.Ranges.rest c.loop-i.walk.ranges) (g.I.Ranges.rest c.end_part.new.walk.ranges)
+          c.args.script.now c.loop-i.i _ (map state c.loop-i.spare) (map state c.put_text.new.slots) c.in-Some-Ok.part c.args.meter.now c.loop-i.meter c.end_part.new.meter
           c.loop-i.invariant.so_far c.loop-i.invariant.source c.loop-i-test.true room c.in-Some-Ok.ensures.drawn c.in-Some-Ok.field-0-is c.put_text.ensures;
-      source = c.front_part.ensures.source ∙ c.loop-i.invariant.source;
-      ready = c.front_part.ensures.ready.0;
-      text = c.front_part.ensures.ready.1;
+      source = c.end_part.ensures.source ∙ c.loop-i.invariant.source;
+      ready = c.end_part.ensures.ready.0;
+      text = c.end_part.ensures.ready.1;
     }
 
 pub returns-in-Some-Err-clause-made : goal.returns-in-Some-Err-clause-made
 returns-in-Some-Err-clause-made g c =
     let state = state_of {B = g.row.B.Denot} {S = g.row.B-Sole.Denot} in
-    let refused = is-refused c.in-Some-Err.field-0 _ g.B.Backend.SHARES c.args.walk.source.now c.loop-i.walk.source.now (draw (g.I.Ranges.rest c.args.walk.ranges) c.args.script.now) (g.I.Ranges.rest c.loop-i.walk.ranges) (g.I.Ranges.rest c.front_part.new.walk.ranges)
-    c.args.script.now c.loop-i.i _ (map state c.loop-i.spare) c.args.meter.now c.loop-i.meter c.front_part.new.meter
+    let refused = is-refused c.in-Some-Err.field-0 _ g.B.Backend.SHARES c.args.walk.source.now c.loop-i.walk.source.now (draw (g.I.Ranges.rest c.args.walk.ranges) c.args.script.now) (g.I.Ranges.rest c.loop-i.walk.ranges) (g.I.Ranges.rest c.end_part.new.walk.ranges)
+    c.args.script.now c.loop-i.i _ (map state c.loop-i.spare) c.args.meter.now c.loop-i.meter c.end_part.new.meter
     c.loop-i.invariant.so_far c.loop-i.invariant.source c.loop-i-test.true c.in-Some-Err.ensures.drawn c.in-Some-Err.field-0-is in
     (refused.needs, c.empty_all.ensures ∙ ap (λ n. replicate n empty_slot) (let same : length c.loop-i.spare ≡ length c.args.spare.now = omega (arith, c.loop-i.auto.spare) in same) ∙ sym c.requires.empty)
 
 pub returns-in-Some-Err-clause-counted : goal.returns-in-Some-Err-clause-counted
 returns-in-Some-Err-clause-counted g c =
     let state = state_of {B = g.row.B.Denot} {S = g.row.B-Sole.Denot} in
-    let refused = is-refused c.in-Some-Err.field-0 _ g.B.Backend.SHARES c.args.walk.source.now c.loop-i.walk.source.now (draw (g.I.Ranges.rest c.args.walk.ranges) c.args.script.now) (g.I.Ranges.rest c.loop-i.walk.ranges) (g.I.Ranges.rest c.front_part.new.walk.ranges)
-    c.args.script.now c.loop-i.i _ (map state c.loop-i.spare) c.args.meter.now c.loop-i.meter c.front_part.new.meter
+    let refused = is-refused c.in-Some-Err.field-0 _ g.B.Backend.SHARES c.args.walk.source.now c.loop-i.walk.source.now (draw (g.I.Ranges.rest c.args.walk.ranges) c.args.script.now) (g.I.Ranges.rest c.loop-i.walk.ranges) (g.I.Ranges.rest c.end_part.new.walk.ranges)
+    c.args.script.now c.loop-i.i _ (map state c.loop-i.spare) c.args.meter.now c.loop-i.meter c.end_part.new.meter
     c.loop-i.invariant.so_far c.loop-i.invariant.source c.loop-i-test.true c.in-Some-Err.ensures.drawn c.in-Some-Err.field-0-is in
     refused.rises
 
 pub returns-in-None-clause-made : goal.returns-in-None-clause-made
 returns-in-None-clause-made g c =
     let all = has-ended g.B.Backend.SHARES c.args.walk.source.now (draw (g.I.Ranges.rest c.args.walk.ranges) c.args.script.now) (g.I.Ranges.rest c.loop-i.walk.ranges) c.args.script.now c.loop-i.i
-    (map (state_of {B = g.row.B.Denot} {S = g.row.B-Sole.Denot}) c.loop-i.spare) c.args.meter.now c.loop-i.meter c.front_part.new.meter c.loop-i.invariant.so_far c.in-None.ensures.drawn.0 c.in-None.ensures.drawn.1 in
+    (map (state_of {B = g.row.B.Denot} {S = g.row.B-Sole.Denot}) c.loop-i.spare) c.args.meter.now c.loop-i.meter c.end_part.new.meter c.loop-i.invariant.so_far c.in-None.ensures.drawn.0 c.in-None.ensures.drawn.1 in
     all.made
 
 pub returns-in-None-clause-counted : goal.returns-in-None-clause-counted
 returns-in-None-clause-counted g c =
     let all = has-ended g.B.Backend.SHARES c.args.walk.source.now (draw (g.I.Ranges.rest c.args.walk.ranges) c.args.script.now) (g.I.Ranges.rest c.loop-i.walk.ranges) c.args.script.now c.loop-i.i
-    (map (state_of {B = g.row.B.Denot} {S = g.row.B-Sole.Denot}) c.loop-i.spare) c.args.meter.now c.loop-i.meter c.front_part.new.meter c.loop-i.invariant.so_far c.in-None.ensures.drawn.0 c.in-None.ensures.drawn.1 in
+    (map (state_of {B = g.row.B.Denot} {S = g.row.B-Sole.Denot}) c.loop-i.spare) c.args.meter.now c.loop-i.meter c.end_part.new.meter c.loop-i.invariant.so_far c.in-None.ensures.drawn.0 c.in-None.ensures.drawn.1 in
     all.rises
-
-pub front_part-requires-clause-front : goal.front_part-requires-clause-front
-front_part-requires-clause-front g c = all-front c.args.script.now c.loop-i.i _ c.requires.front c.loop-i-test.true

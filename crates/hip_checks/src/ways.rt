@@ -1,0 +1,151 @@
+//! Each way to take a text apart, by every script of up to six ends.
+use hipstr::{Answer, Backend, Command, End, How, Kind, Meter, Pat, Pool, Reason, Slot, run};
+use std::alloc::Global;
+use std::process::Abort;
+use std::test::Fail;
+
+/// A way, whether its pieces come from both ends, and all of them in the order of the front, which are those of Rust's `str`.
+type Way = (How<'static>, bool, &'static [&'static str]);
+
+/// Texts, and the ways in which each is taken apart.
+const WAYS: &[(&str, &[Way])] = &[
+    (
+        "a,b,c,d",
+        &[
+            (How::Split(Pat::Char(',')), true, &["a", "b", "c", "d"]),
+            (
+                How::Inclusive(Pat::Char(',')),
+                true,
+                &["a,", "b,", "c,", "d"],
+            ),
+            (How::Terminator(Pat::Char(',')), true, &["a", "b", "c", "d"]),
+            (How::SplitN(3, Pat::Char(',')), false, &["a", "b", "c,d"]),
+            (How::Matches(Pat::Char(',')), true, &[",", ",", ","]),
+            (How::RSplit(Pat::Char(',')), true, &["d", "c", "b", "a"]),
+            (
+                How::RTerminator(Pat::Char(',')),
+                true,
+                &["d", "c", "b", "a"],
+            ),
+            (How::RSplitN(3, Pat::Char(',')), false, &["d", "c", "a,b"]),
+            (How::RMatches(Pat::Char(',')), true, &[",", ",", ","]),
+            (How::Lines, true, &["a,b,c,d"]),
+            (How::Words, true, &["a,b,c,d"]),
+            (How::AsciiWords, true, &["a,b,c,d"]),
+        ],
+    ),
+    (
+        ",,",
+        &[
+            (How::Split(Pat::Char(',')), true, &["", "", ""]),
+            (How::Inclusive(Pat::Char(',')), true, &[",", ","]),
+            (How::Terminator(Pat::Char(',')), true, &["", ""]),
+            (How::SplitN(3, Pat::Char(',')), false, &["", "", ""]),
+            (How::Matches(Pat::Char(',')), true, &[",", ","]),
+            (How::RSplit(Pat::Char(',')), true, &["", "", ""]),
+            (How::RTerminator(Pat::Char(',')), true, &["", ""]),
+            (How::RSplitN(3, Pat::Char(',')), false, &["", "", ""]),
+            (How::RMatches(Pat::Char(',')), true, &[",", ","]),
+            (How::Lines, true, &[",,"]),
+            (How::Words, true, &[",,"]),
+            (How::AsciiWords, true, &[",,"]),
+        ],
+    ),
+    (
+        "a, ,b,",
+        &[
+            (
+                How::Split(Pat::Set(&[',', ' '])),
+                true,
+                &["a", "", "", "b", ""],
+            ),
+            (How::Inclusive(Pat::Text(",")), false, &["a,", " ,", "b,"]),
+            (
+                How::Terminator(Pat::Set(&[',', ' '])),
+                true,
+                &["a", "", "", "b"],
+            ),
+            (How::SplitN(2, Pat::Text(", ")), false, &["a", ",b,"]),
+            (How::Matches(Pat::Set(&['a', 'b'])), true, &["a", "b"]),
+            (How::RSplit(Pat::Text(",")), false, &["", "b", " ", "a"]),
+            (How::RTerminator(Pat::Text(",")), false, &["b", " ", "a"]),
+            (How::RSplitN(2, Pat::Text(",")), false, &["", "a, ,b"]),
+            (How::RMatches(Pat::Text(", ")), false, &[", "]),
+            (How::Words, true, &["a,", ",b,"]),
+            (How::AsciiWords, true, &["a,", ",b,"]),
+        ],
+    ),
+    ("a\r\n\nb", &[(How::Lines, true, &["a", "", "b"])]),
+];
+
+/// Whether a slot holds this piece, borrowed as its text is, or nothing where there is none.
+fn holds<B: Backend>(slot: Option<&Slot<'_, B>>, piece: Option<&str>) -> bool {
+    match (slot, piece) {
+        (Some(slot), Some(piece)) => {
+            slot.as_bytes() == piece.as_bytes() && slot.kind() == Kind::Borrowed
+        }
+        (Some(slot), None) => slot.as_bytes().is_empty() && slot.kind() == Kind::Inline,
+        (None, _) => false,
+    }
+}
+
+/// Whether a text is taken apart by a script as it should be, with nothing copied.
+fn takes_apart<B: Backend>(
+    alloc: Global,
+    text: &str,
+    way: Way,
+    script: &[End],
+) -> Result<bool, Fail> {
+    let (how, has_both_ends, pieces) = way;
+    let mut pool = Pool::<B>::new(alloc, 7)?;
+    let commands = [
+        Command::Borrow(0, text.as_bytes()),
+        Command::Text(0),
+        Command::Pieces(0, how, script, 1),
+    ];
+    let mut meter = Meter::new();
+    let answers = run(alloc, &mut pool, &commands, &mut meter)?;
+    let is_refused = !has_both_ends && script.contains(&End::Back);
+    let wanted = if is_refused {
+        Answer::Refused(Reason::OneEnd)
+    } else {
+        Answer::Number(pieces.len().min(script.len()))
+    };
+    let mut is_so = answers.as_slice().last() == Some(&wanted) && meter.copied() == 0;
+    let mut left = if is_refused { &[] } else { pieces };
+    for (i, end) in script.iter().enumerate() {
+        let drawn = match end {
+            End::Front => left.split_first(),
+            End::Back => left.split_last(),
+        };
+        let piece = drawn.map(|(piece, _)| *piece);
+        left = drawn.map_or(&[], |(_, rest)| rest);
+        is_so = is_so && holds(pool.slot(i + 1), piece);
+    }
+    Ok(is_so)
+}
+
+/// Each way, by every script of up to six ends: the ends of a script of six are the digits of a number, and its beginnings are the others.
+pub(crate) fn takes_all_apart<B: Backend>(rt: &impl Abort, alloc: Global) -> Result<(), Fail> {
+    for number in 0..64_u8 {
+        let mut script = [End::Front; 6];
+        let mut digits = number;
+        for end in &mut script {
+            if digits % 2 == 1 {
+                *end = End::Back;
+            }
+            digits /= 2;
+        }
+        for (text, ways) in WAYS {
+            for (i, way) in ways.iter().enumerate() {
+                for count in 0..7 {
+                    assert!(rt;
+                        takes_apart::<B>(alloc, text, *way, &script[..count])?,
+                        "{text}, way {i}, {script:?}"
+                    );
+                }
+            }
+        }
+    }
+    Ok(())
+}

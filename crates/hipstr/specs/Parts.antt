@@ -1,0 +1,33 @@
+-- Pieces that are made in spare slots before they go to their targets, so that a refused one changes no slot.
+use Rattle.std.specs.Prelude.{◌≡◌, ℕ, ◌+◌, Bool, true, List, [], ◌∷◌, length, Option, Some, None, Result, Ok, Err, replicate, slice_range, slice_set}
+use Rattle.hip_bytes.specs.Handle.{Handle}
+use Rattle.hip_bytes.specs.Made.{CutAnswers}
+use Rattle.hip_bytes.specs.Meter.{RisesAtMost}
+use Rattle.hip_cuts.specs.Piece.{IsPartAt, part_cost}
+use Rattle.hip_match.specs.Draw.{draw}
+use Rattle.hip_match.specs.declared.draw.End.{End}
+use Rattle.hipstr.specs.Cut.{SomeNeedsMemory}
+use Rattle.hipstr.specs.Slot.{SlotState, empty_slot}
+
+-- the first slots are the source's parts at these ranges, as texts, and all others are empty
+abbrev pub HoldParts : Handle → List (ℕ × ℕ) → List SlotState → Type 0
+HoldParts source [] slots = slots ≡ replicate (length slots) empty_slot
+HoldParts source (range ∷ ranges) [] = ⊥
+HoldParts source (range ∷ ranges) (slot ∷ slots) = (slot.is_text ≡ true) × IsPartAt source range slot.handle × HoldParts source ranges slots
+
+-- what a call that makes parts in empty slots answers: their number, or that one is refused, and then the slots are as they were
+abbrev pub MakesParts : {E : Type 0} → Handle → List (ℕ × ℕ) → List SlotState → Result ℕ E → List SlotState → Type 0
+MakesParts source ranges old (Ok count) new = (count ≡ length ranges) × HoldParts source ranges new
+MakesParts source ranges old (Err error) new = SomeNeedsMemory source.kind ranges × (new ≡ old)
+
+-- what draws one: the part at the range that this end draws of the ranges that were left, within that part's cost
+abbrev pub DrawsPart : {E : Type 0} → Bool → End → Handle → List (ℕ × ℕ) → List (ℕ × ℕ) → Option (Result Handle E) → ℕ → ℕ → Type 0
+DrawsPart shares end source old new None before after = (old ≡ []) × (after ≡ before)
+DrawsPart shares end source old new (Some part) before after =
+    (range : ℕ × ℕ) × ((script : List End) → draw old (end ∷ script) ≡ range ∷ draw new script) × CutAnswers source (slice_range source.items range.0 range.1) part
+    × RisesAtMost before after (part_cost shares source range)
+
+-- these slots put one after another from a position on
+abbrev pub put_all : List SlotState → ℕ → List SlotState → List SlotState
+put_all slots first [] = slots
+put_all slots first (slot ∷ more) = put_all (slice_set slots first slot) (first + 1) more
