@@ -1,14 +1,13 @@
 -- The first part of a path, and what the rest names.
-use Rattle.std.proofs.Common.{◌≡◌, ◌∙◌, ℕ, Bool, true, false, cond, nat_lt, List, [], ◌∷◌, length, map, filter, take, drop, unwrap_or, Option, Some, None, ap, ap₂, refl, sym, subst, ◌+◌, ◌<◌, ◌≤◌, arith}
+use Rattle.std.proofs.Common.{◌≡◌, ◌∙◌, ℕ, Bool, true, false, cond, nat_lt, List, [], ◌∷◌, length, map, filter, unwrap_or, Some, None, ap, refl, sym, subst, ◌<◌, ◌≤◌, arith}
 use Rattle.std.proofs.Math.Decide.{dec_lt}
-use Rattle.std.proofs.Math.Nat.{lt_of_not-le}
 use Rattle.std.proofs.lemmas.Grind.{common_steps}
 use Rattle.std.proofs.lemmas.List.{take_all}
 use Rattle.std.proofs.lemmas.List.Sums.{fails_before_first, prefix_len-le-length}
-use Rattle.std.specs.List.{All, slice_split, before_first, after_first, position, position_or_len}
+use Rattle.std.specs.List.{All, before_first, after_first, position, position_or_len}
 use Rattle.std.specs.Path.{is_name}
 use Rattle.std.proofs.lemmas.List.Splits.{slice_split_first, slice_split_none}
-use Rattle.hip_names.specs.Components.{Component, is_slash, parts, names, named}
+use Rattle.hip_names.specs.Components.{is_slash, parts, names, named}
 
 -- where the first slash stands, by the place that there may be
 cond-within : (b : Bool) (m n : ℕ) → nat_lt m n ≡ b → m ≤ n → unwrap_or (cond b (Some m) None) n ≡ m

@@ -1,5 +1,6 @@
 pub mod Components
 pub mod Decode
+pub mod Fed
 pub mod PathLaws
 pub mod Shown
 pub use Rattle.hip_bytes.specs.Change

@@ -1,13 +1,13 @@
 -- The order of paths is one: that of components is total, and doesn't tell apart just what is the same.
-use Rattle.std.specs.Prelude.{◌≡◌, ℕ, zero, suc, List, [], ◌∷◌, Bool, true, false, refl}
+use Rattle.std.specs.Prelude.{◌≡◌, ℕ, zero, suc, List, [], ◌∷◌, Bool, true, refl}
 use Rattle.std.proofs.Common.{◌∙◌, sym, ap, subst}
-use Rattle.std.specs.Cmp.{IsTotalOrder, on_total, tied_itself, Equal-is}
+use Rattle.std.specs.Cmp.{IsTotalOrder, on_total, tied_itself}
 use Rattle.std.specs.Cmp.Lexicographic.{slice_cmp, bytes_decides, lists_total, lists_ties, nat_list_cmp_total, pointwise, pointwise_decides, texts_ties}
 use Rattle.std.specs.Bool.{Decides}
 use Rattle.std.specs.Ordering.{eq_by_cmp, is_eq, nat_cmp}
-use Rattle.std.specs.declared.cmp.Ordering.{Ordering}
 use Rattle.std.specs.declared.cmp.Ordering.TheVariants.{Equal}
-use Rattle.hip_names.specs.Components.{Component, RootDir, CurDir, ParentDir, Normal, component_order, components, path_order, rank}
+use Rattle.hip_names.specs.Components.{Component, RootDir, CurDir, ParentDir, Normal, component_order, components, path_order}
+use Rattle.hip_names.specs.Fed.{all_fed, path_fed}
 
 -- a component as a list of numbers: its rank, and the bytes of a name
 abbrev key : Component → List ℕ
@@ -71,3 +71,7 @@ path_order_decides a b =
 
 pub path_order_same : (a b : List ℕ) → a ≡ b → Equal ≡ path_order a b
 path_order_same a b e = subst (λ (c : List ℕ). Equal ≡ path_order a c) e (sym (tied_itself path_order_total a))
+
+-- paths that the order doesn't tell apart feed a hasher alike
+pub path_fed_same : (a b : List ℕ) → eq_by_cmp path_order a b ≡ true → path_fed a ≡ path_fed b
+path_fed_same a b e = ap all_fed ((path_order_decides a b).0 e)

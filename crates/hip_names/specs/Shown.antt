@@ -1,5 +1,5 @@
 -- What clauses see of a `Component`, and of an iterator of them.
-use Rattle.std.specs.Prelude.{◌≡◌, ℕ, List, [], ◌∷◌, ◌++◌, Option, Some, None, map}
+use Rattle.std.specs.Prelude.{List, [], ◌∷◌, ◌++◌, Option, Some, None}
 use Rattle.hip_names.specs.Components.{Component, RootDir, CurDir, ParentDir, Normal, names}
 use Rattle.hip_names.specs.declared.component.Component.{Component as Code}
 use Rattle.hip_names.specs.declared.component.Component.TheVariants.{RootDir as root, CurDir as current, ParentDir as parent, Normal as normal}

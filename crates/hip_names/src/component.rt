@@ -20,7 +20,7 @@ pub enum Component<'a> {
 }
 
 /// The components of a path, from the front.
-#[derive(Clone, Copy)]
+#[derive(Clone, Drop)]
 pub struct Components<'a> {
     start: Option<Component<'a>>,
     rest: &'a [u8],

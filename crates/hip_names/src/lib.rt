@@ -10,8 +10,10 @@
 #![tactic(auto)]
 
 mod component;
+mod fed;
 mod hip_os_str;
-
+mod hip_path;
+pub mod laws;
 mod order;
 
 pub use component::{Component, Components};
@@ -20,6 +22,6 @@ pub use hip_bytes::{
     Rc, RefMut, Room, Source, Unique, mutate,
 };
 pub use hip_os_str::HipOsStr;
-
+pub use hip_path::HipPath;
 pub use hip_text::HipStr;
 pub use order::{components_eq, path_cmp};
