@@ -1,0 +1,10 @@
+pub mod Components
+pub mod Decode
+pub mod Fed
+pub mod PathLaws
+pub mod Shown
+pub use Rattle.hip_bytes.specs.Change
+pub use Rattle.hip_bytes.specs.Handle
+pub use Rattle.hip_bytes.specs.Kinds
+pub use Rattle.hip_bytes.specs.Made
+pub use Rattle.hip_bytes.specs.RefMut

@@ -1,0 +1,27 @@
+//! OS strings and paths: **an OS string is a handle of bytes, and a path is one that is compared by its components.**
+//!
+//! - [`HipOsStr`] is the OS string, generic in the [`Backend`] as [`HipByt`] is. On Unix an OS string is bytes, which needn't be UTF-8.
+//! - [`HipPath`] is the path. [`HipPath::components`] gives its [`Component`]s; two paths are equal, and hash alike, where these are the
+//!   same.
+//! - [`path_cmp`] and [`components_eq`] compare paths that are plain bytes, without memory.
+//!
+//! The words of the contracts are those of hip_bytes, and `Components` (the components of a path, and their order), `Shown` (what is seen
+//! of the iterator), `Fed` (what a path feeds a hasher) and `Decode` (OS strings read as texts) of `specs/`.
+#![tactic(auto)]
+
+mod component;
+mod fed;
+mod hip_os_str;
+mod hip_path;
+pub mod laws;
+mod order;
+
+pub use component::{Component, Components};
+pub use hip_bytes::{
+    Allocated, Appended, Backend, Block, Borrowed, HipByt, INLINE_CAPACITY, Inline, Kind, Meter,
+    Rc, RefMut, Room, Source, Unique, mutate,
+};
+pub use hip_os_str::HipOsStr;
+pub use hip_path::HipPath;
+pub use hip_text::HipStr;
+pub use order::{components_eq, path_cmp};

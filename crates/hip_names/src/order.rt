@@ -1,0 +1,56 @@
+//! The order of paths.
+ghost use Rattle.std.specs.Prelude.{◌≡◌, ◌↔◌, IsTrue};
+ghost use Rattle.std.specs.Cmp.Lexicographic.{slice_cmp};
+ghost use Rattle.hip_names.specs.Components.{components, component_order, path_order};
+ghost use Rattle.hip_names.specs.Shown.{to_come};
+
+use crate::component::Components;
+use std::cmp::Ordering;
+
+/// How a path stands to another, in the order of their components.
+#[tactic(auto, using(crate::proofs::Orders::orders))]
+#[inline]
+pub fn path_cmp(left: &[u8], right: &[u8]) -> Ordering
+    ensures { result ≡ path_order left.now right.now }
+{
+    if same_bytes(left, right) {
+        return Ordering::Equal;
+    }
+    walk(Components::new(left), Components::new(right))
+}
+
+/// Whether these are the same bytes.
+#[inline]
+fn same_bytes(left: &[u8], right: &[u8]) -> bool
+    ensures { IsTrue result ↔ (left.now ≡ right.now) }
+{
+    left == right
+}
+
+/// How the components that are to come on one side stand to those on the other.
+fn walk(mut left: Components<'_>, mut right: Components<'_>) -> Ordering
+    ensures { result ≡ slice_cmp component_order (to_come left.entry) (to_come right.entry) }
+{
+    while let Some(a) = left.next() {
+        let Some(b) = right.next() else {
+            return Ordering::Greater;
+        };
+        match a.cmp(&b) {
+            Ordering::Equal => {}
+            other => return other,
+        }
+    }
+    match right.next() {
+        Some(_) => Ordering::Less,
+        None => Ordering::Equal,
+    }
+}
+
+/// Whether two paths have the same components.
+#[tactic(auto, using(crate::proofs::Orders::orders))]
+#[inline]
+pub fn components_eq(left: &[u8], right: &[u8]) -> bool
+    ensures { IsTrue result ↔ (components left.now ≡ components right.now) }
+{
+    path_cmp(left, right).is_eq()
+}
