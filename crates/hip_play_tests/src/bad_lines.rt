@@ -23,6 +23,7 @@ const BAD: &[(&str, usize)] = &[
     ("set 0 0 256\n", 1),
     ("set 0 0\n", 1),
     ("compare 0\n", 1),
+    ("comparepath 0\n", 1),
     ("NEW 0\n", 1),
     ("new\t0\n", 1),
     ("\n\nbad", 3),

@@ -200,6 +200,11 @@ const GROWTH: &[Row] = &[
         "copy 0 \"abc\"\ncopy 1 \"abd\"\ncompare 0 1\ncompare 1 0\ncompare 1 1\ncompare 0 16\n",
         "done\ndone\nless\ngreater\nequal\nrefused NoSlot\n",
     ),
+    // By components, bytes and texts alike; nothing is copied.
+    (
+        "borrow 0 \"a//\"\nborrow 1 \"a/\"\ncomparepath 0 1\ncompare 0 1\ntext 0\nborrow 1 \"./a\"\ncomparepath 1 0\ncomparepath 0 1\nborrow 1 \"a/./\\xFF\"\ncomparepath 0 1\ncomparepath 0 16\ncopied\n",
+        "done\ndone\nequal\ngreater\ndone\ndone\nless\ngreater\ndone\nless\nrefused NoSlot\n0\n",
+    ),
     // A write on a shared owner shows in one handle alone.
     (
         "copy 0 \"aaaaaaaaaaaaaaaaaaaaaaaaaa\"\nclone 0 1\nset 0 0 98\nset 0 26 98\nupper 1\nlower 1\nupper 1\nshow 0\nshow 1\nkind 0\n",

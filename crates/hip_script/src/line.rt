@@ -64,6 +64,7 @@ fn read_command<'b>(verb: &[u8], words: &mut Words<'_, 'b>) -> Option<Command<'b
         b"text" => Command::Text(words.number()?),
         b"bytes" => Command::Bytes(words.number()?),
         b"compare" => Command::Compare(words.number()?, words.number()?),
+        b"comparepath" => Command::ComparePath(words.number()?, words.number()?),
         b"len" => Command::Len(words.number()?),
         b"kind" => Command::Kind(words.number()?),
         b"capacity" => Command::Capacity(words.number()?),

@@ -20,3 +20,4 @@ pub use Rattle.hip_bytes.specs.RefMut
 pub use Rattle.hip_bytes.specs.Window
 pub use Rattle.hip_text.specs.Boundary
 pub use Rattle.hip_text.specs.Decode
+pub use Rattle.hip_names.specs.Components

@@ -25,11 +25,12 @@ use Rattle.hip_cuts.specs.Piece.{IsPartAt, part_cost, parts_cost}
 use Rattle.hip_match.specs.Characters.{char_ends}
 use Rattle.hip_match.specs.Draw.{draw}
 use Rattle.hip_match.specs.declared.draw.End.{End}
+use Rattle.hip_names.specs.Components.{path_order}
 use Rattle.hipstr.specs.Cut.{Leaves, PutsParts, SomeNeedsMemory, has_back, has_one_end, occurrences, parted, pieces_of, stripped, trims_one_end}
 use Rattle.hipstr.specs.Reason.{reason_of, text_reason_of}
 use Rattle.hipstr.specs.Slot.{SlotState, empty_slot, slot_at, text_at, Replaces}
 use Rattle.hipstr.specs.declared.command.Command.{Command}
-use Rattle.hipstr.specs.declared.command.Command.TheVariants.{New, Inline, Borrow, Copy, Room, Clone, Slice, Push, Pop, Truncate, Clear, Shrink, Upper, Lower, Set, Repeat, Join, Mutate, Owned, Text, Bytes, Trim, TrimMatches, Strip, Pieces, Once, Compare, Len, Kind, Capacity}
+use Rattle.hipstr.specs.declared.command.Command.TheVariants.{New, Inline, Borrow, Copy, Room, Clone, Slice, Push, Pop, Truncate, Clear, Shrink, Upper, Lower, Set, Repeat, Join, Mutate, Owned, Text, Bytes, Trim, TrimMatches, Strip, Pieces, Once, Compare, ComparePath, Len, Kind, Capacity}
 use Rattle.hipstr.specs.declared.command.Answer.{Answer}
 use Rattle.hipstr.specs.declared.command.Answer.TheVariants.{Done, Nothing, Number, Order, Byte, Char, Kind as KindOf, Refused}
 use Rattle.hipstr.specs.declared.command.How.{How}
@@ -154,6 +155,7 @@ fault_of slots (Once s t u end pattern) =
     option_or (slot_fault slots s) (option_or (slot_fault slots t) (option_or (slot_fault slots u) (option_or (overlap_fault t u 1)
     (not_text_fault slots s))))
 fault_of slots (Compare s t) = option_or (slot_fault slots s) (slot_fault slots t)
+fault_of slots (ComparePath s t) = option_or (slot_fault slots s) (slot_fault slots t)
 fault_of slots (Len t) = slot_fault slots t
 fault_of slots (Kind t) = slot_fault slots t
 fault_of slots (Capacity t) = slot_fault slots t
@@ -246,6 +248,7 @@ Performs shares old (Once s t u end pattern) Done new =
     × Replaces old between t true (IsPartAt source parts.0) × Replaces between new u true (IsPartAt source parts.1))
 Performs shares old (Once s t u end pattern) Nothing new = (parted_slot old s end pattern ≡ None) × (new ≡ old)
 Performs shares old (Compare s t) (Order order) new = (order ≡ slice_cmp nat_cmp (slot_at old s).items (slot_at old t).items) × (new ≡ old)
+Performs shares old (ComparePath s t) (Order order) new = (order ≡ path_order (slot_at old s).items (slot_at old t).items) × (new ≡ old)
 Performs shares old (Len t) (Number n) new = (n ≡ length (slot_at old t).items) × (new ≡ old)
 Performs shares old (Kind t) (KindOf kind) new = (kind ≡ (slot_at old t).kind) × (new ≡ old)
 Performs shares old (Capacity t) (Number n) new = (n ≡ (slot_at old t).capacity) × (new ≡ old)

@@ -114,6 +114,8 @@ pub enum Command<'b> {
     Once(usize, usize, usize, End, Pat<'b>),
     /// The order of the bytes of two slots.
     Compare(usize, usize),
+    /// The order of the components of two slots' bytes, as paths.
+    ComparePath(usize, usize),
     /// The number of the slot's bytes.
     Len(usize),
     /// Where the slot's bytes lie.

@@ -1,4 +1,4 @@
-//! Byte strings and texts that are cheap to clone and to cut, ported from the Rust crate hipstr 0.8.0.
+//! Byte strings, texts, OS strings and paths that are cheap to clone and to cut, ported from the Rust crate hipstr 0.8.0.
 //!
 //! **A handle is a list with a kind and a capacity; a call is a step of the list machine within a cost.** [`Pool`] keeps many
 //! handles, and [`run`] performs a list of [`Command`]s on them. Its contract says that each [`Answer`] and every handle's bytes
@@ -6,8 +6,10 @@
 //! that no more bytes are copied than the run costs.
 //!
 //! [`bytes`] has the byte strings themselves, [`HipByt`](bytes::HipByt) generic in the [`Backend`]: owners are shared on [`Rc`],
-//! and not on [`Unique`]. [`string`] has the texts, [`HipStr`](string::HipStr): byte strings that are UTF-8. Anyone may implement [`Backend`]; the names that this takes, and the three representations of a byte string
-//! ([`Inline`], [`Borrowed`], [`Allocated`]), are handed on here.
+//! and not on [`Unique`]. [`string`] has the texts, [`HipStr`](string::HipStr): byte strings that are UTF-8, with the
+//! calls that take them apart. [`os_string`] has the OS strings, [`HipOsStr`](os_string::HipOsStr), which needn't be UTF-8, and [`path`] the
+//! paths, [`HipPath`](path::HipPath), which are compared by their components. Anyone may implement [`Backend`]; the names that this takes,
+//! and the three representations of a byte string ([`Inline`], [`Borrowed`], [`Allocated`]), are handed on here.
 //!
 //! What the clauses of `run` say in words is defined in `specs/`: `Slot` (the machine's state), `Step` (one command: its fault, its
 //! answer, what it leaves, its cost) and `Run` (many commands).
@@ -16,6 +18,8 @@
 pub mod bytes;
 mod command;
 mod machine;
+pub mod os_string;
+pub mod path;
 mod pool;
 pub mod string;
 mod text;
@@ -37,3 +41,9 @@ pub type LocalHipByt<'b> = hip_text::HipByt<'b, Rc>;
 
 /// A text whose owners are shared in one thread.
 pub type LocalHipStr<'b> = hip_text::HipStr<'b, Rc>;
+
+/// An OS string whose owners are shared in one thread.
+pub type LocalHipOsStr<'b> = hip_names::HipOsStr<'b, Rc>;
+
+/// A path whose owners are shared in one thread.
+pub type LocalHipPath<'b> = hip_names::HipPath<'b, Rc>;

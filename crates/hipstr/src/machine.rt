@@ -66,6 +66,7 @@ impl<'b, B: Backend> Pool<'b, B> {
                 self.part_once(alloc, s, t, u, end, pattern, meter)
             }
             Command::Compare(s, t) => self.compare(s, t),
+            Command::ComparePath(s, t) => self.compare_path(s, t),
             Command::Len(t) => self.tell_len(t),
             Command::Kind(t) => self.tell_kind(t),
             Command::Capacity(t) => self.tell_capacity(t),

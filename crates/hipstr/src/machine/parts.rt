@@ -1,5 +1,5 @@
 //! Pieces that a script draws, made in slots that are empty.
-ghost use Rattle.std.specs.Prelude.{◌≡◌, ◌≤◌, ◌<◌, ◌&&◌, false, length, map, replicate, slice_set};
+ghost use Rattle.std.specs.Prelude.{◌≡◌, ◌≤◌, ◌<◌, ◌&&◌, true, false, length, map, replicate, slice_set};
 ghost use Rattle.hip_bytes.specs.Meter.{RisesAtMost};
 ghost use Rattle.hip_match.specs.Draw.{draw};
 ghost use Rattle.hip_match.specs.declared.draw.End.{End};
@@ -17,7 +17,7 @@ use hip_match::ranges::RangesBack;
 use hip_text::HipStr;
 use std::alloc::{AllocError, Global};
 
-/// Makes the pieces that a script draws of a text in empty slots, and answers their number. Where one is refused, all are empty again.
+/// Makes the pieces that a script draws of a text in empty slots and answers their number. Where one is refused, all are empty again.
 pub(super) fn make_parts<'b, B: Backend>(
     alloc: Global,
     text: &HipStr<'b, B>,

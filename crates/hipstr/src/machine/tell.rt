@@ -6,6 +6,7 @@ ghost use Rattle.hipstr.specs.Step.{Step};
 use crate::command::{Answer, Reason};
 use crate::pool::Pool;
 use hip_bytes::Backend;
+use hip_names::path_cmp;
 
 impl<'b, B: Backend> Pool<'b, B> {
     pub(super) fn tell_len(&self, t: usize) -> Result<Answer, Reason>
@@ -42,5 +43,14 @@ impl<'b, B: Backend> Pool<'b, B> {
             return Err(Reason::NoSlot);
         }
         Ok(Answer::Order(self.at(s).as_bytes().cmp(self.at(t).as_bytes())))
+    }
+
+    pub(super) fn compare_path(&self, s: usize, t: usize) -> Result<Answer, Reason>
+        ensures step { Step B.SHARES self.now (Command.ComparePath s t) (answer_of result) self.now }
+    {
+        if s >= self.len() || t >= self.len() {
+            return Err(Reason::NoSlot);
+        }
+        Ok(Answer::Order(path_cmp(self.at(s).as_bytes(), self.at(t).as_bytes())))
     }
 }

@@ -1,0 +1,2 @@
+//! OS strings.
+pub use hip_names::{HipOsStr, RefMut};
