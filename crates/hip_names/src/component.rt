@@ -1,5 +1,5 @@
 //! The components of a path.
-ghost use Rattle.std.specs.Prelude.{◌≡◌, ◌<◌, ◌≤◌, ◌^◌, [], ◌∷◌, length, OnSome, MatchOption, if◌then◌else◌};
+ghost use Rattle.std.specs.Prelude.{◌≡◌, drop, ◌<◌, ◌≤◌, ◌^◌, [], ◌∷◌, length, OnSome, MatchOption, if◌then◌else◌};
 ghost use Rattle.std.specs.Iterator.{YieldsFirstBy, item_count};
 ghost use Rattle.std.specs.List.{before_first, after_first, position, position_or_len};
 ghost use Rattle.std.specs.Path.{is_name};
@@ -35,6 +35,18 @@ impl<'a> Components<'a> {
         Components {
             start: start_of(path),
             rest: path,
+        }
+    }
+
+    /// What the parts of these bytes name, from a position on at which a part begins.
+    #[inline]
+    pub(crate) fn behind(path: &'a [u8], front: usize) -> Self
+        requires { front ≤ length path.now }
+        ensures { to_come result ≡ names (drop front path.entry.now) }
+    {
+        Components {
+            start: None,
+            rest: &path[front..],
         }
     }
 }
