@@ -1,5 +1,5 @@
 //! The components of a path.
-ghost use Rattle.std.specs.Prelude.{◌≡◌, drop, ◌<◌, ◌≤◌, ◌^◌, [], ◌∷◌, length, OnSome, MatchOption, if◌then◌else◌};
+ghost use Rattle.std.specs.Prelude.{◌≡◌, ◌<◌, ◌≤◌, ◌^◌, [], ◌∷◌, length, OnSome, MatchOption, if◌then◌else◌};
 ghost use Rattle.std.specs.Iterator.{YieldsFirstBy, item_count};
 ghost use Rattle.std.specs.List.{before_first, after_first, position, position_or_len};
 ghost use Rattle.std.specs.Path.{is_name};
@@ -37,18 +37,6 @@ impl<'a> Components<'a> {
             rest: path,
         }
     }
-
-    /// What the parts of these bytes name, from a position on at which a part begins.
-    #[inline]
-    pub(crate) fn behind(path: &'a [u8], front: usize) -> Self
-        requires { front ≤ length path.now }
-        ensures { to_come result ≡ names (drop front path.entry.now) }
-    {
-        Components {
-            start: None,
-            rest: &path[front..],
-        }
-    }
 }
 
 /// What a path begins with beside its names.
@@ -67,7 +55,7 @@ fn start_of(path: &[u8]) -> Option<Component<'_>>
 /// Takes the first name off bytes that begin a part: it is what stands before the slash that ends it.
 #[tactic(auto, using(crate::proofs::Names::naming))]
 #[inline]
-fn next_name<'a>(rest: &mut &'a [u8]) -> Option<Component<'a>>
+pub(crate) fn next_name<'a>(rest: &mut &'a [u8]) -> Option<Component<'a>>
     ensures first { MatchOption result ((names rest.old.now ≡ []) × (names rest.new.now ≡ [])) (λ component. names rest.old.now ≡ shown component ∷ names rest.new.now) }
 {
     while !rest.is_empty() {
