@@ -51,6 +51,16 @@ fn path_becomes_text<B: Backend>(rt: &impl Abort, row: Decoded) {
     }
 }
 
+/// Bytes that aren't UTF-8 are told by their numbers.
+fn debugs<B: Backend>(rt: &impl Abort, alloc: Global) -> Result<(), Fail> {
+    let name = name_of::<B>(b"a\"\n\xFFb");
+    assert_eq!(rt;
+        format!(in alloc; "{name:?}")?.as_str(),
+        "\"a\\\"\\n\\xFFb\""
+    );
+    Ok(())
+}
+
 fn on<B: Backend>(rt: &impl Abort, alloc: Global) -> Result<(), Fail> {
     for row in DECODED {
         is_repaired::<B>(rt, alloc, *row)?;
@@ -58,7 +68,7 @@ fn on<B: Backend>(rt: &impl Abort, alloc: Global) -> Result<(), Fail> {
         name_becomes_text::<B>(rt, *row);
         path_becomes_text::<B>(rt, *row);
     }
-    Ok(())
+    debugs::<B>(rt, alloc)
 }
 
 #[test]

@@ -141,6 +141,10 @@ fn written(alloc: Global, components: Components) -> Result<Vec<u8>, AllocError>
     Ok(all)
 }
 
+fn is(rt: &impl Abort, vec: Vec<u8>, wanted: &[u8]) {
+    assert_eq!(rt; vec.as_slice(), wanted);
+}
+
 fn path_of<B: Backend>(bytes: &[u8]) -> HipPath<'_, B> {
     HipPath::from(HipOsStr::from(HipByt::borrowed(bytes)))
 }
@@ -148,8 +152,7 @@ fn path_of<B: Backend>(bytes: &[u8]) -> HipPath<'_, B> {
 fn is_taken_apart<B: Backend>(rt: &impl Abort, alloc: Global, row: Hostile) -> Result<(), Fail> {
     let (bytes, components, _) = row;
     let path = path_of::<B>(bytes);
-    let all = written(alloc, path.components())?;
-    assert_eq!(rt; all.as_slice(), components, "{path:?}");
+    is(rt, written(alloc, path.components())?, components);
     Ok(())
 }
 

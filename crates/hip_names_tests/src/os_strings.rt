@@ -3,6 +3,7 @@ use hip_names::{Backend, HipByt, HipOsStr, HipPath, HipStr, Kind, Rc, Unique};
 use std::alloc::Global;
 use std::borrow::{CowSlice, CowStr};
 use std::cmp::Ordering;
+use std::fmt;
 use std::process::Abort;
 use std::test::Fail;
 
@@ -342,15 +343,22 @@ fn guards_of_clones<B: Backend>(rt: &impl Abort, alloc: Global) -> Result<(), Fa
     Ok(())
 }
 
+/// A value as `Debug` shows it.
+fn text_of<T: fmt::Debug>(alloc: Global, value: &T) -> Result<String, Fail> {
+    Ok(format!(in alloc; "{value:?}")?)
+}
+
+/// The vector that is lent, as `Debug` shows it.
+fn lent<B: Backend>(alloc: Global, name: &mut HipOsStr<B>) -> Result<String, Fail> {
+    let guard = name.mutate(alloc)?;
+    text_of(alloc, &guard)
+}
+
 fn debugs<B: Backend>(rt: &impl Abort, alloc: Global) -> Result<(), Fail> {
     let mut name = HipOsStr::<B>::borrowed("abc");
-    let said = format!(in alloc; "{name:?}")?;
-    let guard = name.mutate(alloc)?;
-    let lent = format!(in alloc; "{guard:?}")?;
-    assert_eq!(rt;
-        (said.as_str(), lent.as_str()),
-        ("[97, 98, 99]", "[97, 98, 99]")
-    );
+    let said = text_of(alloc, &name)?;
+    let lent = lent(alloc, &mut name)?;
+    assert_eq!(rt; (said.as_str(), lent.as_str()), ("\"abc\"", "[97, 98, 99]"));
     Ok(())
 }
 
