@@ -2,6 +2,7 @@ pub mod Components
 pub mod Decode
 pub mod Fed
 pub mod PathLaws
+pub mod Shared
 pub mod Shown
 pub use Rattle.hip_bytes.specs.Change
 pub use Rattle.hip_bytes.specs.Handle

@@ -55,7 +55,7 @@ fn start_of(path: &[u8]) -> Option<Component<'_>>
 /// Takes the first name off bytes that begin a part: it is what stands before the slash that ends it.
 #[tactic(auto, using(crate::proofs::Names::naming))]
 #[inline]
-fn next_name<'a>(rest: &mut &'a [u8]) -> Option<Component<'a>>
+pub(crate) fn next_name<'a>(rest: &mut &'a [u8]) -> Option<Component<'a>>
     ensures first { MatchOption result ((names rest.old.now ≡ []) × (names rest.new.now ≡ [])) (λ component. names rest.old.now ≡ shown component ∷ names rest.new.now) }
 {
     while !rest.is_empty() {

@@ -1,14 +1,16 @@
 //! The order of paths.
-ghost use Rattle.std.specs.Prelude.{◌≡◌, ◌↔◌, IsTrue};
+ghost use Rattle.std.specs.Prelude.{◌≡◌, ◌≤◌, ◌↔◌, drop, length, IsTrue};
 ghost use Rattle.std.specs.Cmp.Lexicographic.{slice_cmp};
-ghost use Rattle.hip_names.specs.Components.{components, component_order, path_order};
+ghost use Rattle.hip_names.specs.Components.{component_order, components, names, path_order};
+ghost use Rattle.hip_names.specs.Shared.{IsSharedFront};
 ghost use Rattle.hip_names.specs.Shown.{to_come};
 
-use crate::component::Components;
+use crate::component::{Components, next_name};
 use std::cmp::Ordering;
 
-/// How a path stands to another, in the order of their components.
-#[tactic(auto, using(crate::proofs::Orders::orders))]
+/// How a path stands to another, in the order of their components. Both are walked from the last slash before the first byte that
+/// differs, without memory; the same bytes aren't walked at all.
+#[tactic(auto, using(crate::proofs::Orders::fronts))]
 #[inline]
 pub fn path_cmp(left: &[u8], right: &[u8]) -> Ordering
     ensures { result ≡ path_order left.now right.now }
@@ -16,7 +18,20 @@ pub fn path_cmp(left: &[u8], right: &[u8]) -> Ordering
     if same_bytes(left, right) {
         return Ordering::Equal;
     }
-    walk(Components::new(left), Components::new(right))
+    let front = shared_front(left, right);
+    if front == 0 {
+        return walk(Components::new(left), Components::new(right));
+    }
+    walk_names(behind(left, front), behind(right, front))
+}
+
+/// What stands from a position on.
+#[inline]
+fn behind(path: &[u8], front: usize) -> &[u8]
+    requires { front ≤ length path.now }
+    ensures { result.now ≡ drop front path.now }
+{
+    &path[front..]
 }
 
 /// Whether these are the same bytes.
@@ -27,7 +42,25 @@ fn same_bytes(left: &[u8], right: &[u8]) -> bool
     left == right
 }
 
+/// How many bytes both begin with, up to the last slash before the first byte that differs.
+#[inline]
+fn shared_front(left: &[u8], right: &[u8]) -> usize
+    ensures { IsSharedFront left.now right.now result }
+{
+    let mut front = 0;
+    for i in 0..left.len().min(right.len()) {
+        if left[i] != right[i] {
+            break;
+        }
+        if left[i] == b'/' {
+            front = i + 1;
+        }
+    }
+    front
+}
+
 /// How the components that are to come on one side stand to those on the other.
+#[inline]
 fn walk(mut left: Components<'_>, mut right: Components<'_>) -> Ordering
     ensures { result ≡ slice_cmp component_order (to_come left.entry) (to_come right.entry) }
 {
@@ -41,6 +74,26 @@ fn walk(mut left: Components<'_>, mut right: Components<'_>) -> Ordering
         }
     }
     match right.next() {
+        Some(_) => Ordering::Less,
+        None => Ordering::Equal,
+    }
+}
+
+/// How what the parts of some bytes name stands to what those of others do.
+#[inline]
+fn walk_names(mut left: &[u8], mut right: &[u8]) -> Ordering
+    ensures { result ≡ slice_cmp component_order (names left.entry.now) (names right.entry.now) }
+{
+    while let Some(a) = next_name(&mut left) {
+        let Some(b) = next_name(&mut right) else {
+            return Ordering::Greater;
+        };
+        match a.cmp(&b) {
+            Ordering::Equal => {}
+            other => return other,
+        }
+    }
+    match next_name(&mut right) {
         Some(_) => Ordering::Less,
         None => Ordering::Equal,
     }

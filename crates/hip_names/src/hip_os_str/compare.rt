@@ -10,6 +10,7 @@ ghost use Rattle.hip_names.specs.Components.{components, path_order};
 
 use super::HipOsStr;
 use crate::order::{components_eq, path_cmp};
+use bstr::ByteSlice;
 use hip_bytes::Backend;
 use std::cmp::Ordering;
 use std::fmt;
@@ -101,8 +102,9 @@ impl<'b, B: Backend> Hash for HipOsStr<'b, B> {
     }
 }
 
+/// As that of a text, bytes that aren't UTF-8 as `\xff`.
 impl<'b, B: Backend> fmt::Debug for HipOsStr<'b, B> {
     fn fmt<W: fmt::Write>(&self, f: &mut fmt::Formatter<W>) -> fmt::Result {
-        fmt::Debug::fmt(&self.bytes, f)
+        fmt::Debug::fmt(&self.as_os_str().as_bstr(), f)
     }
 }

@@ -92,6 +92,7 @@ impl<'b, B: Backend> Hash for HipPath<'b, B> {
     }
 }
 
+/// As that of the OS string.
 impl<'b, B: Backend> fmt::Debug for HipPath<'b, B> {
     fn fmt<W: fmt::Write>(&self, f: &mut fmt::Formatter<W>) -> fmt::Result {
         fmt::Debug::fmt(&self.name, f)

@@ -1,0 +1,191 @@
+//! Paths that are hard to read, with the answers of Rust's `std::path`.
+use hip_names::{Backend, Component, Components, HipByt, HipOsStr, HipPath, Rc, Unique, path_cmp};
+use std::alloc::{AllocError, Global};
+use std::cmp::Ordering;
+use std::process::Abort;
+use std::test::Fail;
+
+/// A path, what `Path::components` gives of it in Rust, and how `Path::cmp` puts it to the path of the row below (the last one's to that
+/// of the first). A component is `R` for the root, `C` for `.`, `P` for `..` or `N` and a name, with a `|` behind it.
+type Hostile = (&'static [u8], &'static [u8], Ordering);
+
+const HOSTILE: &[Hostile] = &[
+    (b"", b"", Ordering::Less),
+    (b".", b"C|", Ordering::Less),
+    (b"..", b"P|", Ordering::Less),
+    (b"...", b"N...|", Ordering::Greater),
+    (b"/", b"R|", Ordering::Equal),
+    (b"//", b"R|", Ordering::Equal),
+    (b"///", b"R|", Ordering::Equal),
+    (b"/.", b"R|", Ordering::Less),
+    (b"/..", b"R|P|", Ordering::Less),
+    (b"/...", b"R|N...|", Ordering::Less),
+    (b"./", b"C|", Ordering::Less),
+    (b"../", b"P|", Ordering::Greater),
+    (b".//", b"C|", Ordering::Less),
+    (b"..//", b"P|", Ordering::Greater),
+    (b"./.", b"C|", Ordering::Less),
+    (b"./..", b"C|P|", Ordering::Less),
+    (b"../.", b"P|", Ordering::Less),
+    (b"../..", b"P|P|", Ordering::Greater),
+    (b"././.", b"C|", Ordering::Greater),
+    (b"/./", b"R|", Ordering::Less),
+    (b"/../", b"R|P|", Ordering::Greater),
+    (b"/./.", b"R|", Ordering::Less),
+    (b"/../..", b"R|P|P|", Ordering::Greater),
+    (b"//.", b"R|", Ordering::Less),
+    (b"//..", b"R|P|", Ordering::Less),
+    (b".a", b"N.a|", Ordering::Greater),
+    (b"..a", b"N..a|", Ordering::Greater),
+    (b"...a", b"N...a|", Ordering::Less),
+    (b"a.", b"Na.|", Ordering::Less),
+    (b"a..", b"Na..|", Ordering::Greater),
+    (b"a", b"Na|", Ordering::Equal),
+    (b"a/", b"Na|", Ordering::Equal),
+    (b"a//", b"Na|", Ordering::Equal),
+    (b"a/.", b"Na|", Ordering::Equal),
+    (b"a/./", b"Na|", Ordering::Equal),
+    (b"a//.", b"Na|", Ordering::Less),
+    (b"a/..", b"Na|P|", Ordering::Equal),
+    (b"a/../", b"Na|P|", Ordering::Less),
+    (b"a/...", b"Na|N...|", Ordering::Greater),
+    (b"/a", b"R|Na|", Ordering::Equal),
+    (b"//a", b"R|Na|", Ordering::Equal),
+    (b"/./a", b"R|Na|", Ordering::Greater),
+    (b"/../a", b"R|P|Na|", Ordering::Less),
+    (b"./a", b"C|Na|", Ordering::Equal),
+    (b"././a", b"C|Na|", Ordering::Equal),
+    (b".//a", b"C|Na|", Ordering::Less),
+    (b"../a", b"P|Na|", Ordering::Less),
+    (b"a/b", b"Na|Nb|", Ordering::Equal),
+    (b"a//b", b"Na|Nb|", Ordering::Equal),
+    (b"a/./b", b"Na|Nb|", Ordering::Equal),
+    (b"a/.//b", b"Na|Nb|", Ordering::Equal),
+    (b"a//./b", b"Na|Nb|", Ordering::Equal),
+    (b"a//./b/", b"Na|Nb|", Ordering::Greater),
+    (b"a/../b", b"Na|P|Nb|", Ordering::Less),
+    (b"a/.b", b"Na|N.b|", Ordering::Greater),
+    (b"a/..b", b"Na|N..b|", Ordering::Less),
+    (b"a/b.", b"Na|Nb.|", Ordering::Less),
+    (b"a./b", b"Na.|Nb|", Ordering::Greater),
+    (b"/a/b", b"R|Na|Nb|", Ordering::Equal),
+    (b"/a//b/", b"R|Na|Nb|", Ordering::Less),
+    (b"/a/b/c", b"R|Na|Nb|Nc|", Ordering::Greater),
+    (b"/a/./b/../c", b"R|Na|Nb|P|Nc|", Ordering::Less),
+    (b"./a/../b", b"C|Na|P|Nb|", Ordering::Less),
+    (b". /a", b"N. |Na|", Ordering::Greater),
+    (b" ./a", b"N .|Na|", Ordering::Less),
+    (b"a b", b"Na b|", Ordering::Greater),
+    (b"\\a", b"N\\a|", Ordering::Less),
+    (b"a\\b", b"Na\\b|", Ordering::Greater),
+    (b"a:b", b"Na:b|", Ordering::Greater),
+    (b"C:/a", b"NC:|Na|", Ordering::Greater),
+    (b"-", b"N-|", Ordering::Less),
+    (b"~", b"N~|", Ordering::Greater),
+    (b"!/a", b"N!|Na|", Ordering::Less),
+    (b"+/a", b"N+|Na|", Ordering::Less),
+    (b"a!/b", b"Na!|Nb|", Ordering::Greater),
+    (b"a/b!", b"Na|Nb!|", Ordering::Less),
+    (b"a-b/c", b"Na-b|Nc|", Ordering::Greater),
+    (b"a/c", b"Na|Nc|", Ordering::Less),
+    (b"\xFF", b"N\xFF|", Ordering::Greater),
+    (b"/\xFF", b"R|N\xFF|", Ordering::Less),
+    (b"a/\xFF/b", b"Na|N\xFF|Nb|", Ordering::Less),
+    (b"\xFF/.", b"N\xFF|", Ordering::Greater),
+    (b".\xFF", b"N.\xFF|", Ordering::Greater),
+    (b"..\xFF", b"N..\xFF|", Ordering::Less),
+    (b"\xC3\xA9/\xC3", b"N\xC3\xA9|N\xC3|", Ordering::Greater),
+    (b"\x80/..", b"N\x80|P|", Ordering::Greater),
+    (b"\x00", b"N\x00|", Ordering::Greater),
+    (b"/\x00/.", b"R|N\x00|", Ordering::Less),
+    (b"../.", b"P|", Ordering::Less),
+    (b"-/a", b"N-|Na|", Ordering::Less),
+    (b"0/a", b"N0|Na|", Ordering::Less),
+    (
+        b"abc/def/ghi/jkl/mno/pqr/stu",
+        b"Nabc|Ndef|Nghi|Njkl|Nmno|Npqr|Nstu|",
+        Ordering::Less,
+    ),
+    (
+        b"abc/def/ghi//jkl/./mno/pqr/stv",
+        b"Nabc|Ndef|Nghi|Njkl|Nmno|Npqr|Nstv|",
+        Ordering::Greater,
+    ),
+    (
+        b"abc/def/ghi/jkl/mno/pqr",
+        b"Nabc|Ndef|Nghi|Njkl|Nmno|Npqr|",
+        Ordering::Greater,
+    ),
+];
+
+/// Adds a component to what was written of those before it.
+fn write(written: &mut Vec<u8>, component: Component) -> Result<(), AllocError> {
+    let (letter, name) = match component {
+        Component::RootDir => (b'R', &b""[..]),
+        Component::CurDir => (b'C', &b""[..]),
+        Component::ParentDir => (b'P', &b""[..]),
+        Component::Normal(name) => (b'N', name),
+    };
+    written.push(letter)?;
+    written.extend_from_slice(name)?;
+    written.push(b'|')?;
+    Ok(())
+}
+
+/// The components, written one behind another.
+fn written(alloc: Global, components: Components) -> Result<Vec<u8>, AllocError> {
+    let mut all = Vec::new(alloc);
+    for component in components {
+        write(&mut all, component)?;
+    }
+    Ok(all)
+}
+
+fn is(rt: &impl Abort, vec: Vec<u8>, wanted: &[u8]) {
+    assert_eq!(rt; vec.as_slice(), wanted);
+}
+
+fn path_of<B: Backend>(bytes: &[u8]) -> HipPath<'_, B> {
+    HipPath::from(HipOsStr::from(HipByt::borrowed(bytes)))
+}
+
+fn is_taken_apart<B: Backend>(rt: &impl Abort, alloc: Global, row: Hostile) -> Result<(), Fail> {
+    let (bytes, components, _) = row;
+    let path = path_of::<B>(bytes);
+    is(rt, written(alloc, path.components())?, components);
+    Ok(())
+}
+
+fn is_ordered<B: Backend>(rt: &impl Abort, row: Hostile, next: Hostile) {
+    let (left, right) = (path_of::<B>(row.0), path_of::<B>(next.0));
+    assert_eq!(rt;
+        (left.cmp(&right), path_cmp(row.0, next.0), left == right),
+        (row.2, row.2, row.2.is_eq()),
+        "{left:?} {right:?}"
+    );
+}
+
+fn is_turned<B: Backend>(rt: &impl Abort, row: Hostile, next: Hostile) {
+    let (left, right) = (path_of::<B>(row.0), path_of::<B>(next.0));
+    assert_eq!(rt; right.cmp(&left), row.2.reverse(), "{left:?} {right:?}");
+}
+
+fn on<B: Backend>(rt: &impl Abort, alloc: Global) -> Result<(), Fail> {
+    for (i, row) in HOSTILE.iter().enumerate() {
+        let next = HOSTILE.get(i + 1).unwrap_or(&HOSTILE[0]);
+        is_taken_apart::<B>(rt, alloc, *row)?;
+        is_ordered::<B>(rt, *row, *next);
+        is_turned::<B>(rt, *row, *next);
+    }
+    Ok(())
+}
+
+#[test]
+fn on_rc(rt: HostRuntime) -> Result<(), Fail> {
+    on::<Rc>(&rt, rt.alloc())
+}
+
+#[test]
+fn on_unique(rt: HostRuntime) -> Result<(), Fail> {
+    on::<Unique>(&rt, rt.alloc())
+}
