@@ -1,40 +1,18 @@
 //! Interning: each word of a text becomes a key of a map. The input has words with one space between.
-//!
-//! The keys are byte strings, which hash and compare by their bytes, each cut from the whole.
+use crate::pieces::owned;
 use crate::ring::mix;
-use hipstr::bytes::HipByt;
+use hip_cuts::{IterWrapper, Pieces, TextCuts, Unnumbered, Walk};
+use hipstr::string::HipStr;
 use hipstr::{Backend, Rc};
 use std::alloc::Global;
 use std::collections::{BTreeMap, HashMap};
 
-/// The word that begins at `start`, and where the next one begins.
-#[inline(always)]
-fn word_at<'b, B: Backend>(
-    alloc: Global,
-    text: &HipByt<'b, B>,
-    start: usize,
-) -> Option<(HipByt<'b, B>, usize)> {
-    let rest = text.as_slice().get(start..)?;
-    let len = rest
-        .iter()
-        .position(|byte| *byte == b' ')
-        .unwrap_or(rest.len());
-    let end = start.checked_add(len)?;
-    let Ok(word) = text.try_slice(alloc, start..end) else {
-        return None;
-    };
-    Some((word, end.checked_add(1)?))
-}
-
-/// Numbers the words of a text by a map: the sum of all words' numbers, and how many different words there are.
+/// Numbers the words of a walk by a map: the sum of all words' numbers, and how many different words there are.
 macro_rules! numbered {
-    ($numbers:ident, $alloc:ident, $text:ident) => {{
-        let (mut sum, mut next, mut start) = (0u64, 0u64, 0usize);
-        for _ in 0..u64::MAX {
-            if start > $text.len() {
-                break;
-            }
-            let (word, after) = word_at($alloc, $text, start)?;
+    ($numbers:ident, $words:ident) => {{
+        let (mut sum, mut next) = (0u64, 0u64);
+        while let Some(word) = $words.next() {
+            let word = word.ok()?;
             match $numbers.get(&word) {
                 Some(number) => sum = sum.wrapping_add(*number),
                 None => {
@@ -43,30 +21,39 @@ macro_rules! numbered {
                     next = next.wrapping_add(1);
                 }
             }
-            start = after;
         }
         Some((sum, $numbers.len() as u64))
     }};
 }
 
 /// By a hash map.
-fn hashed<B: Backend>(alloc: Global, text: &HipByt<'_, B>) -> Option<(u64, u64)> {
+fn hashed<'h, 'b, B: Backend, I: Unnumbered + Drop>(
+    alloc: Global,
+    mut words: IterWrapper<'h, 'b, B, I>,
+) -> Option<(u64, u64)>
+    requires { ⟦<Pieces<'h, HipStr<'b, B>, I> as Walk>⟧.ready words }
+{
     let mut numbers = HashMap::new(alloc);
-    numbered!(numbers, alloc, text)
+    numbered!(numbers, words)
 }
 
 /// By an ordered map.
-fn sorted<B: Backend>(alloc: Global, text: &HipByt<'_, B>) -> Option<(u64, u64)> {
+fn sorted<'h, 'b, B: Backend, I: Unnumbered + Drop>(
+    alloc: Global,
+    mut words: IterWrapper<'h, 'b, B, I>,
+) -> Option<(u64, u64)>
+    requires { ⟦<Pieces<'h, HipStr<'b, B>, I> as Walk>⟧.ready words }
+{
     let mut numbers = BTreeMap::new(alloc);
-    numbered!(numbers, alloc, text)
+    numbered!(numbers, words)
 }
 
 /// Each round numbers the words by a hash map.
 fn hashed_rounds(alloc: Global, input: &[u8], rounds: u64) -> Option<u64> {
-    let text = HipByt::<Rc>::from_slice(alloc, input).ok()?;
+    let text = owned::<Rc>(alloc, input)?;
     let mut total = 0;
     for _ in 0..rounds {
-        let (sum, len) = hashed(alloc, &text)?;
+        let (sum, len) = hashed(alloc, text.split(alloc, ' '))?;
         total = mix(mix(total, sum), len);
     }
     Some(total)
@@ -74,10 +61,10 @@ fn hashed_rounds(alloc: Global, input: &[u8], rounds: u64) -> Option<u64> {
 
 /// Each round numbers the words by an ordered map.
 fn sorted_rounds(alloc: Global, input: &[u8], rounds: u64) -> Option<u64> {
-    let text = HipByt::<Rc>::from_slice(alloc, input).ok()?;
+    let text = owned::<Rc>(alloc, input)?;
     let mut total = 0;
     for _ in 0..rounds {
-        let (sum, len) = sorted(alloc, &text)?;
+        let (sum, len) = sorted(alloc, text.split(alloc, ' '))?;
         total = mix(mix(total, sum), len);
     }
     Some(total)

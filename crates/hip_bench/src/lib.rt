@@ -10,10 +10,12 @@
 #![tactic(auto)]
 
 mod compare;
+mod cuts;
 mod growth;
 mod handles;
 mod intern;
 mod large;
 mod made;
+mod pieces;
 mod ring;
 mod text;

@@ -118,7 +118,7 @@ impl<'h, S, I: Clone> Clone for Pieces<'h, S, I> {
 
 impl<'h, 'b, B: Backend, I: Unnumbered> Pieces<'h, HipStr<'b, B>, I> {
     /// The first piece that is left. One that is refused for memory has been passed.
-    #[inline]
+    #[inline(always)]
     pub fn next(&mut self) -> Option<Result<HipStr<'b, B>, AllocError>>
         requires { ⟦<Pieces<'h, HipStr<'b, B>, I> as Walk>⟧.ready self.old }
         ensures first { FirstPiece (⟦<Pieces<'h, HipStr<'b, B>, I> as Walk>⟧.source self.old) (⟦<Pieces<'h, HipStr<'b, B>, I> as Walk>⟧.rest self.old) (⟦<Pieces<'h, HipStr<'b, B>, I> as Walk>⟧.rest self.new) result }
@@ -129,7 +129,7 @@ impl<'h, 'b, B: Backend, I: Unnumbered> Pieces<'h, HipStr<'b, B>, I> {
     }
 
     /// [`Pieces::next`], counted.
-    #[inline]
+    #[inline(always)]
     pub fn next_metered(&mut self, meter: &mut Meter) -> Option<Result<HipStr<'b, B>, AllocError>>
         requires { ⟦<Pieces<'h, HipStr<'b, B>, I> as Walk>⟧.ready self.old }
         ensures first { FirstPiece (⟦<Pieces<'h, HipStr<'b, B>, I> as Walk>⟧.source self.old) (⟦<Pieces<'h, HipStr<'b, B>, I> as Walk>⟧.rest self.old) (⟦<Pieces<'h, HipStr<'b, B>, I> as Walk>⟧.rest self.new) result }
@@ -196,7 +196,7 @@ impl<'h, 'b, B: Backend, I: Unnumbered + RangesBack> Pieces<'h, HipStr<'b, B>, I
 
 impl<'h, 'b, B: Backend, P: Pattern> Pieces<'h, HipStr<'b, B>, MatchIndices<'h, P>> {
     /// The first match that is left, as its position and its piece. One that is refused for memory has been passed.
-    #[inline]
+    #[inline(always)]
     pub fn next(&mut self) -> Option<(usize, Result<HipStr<'b, B>, AllocError>)>
         requires { ⟦<Pieces<'h, HipStr<'b, B>, MatchIndices<'h, P>> as Walk>⟧.ready self.old }
         ensures first { FirstMatch (⟦<Pieces<'h, HipStr<'b, B>, MatchIndices<'h, P>> as Walk>⟧.source self.old) (⟦<Pieces<'h, HipStr<'b, B>, MatchIndices<'h, P>> as Walk>⟧.rest self.old) (⟦<Pieces<'h, HipStr<'b, B>, MatchIndices<'h, P>> as Walk>⟧.rest self.new) result }
@@ -207,7 +207,7 @@ impl<'h, 'b, B: Backend, P: Pattern> Pieces<'h, HipStr<'b, B>, MatchIndices<'h, 
     }
 
     /// [`Pieces::next`], counted.
-    #[inline]
+    #[inline(always)]
     pub fn next_metered(
         &mut self,
         meter: &mut Meter,
@@ -260,7 +260,7 @@ impl<'h, 'b, B: Backend, P: OneChar> Pieces<'h, HipStr<'b, B>, MatchIndices<'h, 
 
 impl<'h, 'b, B: Backend, P: ReversePattern> Pieces<'h, HipStr<'b, B>, RMatchIndices<'h, P>> {
     /// The first match that is left, as its position and its piece. One that is refused for memory has been passed.
-    #[inline]
+    #[inline(always)]
     pub fn next(&mut self) -> Option<(usize, Result<HipStr<'b, B>, AllocError>)>
         requires { ⟦<Pieces<'h, HipStr<'b, B>, RMatchIndices<'h, P>> as Walk>⟧.ready self.old }
         ensures first { FirstMatch (⟦<Pieces<'h, HipStr<'b, B>, RMatchIndices<'h, P>> as Walk>⟧.source self.old) (⟦<Pieces<'h, HipStr<'b, B>, RMatchIndices<'h, P>> as Walk>⟧.rest self.old) (⟦<Pieces<'h, HipStr<'b, B>, RMatchIndices<'h, P>> as Walk>⟧.rest self.new) result }
@@ -271,7 +271,7 @@ impl<'h, 'b, B: Backend, P: ReversePattern> Pieces<'h, HipStr<'b, B>, RMatchIndi
     }
 
     /// [`Pieces::next`], counted.
-    #[inline]
+    #[inline(always)]
     pub fn next_metered(
         &mut self,
         meter: &mut Meter,

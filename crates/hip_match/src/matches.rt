@@ -49,7 +49,7 @@ impl<'h, P: Pattern> Ranges for Matches<'h, P> {
 
     ghost rest = { λ s. if s.done then [] else leftmost_between (P.ends s.pattern s.text.now) s.from s.to };
 
-    #[inline]
+    #[inline(always)]
     fn next(&mut self) -> Option<(usize, usize)> {
         if self.done {
             return None;

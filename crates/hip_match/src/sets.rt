@@ -30,7 +30,7 @@ impl Pattern for char {
         find_char(text, *self, from)
     }
 
-    #[inline]
+    #[inline(always)]
     fn next_match_by(&self, _searcher: &(), text: &str, from: usize) -> Option<(usize, usize)> {
         find_char(text, *self, from)
     }

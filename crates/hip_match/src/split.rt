@@ -42,7 +42,7 @@ impl<'h, P: Pattern> Ranges for Split<'h, P> {
 
     ghost rest = { λ s. if s.done then [] else gaps s.start (⟦<Matches<'h, P> as Ranges>⟧.rest s.matches) s.end };
 
-    #[inline]
+    #[inline(always)]
     fn next(&mut self) -> Option<(usize, usize)> {
         if self.done {
             return None;
@@ -116,7 +116,7 @@ impl<'h, P: Pattern> Ranges for SplitInclusive<'h, P> {
 
     ghost rest = { λ s. if s.done then [] else ended s.start (⟦<Matches<'h, P> as Ranges>⟧.rest s.matches) s.end };
 
-    #[inline]
+    #[inline(always)]
     fn next(&mut self) -> Option<(usize, usize)> {
         if self.done {
             return None;
@@ -194,7 +194,7 @@ impl<'h, P: Pattern> Ranges for SplitTerminator<'h, P> {
 
     ghost rest = { λ s. if s.ending then without_empty_last (⟦<Split<'h, P> as Ranges>⟧.rest s.split) else ⟦<Split<'h, P> as Ranges>⟧.rest s.split };
 
-    #[inline]
+    #[inline(always)]
     fn next(&mut self) -> Option<(usize, usize)> {
         let (start, end) = self.split.next()?;
         if self.ending && self.split.done && start == end {
@@ -254,7 +254,7 @@ impl<'h, P: Pattern> Ranges for SplitN<'h, P> {
 
     ghost rest = { λ s. at_most_to s.count (gaps s.start (⟦<Matches<'h, P> as Ranges>⟧.rest s.matches) s.end) s.end };
 
-    #[inline]
+    #[inline(always)]
     fn next(&mut self) -> Option<(usize, usize)> {
         if self.count == 0 {
             return None;

@@ -81,15 +81,13 @@ fn pair_place(hay: &[u8], needle: &[u8]) -> Option<usize>
     packedpair::Finder::with_pair(needle, pair).find_prefilter(hay)
 }
 
-// The first place of `hay` where the bytes of `needle` stand. One byte is looked for by itself, two at once, and a character by its last byte.
-#[inline]
-fn first_place(finder: &Option<Finder<'_>>, hay: &[u8], needle: &[u8]) -> Option<usize>
+// The first place of `hay` where the bytes of `needle` stand, of which there are none or more than one. Two are looked for at once, and
+// a character by its last byte. It is a function apart, so that the search for one byte is short enough to be inlined.
+#[inline(never)]
+fn first_wide_place(finder: &Option<Finder<'_>>, hay: &[u8], needle: &[u8]) -> Option<usize>
     requires { IfSome finder.now (λ f. f ≡ needle.now) }
     ensures { FindsNeedle hay.now needle.now 0 result }
 {
-    if needle.len() == 1 {
-        return memchr(needle[0], hay);
-    }
     if needle.len() == 2 {
         return pair_place(hay, needle);
     }
@@ -97,6 +95,18 @@ fn first_place(finder: &Option<Finder<'_>>, hay: &[u8], needle: &[u8]) -> Option
         return near_place(finder, hay, needle);
     }
     place_by(finder, hay, needle)
+}
+
+// The first place of `hay` where the bytes of `needle` stand. One byte is looked for by itself.
+#[inline(always)]
+fn first_place(finder: &Option<Finder<'_>>, hay: &[u8], needle: &[u8]) -> Option<usize>
+    requires { IfSome finder.now (λ f. f ≡ needle.now) }
+    ensures { FindsNeedle hay.now needle.now 0 result }
+{
+    if needle.len() == 1 {
+        return memchr(needle[0], hay);
+    }
+    first_wide_place(finder, hay, needle)
 }
 
 // The last place of `hay` where the bytes of `needle` stand, by what was prepared of it.
@@ -142,7 +152,7 @@ fn last_place(finder: &Option<FinderRev<'_>>, hay: &[u8], needle: &[u8]) -> Opti
 }
 
 // The first occurrence of `needle` at or after `from`, by what was prepared of it.
-#[inline]
+#[inline(always)]
 pub(crate) fn find_text(
     text: &str,
     needle: &str,
@@ -208,7 +218,7 @@ pub(crate) fn text_before(text: &str, needle: &str, to: usize) -> Option<usize>
 }
 
 // The first occurrence of the character `c` at or after `from`.
-#[inline]
+#[inline(always)]
 pub(crate) fn find_char(text: &str, c: char, from: usize) -> Option<(usize, usize)>
     requires { IsCharBoundary text.now from }
     ensures { IsNextMatch (char_ends (λ d. d == c) text.now) from result }
@@ -247,7 +257,7 @@ impl<'p> Pattern for &'p str {
         find_text(text, *self, &None, from)
     }
 
-    #[inline]
+    #[inline(always)]
     fn next_match_by(
         &self,
         searcher: &TextSearcher<'p>,
@@ -317,7 +327,7 @@ impl<'p, 'q> Pattern for &'q &'p str {
         find_text(text, **self, &None, from)
     }
 
-    #[inline]
+    #[inline(always)]
     fn next_match_by(
         &self,
         searcher: &TextSearcher<'p>,
@@ -387,7 +397,7 @@ impl<'p> Pattern for &'p String {
         find_text(text, self.as_str(), &None, from)
     }
 
-    #[inline]
+    #[inline(always)]
     fn next_match_by(
         &self,
         searcher: &TextSearcher<'p>,

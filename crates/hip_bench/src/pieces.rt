@@ -1,0 +1,337 @@
+//! Pieces of a text: splits, matches, lines and words. Where the input isn't a text, the answer is 0.
+ghost use Rattle.std.specs.Prelude.{◌≡◌};
+
+use crate::ring::{Ring, mix};
+use hip_cuts::hip_match::matches::MatchIndices;
+use hip_cuts::hip_match::pattern::{Pattern, ReversePattern};
+use hip_cuts::hip_match::predicate::CharPred;
+use hip_cuts::{IterWrapper, Pieces, TextCuts, Unnumbered, Walk};
+use hipstr::string::HipStr;
+use hipstr::{Backend, Rc};
+use std::alloc::Global;
+use std::str;
+
+/// The characters of a set.
+const SEPARATORS: &[char] = &[',', ';'];
+
+/// Puts a piece, and answers its length.
+#[inline(always)]
+pub(crate) fn put<'b, B: Backend>(ring: &mut Ring<'b, B>, piece: HipStr<'b, B>) -> u64 {
+    let len = piece.len() as u64;
+    ring.put(piece.into_bytes());
+    len
+}
+
+/// Puts all pieces of a walk, and sums their lengths.
+fn put_pieces<'h, 'b, B: Backend, I: Unnumbered + Drop>(
+    mut pieces: IterWrapper<'h, 'b, B, I>,
+    ring: &mut Ring<'b, B>,
+) -> Option<u64>
+    requires { ⟦<Pieces<'h, HipStr<'b, B>, I> as Walk>⟧.ready pieces }
+{
+    let mut sum = 0u64;
+    while let Some(piece) = pieces.next() {
+        sum = sum.wrapping_add(put(ring, piece.ok()?));
+    }
+    Some(sum)
+}
+
+/// Puts all matches, and sums their places and their lengths.
+fn put_places<'h, 'b, B: Backend, P: Pattern>(
+    mut matches: IterWrapper<'h, 'b, B, MatchIndices<'h, P>>,
+    ring: &mut Ring<'b, B>,
+) -> Option<u64>
+    requires { ⟦<Pieces<'h, HipStr<'b, B>, MatchIndices<'h, P>> as Walk>⟧.ready matches }
+{
+    let mut sum = 0u64;
+    while let Some((place, piece)) = matches.next() {
+        sum = sum
+            .wrapping_add(place as u64)
+            .wrapping_add(put(ring, piece.ok()?));
+    }
+    Some(sum)
+}
+
+/// A list of all pieces of a walk.
+pub(crate) fn collect<'h, 'b, B: Backend, I: Unnumbered + Drop>(
+    alloc: Global,
+    mut pieces: IterWrapper<'h, 'b, B, I>,
+) -> Option<Vec<HipStr<'b, B>>>
+    requires { ⟦<Pieces<'h, HipStr<'b, B>, I> as Walk>⟧.ready pieces }
+{
+    let mut list = Vec::new(alloc);
+    while let Some(piece) = pieces.next() {
+        list.push(piece.ok()?).ok()?;
+    }
+    Some(list)
+}
+
+/// How a text is taken apart.
+#[derive(Clone, Copy)]
+enum Parts {
+    Split,
+    SplitInclusive,
+    RSplit,
+    Matches,
+    MatchIndices,
+    // These three need no pattern.
+    Lines,
+    SplitWhitespace,
+    SplitAsciiWhitespace,
+}
+
+/// Puts all pieces of a text.
+fn put_all<'b, B: Backend, P: ReversePattern>(
+    alloc: Global,
+    text: &HipStr<'b, B>,
+    parts: Parts,
+    pattern: P,
+    ring: &mut Ring<'b, B>,
+) -> Option<u64>
+    requires { P.can_search pattern }
+{
+    match parts {
+        Parts::Split => put_pieces(text.split(alloc, pattern), ring),
+        Parts::SplitInclusive => put_pieces(text.split_inclusive(alloc, pattern), ring),
+        Parts::RSplit => put_pieces(text.rsplit(alloc, pattern), ring),
+        Parts::Matches => put_pieces(text.matches(alloc, pattern), ring),
+        Parts::MatchIndices => put_places(text.match_indices(alloc, pattern), ring),
+        Parts::Lines => put_pieces(text.lines(alloc), ring),
+        Parts::SplitWhitespace => put_pieces(text.split_whitespace(alloc), ring),
+        Parts::SplitAsciiWhitespace => put_pieces(text.split_ascii_whitespace(alloc), ring),
+    }
+}
+
+/// The input as a text that has an owner.
+pub(crate) fn owned<'b, B: Backend>(alloc: Global, input: &[u8]) -> Option<HipStr<'b, B>> {
+    HipStr::from_str(alloc, str::from_utf8(input).ok()?).ok()
+}
+
+/// The input as a text that is lent.
+fn lent<'b, B: Backend>(input: &'b [u8]) -> Option<HipStr<'b, B>> {
+    Some(HipStr::borrowed(str::from_utf8(input).ok()?))
+}
+
+/// Each round puts all pieces of the text.
+fn rounds_by<B: Backend, P: ReversePattern + Copy>(
+    alloc: Global,
+    text: Option<HipStr<'_, B>>,
+    parts: Parts,
+    pattern: P,
+    rounds: u64,
+) -> Option<u64>
+    requires { P.can_search pattern }
+{
+    let text = text?;
+    let mut ring = Ring::new(alloc).ok()?;
+    let mut sum = 0u64;
+    for _ in 0..rounds {
+        sum = sum.wrapping_add(put_all(alloc, &text, parts, pattern, &mut ring)?);
+    }
+    Some(ring.fold(sum))
+}
+
+/// The same by the characters that a closure passes, `,` and `;`.
+fn rounds_by_closure(
+    alloc: Global,
+    text: Option<HipStr<'_, Rc>>,
+    parts: Parts,
+    rounds: u64,
+) -> Option<u64> {
+    let text = text?;
+    let mut ring = Ring::new(alloc).ok()?;
+    let mut sum = 0u64;
+    for _ in 0..rounds {
+        let pattern = CharPred::new(|c| c == ',' || c == ';');
+        sum = sum.wrapping_add(put_all(alloc, &text, parts, pattern, &mut ring)?);
+    }
+    Some(ring.fold(sum))
+}
+
+/// Each round makes a list of the parts between commas, and sums their lengths.
+fn collected(alloc: Global, input: &[u8], rounds: u64) -> Option<u64> {
+    let text = owned::<Rc>(alloc, input)?;
+    let mut total = 0;
+    for _ in 0..rounds {
+        let list = collect(alloc, text.split(alloc, ','))?;
+        let mut sum = 0u64;
+        for piece in &list {
+            sum = sum.wrapping_add(piece.len() as u64);
+        }
+        total = mix(mix(total, list.len() as u64), sum);
+    }
+    Some(total)
+}
+
+#[unsafe(no_mangle)]
+pub extern "C" fn hip_split_char(alloc: Global, input: &[u8], rounds: u64) -> u64 {
+    rounds_by(alloc, owned::<Rc>(alloc, input), Parts::Split, ',', rounds).unwrap_or(0)
+}
+
+#[unsafe(no_mangle)]
+pub extern "C" fn hip_split_char_borrowed(alloc: Global, input: &[u8], rounds: u64) -> u64 {
+    rounds_by(alloc, lent::<Rc>(input), Parts::Split, ',', rounds).unwrap_or(0)
+}
+
+#[unsafe(no_mangle)]
+pub extern "C" fn hip_split_char_collect(alloc: Global, input: &[u8], rounds: u64) -> u64 {
+    collected(alloc, input, rounds).unwrap_or(0)
+}
+
+#[unsafe(no_mangle)]
+pub extern "C" fn hip_split_str(alloc: Global, input: &[u8], rounds: u64) -> u64 {
+    rounds_by(alloc, owned::<Rc>(alloc, input), Parts::Split, ",", rounds).unwrap_or(0)
+}
+
+#[unsafe(no_mangle)]
+pub extern "C" fn hip_split_str2(alloc: Global, input: &[u8], rounds: u64) -> u64 {
+    rounds_by(alloc, owned::<Rc>(alloc, input), Parts::Split, "ab", rounds).unwrap_or(0)
+}
+
+#[unsafe(no_mangle)]
+pub extern "C" fn hip_split_pred(alloc: Global, input: &[u8], rounds: u64) -> u64 {
+    rounds_by_closure(alloc, owned(alloc, input), Parts::Split, rounds).unwrap_or(0)
+}
+
+#[unsafe(no_mangle)]
+pub extern "C" fn hip_split_set(alloc: Global, input: &[u8], rounds: u64) -> u64 {
+    rounds_by(
+        alloc,
+        owned::<Rc>(alloc, input),
+        Parts::Split,
+        SEPARATORS,
+        rounds,
+    )
+    .unwrap_or(0)
+}
+
+#[unsafe(no_mangle)]
+pub extern "C" fn hip_split_pred_mixed(alloc: Global, input: &[u8], rounds: u64) -> u64 {
+    rounds_by_closure(alloc, owned(alloc, input), Parts::Split, rounds).unwrap_or(0)
+}
+
+#[unsafe(no_mangle)]
+pub extern "C" fn hip_split_char_mixed(alloc: Global, input: &[u8], rounds: u64) -> u64 {
+    rounds_by(alloc, owned::<Rc>(alloc, input), Parts::Split, ',', rounds).unwrap_or(0)
+}
+
+#[unsafe(no_mangle)]
+pub extern "C" fn hip_split_inclusive(alloc: Global, input: &[u8], rounds: u64) -> u64 {
+    rounds_by(
+        alloc,
+        owned::<Rc>(alloc, input),
+        Parts::SplitInclusive,
+        ',',
+        rounds,
+    )
+    .unwrap_or(0)
+}
+
+#[unsafe(no_mangle)]
+pub extern "C" fn hip_rsplit_char(alloc: Global, input: &[u8], rounds: u64) -> u64 {
+    rounds_by(alloc, owned::<Rc>(alloc, input), Parts::RSplit, ',', rounds).unwrap_or(0)
+}
+
+#[unsafe(no_mangle)]
+pub extern "C" fn hip_rsplit_str(alloc: Global, input: &[u8], rounds: u64) -> u64 {
+    rounds_by(alloc, owned::<Rc>(alloc, input), Parts::RSplit, ",", rounds).unwrap_or(0)
+}
+
+#[unsafe(no_mangle)]
+pub extern "C" fn hip_rsplit_str2(alloc: Global, input: &[u8], rounds: u64) -> u64 {
+    rounds_by(
+        alloc,
+        owned::<Rc>(alloc, input),
+        Parts::RSplit,
+        "ab",
+        rounds,
+    )
+    .unwrap_or(0)
+}
+
+#[unsafe(no_mangle)]
+pub extern "C" fn hip_rsplit_pred(alloc: Global, input: &[u8], rounds: u64) -> u64 {
+    rounds_by_closure(alloc, owned(alloc, input), Parts::RSplit, rounds).unwrap_or(0)
+}
+
+#[unsafe(no_mangle)]
+pub extern "C" fn hip_lines(alloc: Global, input: &[u8], rounds: u64) -> u64 {
+    rounds_by(alloc, owned::<Rc>(alloc, input), Parts::Lines, ' ', rounds).unwrap_or(0)
+}
+
+#[unsafe(no_mangle)]
+pub extern "C" fn hip_split_whitespace(alloc: Global, input: &[u8], rounds: u64) -> u64 {
+    rounds_by(
+        alloc,
+        owned::<Rc>(alloc, input),
+        Parts::SplitWhitespace,
+        ' ',
+        rounds,
+    )
+    .unwrap_or(0)
+}
+
+#[unsafe(no_mangle)]
+pub extern "C" fn hip_split_whitespace_mixed(alloc: Global, input: &[u8], rounds: u64) -> u64 {
+    rounds_by(
+        alloc,
+        owned::<Rc>(alloc, input),
+        Parts::SplitWhitespace,
+        ' ',
+        rounds,
+    )
+    .unwrap_or(0)
+}
+
+#[unsafe(no_mangle)]
+pub extern "C" fn hip_split_ascii_whitespace(alloc: Global, input: &[u8], rounds: u64) -> u64 {
+    rounds_by(
+        alloc,
+        owned::<Rc>(alloc, input),
+        Parts::SplitAsciiWhitespace,
+        ' ',
+        rounds,
+    )
+    .unwrap_or(0)
+}
+
+#[unsafe(no_mangle)]
+pub extern "C" fn hip_matches_str2(alloc: Global, input: &[u8], rounds: u64) -> u64 {
+    rounds_by(
+        alloc,
+        owned::<Rc>(alloc, input),
+        Parts::Matches,
+        "ab",
+        rounds,
+    )
+    .unwrap_or(0)
+}
+
+#[unsafe(no_mangle)]
+pub extern "C" fn hip_matches_pred(alloc: Global, input: &[u8], rounds: u64) -> u64 {
+    rounds_by_closure(alloc, owned(alloc, input), Parts::Matches, rounds).unwrap_or(0)
+}
+
+#[unsafe(no_mangle)]
+pub extern "C" fn hip_match_indices_char(alloc: Global, input: &[u8], rounds: u64) -> u64 {
+    rounds_by(
+        alloc,
+        owned::<Rc>(alloc, input),
+        Parts::MatchIndices,
+        ',',
+        rounds,
+    )
+    .unwrap_or(0)
+}
+
+#[unsafe(no_mangle)]
+pub extern "C" fn hip_match_indices_str2(alloc: Global, input: &[u8], rounds: u64) -> u64 {
+    rounds_by(
+        alloc,
+        owned::<Rc>(alloc, input),
+        Parts::MatchIndices,
+        "ab",
+        rounds,
+    )
+    .unwrap_or(0)
+}
