@@ -32,6 +32,16 @@ fn equal<B: Backend>(alloc: Global, input: &[u8], len: usize, rounds: u64) -> Op
     Some(sum)
 }
 
+/// An order as a number.
+#[inline(always)]
+pub(crate) fn number_of(order: Ordering) -> u64 {
+    match order {
+        Ordering::Less => 0,
+        Ordering::Equal => 1,
+        Ordering::Greater => 2,
+    }
+}
+
 /// Each round adds how the values of a pair stand to each other.
 #[inline(always)]
 fn ordered<B: Backend>(alloc: Global, input: &[u8], len: usize, rounds: u64) -> Option<u64> {
@@ -39,11 +49,7 @@ fn ordered<B: Backend>(alloc: Global, input: &[u8], len: usize, rounds: u64) -> 
     let mut sum = 0u64;
     for round in 0..rounds {
         let (first, second) = pairs.get((round % 8) as usize)?;
-        sum = sum.wrapping_add(match first.cmp(second) {
-            Ordering::Less => 0,
-            Ordering::Equal => 1,
-            Ordering::Greater => 2,
-        });
+        sum = sum.wrapping_add(number_of(first.cmp(second)));
     }
     Some(sum)
 }

@@ -1,8 +1,7 @@
 //! Texts that are trimmed, stripped and parted. Where the input isn't a text, the answer is 0.
-use crate::pieces::{collect, owned, put};
+use crate::pieces::{owned, put};
 use crate::ring::Ring;
-use hip_cuts::TextCuts;
-use hipstr::string::HipStr;
+use hipstr::string::{HipStr, TextCuts};
 use hipstr::{Backend, Rc};
 use std::alloc::{AllocError, Global};
 
@@ -32,9 +31,9 @@ fn left<'b, B: Backend>(
 }
 
 /// The lines of the input.
-fn lines<'b, B: Backend>(alloc: Global, input: &[u8]) -> Option<Vec<HipStr<'b, B>>> {
+pub(crate) fn lines<'b, B: Backend>(alloc: Global, input: &[u8]) -> Option<Vec<HipStr<'b, B>>> {
     let text = owned::<B>(alloc, input)?;
-    collect(alloc, text.lines(alloc))
+    text.lines(alloc).collect().ok()
 }
 
 /// Each round cuts every line.

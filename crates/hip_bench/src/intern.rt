@@ -1,8 +1,7 @@
 //! Interning: each word of a text becomes a key of a map. The input has words with one space between.
 use crate::pieces::owned;
 use crate::ring::mix;
-use hip_cuts::{IterWrapper, Pieces, TextCuts, Unnumbered, Walk};
-use hipstr::string::HipStr;
+use hipstr::string::{HipStr, IterWrapper, Pieces, TextCuts, Unnumbered, Walk};
 use hipstr::{Backend, Rc};
 use std::alloc::Global;
 use std::collections::{BTreeMap, HashMap};

@@ -1,4 +1,4 @@
-//! Workloads over byte strings and texts, for a driver in C or Rust that measures them.
+//! Workloads over byte strings, texts and paths, for a driver in C or Rust that measures them.
 //!
 //! Each function `hip_NAME(alloc, input, rounds)` makes its sources from the input, does the same work `rounds` times by the public
 //! calls of hipstr, and answers a checksum of what it made. A call with no rounds costs what the sources cost. Where memory is
@@ -16,6 +16,7 @@ mod handles;
 mod intern;
 mod large;
 mod made;
+mod paths;
 mod pieces;
 mod ring;
 mod text;

@@ -2,11 +2,10 @@
 ghost use Rattle.std.specs.Prelude.{◌≡◌};
 
 use crate::ring::{Ring, mix};
-use hip_cuts::hip_match::matches::MatchIndices;
-use hip_cuts::hip_match::pattern::{Pattern, ReversePattern};
-use hip_cuts::hip_match::predicate::CharPred;
-use hip_cuts::{IterWrapper, Pieces, TextCuts, Unnumbered, Walk};
-use hipstr::string::HipStr;
+use hip_match::matches::MatchIndices;
+use hip_match::pattern::{Pattern, ReversePattern};
+use hip_match::predicate::CharPred;
+use hipstr::string::{HipStr, IterWrapper, Pieces, TextCuts, Unnumbered, Walk};
 use hipstr::{Backend, Rc};
 use std::alloc::Global;
 use std::str;
@@ -50,20 +49,6 @@ fn put_places<'h, 'b, B: Backend, P: Pattern>(
             .wrapping_add(put(ring, piece.ok()?));
     }
     Some(sum)
-}
-
-/// A list of all pieces of a walk.
-pub(crate) fn collect<'h, 'b, B: Backend, I: Unnumbered + Drop>(
-    alloc: Global,
-    mut pieces: IterWrapper<'h, 'b, B, I>,
-) -> Option<Vec<HipStr<'b, B>>>
-    requires { ⟦<Pieces<'h, HipStr<'b, B>, I> as Walk>⟧.ready pieces }
-{
-    let mut list = Vec::new(alloc);
-    while let Some(piece) = pieces.next() {
-        list.push(piece.ok()?).ok()?;
-    }
-    Some(list)
 }
 
 /// How a text is taken apart.
@@ -153,7 +138,7 @@ fn collected(alloc: Global, input: &[u8], rounds: u64) -> Option<u64> {
     let text = owned::<Rc>(alloc, input)?;
     let mut total = 0;
     for _ in 0..rounds {
-        let list = collect(alloc, text.split(alloc, ','))?;
+        let list = text.split(alloc, ',').collect().ok()?;
         let mut sum = 0u64;
         for piece in &list {
             sum = sum.wrapping_add(piece.len() as u64);

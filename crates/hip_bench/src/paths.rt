@@ -1,0 +1,61 @@
+//! Paths that are compared and taken apart: the lines of the input.
+use crate::compare::number_of;
+use crate::cuts::lines;
+use crate::ring::mix;
+use hipstr::path::{Component, HipPath};
+use hipstr::{Backend, Rc};
+use std::alloc::Global;
+
+/// The lines of the input, as paths.
+fn paths<'b, B: Backend>(alloc: Global, input: &[u8]) -> Option<Vec<HipPath<'b, B>>> {
+    let mut paths = Vec::new(alloc);
+    for line in lines::<B>(alloc, input)? {
+        paths.push(HipPath::from(line)).ok()?;
+    }
+    Some(paths)
+}
+
+/// Each round adds how each path stands to the one behind it.
+fn compared<B: Backend>(alloc: Global, input: &[u8], rounds: u64) -> Option<u64> {
+    let paths = paths::<B>(alloc, input)?;
+    let mut sum = 0u64;
+    for _ in 0..rounds {
+        let mut before: Option<&HipPath<'_, B>> = None;
+        for path in &paths {
+            if let Some(before) = before {
+                sum = sum.wrapping_add(number_of(before.cmp(path)));
+            }
+            before = Some(path);
+        }
+        sum = mix(sum, 7);
+    }
+    Some(sum)
+}
+
+/// Each round counts the components of all paths, and the bytes of their names.
+fn taken_apart<B: Backend>(alloc: Global, input: &[u8], rounds: u64) -> Option<u64> {
+    let paths = paths::<B>(alloc, input)?;
+    let mut sum = 0u64;
+    for _ in 0..rounds {
+        for path in &paths {
+            for component in path.components() {
+                sum = sum.wrapping_add(1);
+                if let Component::Normal(name) = component {
+                    sum = sum.wrapping_add(name.len() as u64);
+                }
+            }
+        }
+        sum = mix(sum, 7);
+    }
+    Some(sum)
+}
+
+#[unsafe(no_mangle)]
+pub extern "C" fn hip_path_cmp(alloc: Global, input: &[u8], rounds: u64) -> u64 {
+    compared::<Rc>(alloc, input, rounds).unwrap_or(0)
+}
+
+#[unsafe(no_mangle)]
+pub extern "C" fn hip_path_components(alloc: Global, input: &[u8], rounds: u64) -> u64 {
+    taken_apart::<Rc>(alloc, input, rounds).unwrap_or(0)
+}
