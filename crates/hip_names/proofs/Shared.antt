@@ -60,6 +60,7 @@ slice_cmp-front (c ∷ cs) xs ys =
     ap (λ o. ordering_then o (slice_cmp component_order (cs ++ xs) (cs ++ ys))) (tied_itself component_order_total c) ∙ slice_cmp-front cs xs ys
 
 path_order-front : (front rest later : List ℕ) → path_order (front ++ slash ∷ rest) (front ++ slash ∷ later) ≡ slice_cmp component_order (names rest) (names later)
+unfolding components path_order
 path_order-front front rest later =
     let shape : (back : List ℕ) → components (front ++ slash ∷ back) ≡ (start (front ++ slash ∷ rest) ++ names front) ++ names back =
     λ back. ap₂ (λ a b. a ++ b) (start-behind front back rest) (names-behind front back) ∙ sym (append_assoc (start (front ++ slash ∷ rest)) (names front) (names back)) in

@@ -36,7 +36,7 @@ start path =
     else if bytes_eq (before_first is_slash path) cur_dir then CurDir ∷ []
     else []
 
-abbrev pub components : List ℕ → List Component
+unfoldable pub components : List ℕ → List Component
 components path = start path ++ names path
 
 -- the place of a component among those of other kinds
@@ -52,16 +52,19 @@ component_order (Normal a) (Normal b) = slice_cmp nat_cmp a b
 component_order a b = nat_cmp (rank a) (rank b)
 
 -- paths are ordered as the lists of their components are
-abbrev pub path_order : List ℕ → List ℕ → Ordering
+unfoldable pub path_order : List ℕ → List ℕ → Ordering
 path_order a b = slice_cmp component_order (components a) (components b)
 
 -- `/a/./b/../c`
 pub all_kinds : components (codes "/a/./b/../c") ≡ RootDir ∷ Normal (codes "a") ∷ Normal (codes "b") ∷ ParentDir ∷ Normal (codes "c") ∷ []
+unfolding components
 all_kinds = refl
 
 -- `.` stands at the front of a path without a root, and nowhere else
 pub at_the_front : (components (codes "./") ≡ CurDir ∷ []) × (components (codes "/./a") ≡ components (codes "/a")) × (components (codes "a/./b") ≡ components (codes "a/b"))
+unfolding components
 at_the_front = (refl, refl, refl)
 
 pub slashes_alone : (components (codes "//") ≡ RootDir ∷ []) × (components [] ≡ [])
+unfolding components
 slashes_alone = (refl, refl)

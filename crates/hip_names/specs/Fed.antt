@@ -20,9 +20,10 @@ component_fed component = fed.usize (length (component_text component)) ++ compo
 abbrev pub all_fed : List Component → HashWrites
 all_fed cs = flat_map component_fed cs ++ fed.usize 0
 
-abbrev pub path_fed : List ℕ → HashWrites
+unfoldable pub path_fed : List ℕ → HashWrites
 path_fed path = all_fed (components path)
 
 -- `a//b` and `a/./b` feed the same
 pub fed_alike : path_fed (codes "a//b") ≡ path_fed (codes "a/./b")
+unfolding components path_fed
 fed_alike = refl

@@ -51,6 +51,7 @@ pub component_order_total : IsTotalOrder component_order
 component_order_total = subst IsTotalOrder (λ i a b. component_order-key a b i) (on_total key nat_list_cmp_total)
 
 pub path_order_total : IsTotalOrder path_order
+unfolding path_order
 path_order_total = on_total components (lists_total component_order_total)
 
 -- components that the order doesn't tell apart are the same
@@ -66,6 +67,7 @@ lists_decide = pointwise_decides component_decides
 
 -- paths that the order doesn't tell apart have the same components, and only they
 pub path_order_decides : (a b : List ℕ) → Decides (eq_by_cmp path_order a b) (components a ≡ components b)
+unfolding path_order
 path_order_decides a b =
     subst (λ (t : Bool). Decides t (components a ≡ components b)) (lists_ties component_order (λ x y. refl) (components a) (components b)) (lists_decide (components a) (components b))
 
@@ -74,4 +76,5 @@ path_order_same a b e = subst (λ (c : List ℕ). Equal ≡ path_order a c) e (s
 
 -- paths that the order doesn't tell apart feed a hasher alike
 pub path_fed_same : (a b : List ℕ) → eq_by_cmp path_order a b ≡ true → path_fed a ≡ path_fed b
+unfolding path_fed
 path_fed_same a b e = ap all_fed ((path_order_decides a b).0 e)

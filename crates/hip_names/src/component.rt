@@ -28,6 +28,7 @@ pub struct Components<'a> {
 
 impl<'a> Components<'a> {
     /// The components of these bytes.
+    #[tactic(auto, unfolding(crate::specs::Components::components))]
     #[inline]
     pub fn new(path: &'a [u8]) -> Self
         ensures { to_come result ≡ components path.entry.now }

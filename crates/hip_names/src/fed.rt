@@ -29,6 +29,7 @@ fn feed_component<H: Hasher>(component: Component<'_>, state: &mut H)
 }
 
 /// Feeds a path to a hasher, by its components.
+#[tactic(auto, unfolding(crate::specs::Fed::path_fed))]
 pub(crate) fn feed_path<H: Hasher>(path: &[u8], state: &mut H)
     ensures { state.new ≡ fold H.write state.old (path_fed path.now) }
 {

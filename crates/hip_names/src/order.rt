@@ -10,7 +10,7 @@ use std::cmp::Ordering;
 
 /// How a path stands to another, in the order of their components. Both are walked from the last slash before the first byte that
 /// differs, without memory; the same bytes aren't walked at all.
-#[tactic(auto, using(crate::proofs::Orders::fronts))]
+#[tactic(auto, using(crate::proofs::Orders::fronts), unfolding(crate::specs::Components::path_order))]
 #[inline]
 pub fn path_cmp(left: &[u8], right: &[u8]) -> Ordering
     ensures { result ≡ path_order left.now right.now }

@@ -56,7 +56,7 @@ fn debugs<B: Backend>(rt: &impl Abort, alloc: Global) -> Result<(), Fail> {
     let name = name_of::<B>(b"a\"\n\xFFb");
     assert_eq!(rt;
         format!(in alloc; "{name:?}")?.as_str(),
-        "\"a\\\"\\n\\xFFb\""
+        "\"a\\\"\\n\\xffb\""
     );
     Ok(())
 }

@@ -170,9 +170,9 @@ fn is_turned<B: Backend>(rt: &impl Abort, row: Hostile, next: Hostile) {
     assert_eq!(rt; right.cmp(&left), row.2.reverse(), "{left:?} {right:?}");
 }
 
-fn on<B: Backend>(rt: &impl Abort, alloc: Global) -> Result<(), Fail> {
-    for (i, row) in HOSTILE.iter().enumerate() {
-        let next = HOSTILE.get(i + 1).unwrap_or(&HOSTILE[0]);
+fn on<B: Backend>(rt: &impl Abort, alloc: Global, rows: &[Hostile]) -> Result<(), Fail> {
+    for (i, row) in rows.iter().enumerate() {
+        let next = rows.get(i + 1).or(rows.first()).unwrap_or(row);
         is_taken_apart::<B>(rt, alloc, *row)?;
         is_ordered::<B>(rt, *row, *next);
         is_turned::<B>(rt, *row, *next);
@@ -182,10 +182,10 @@ fn on<B: Backend>(rt: &impl Abort, alloc: Global) -> Result<(), Fail> {
 
 #[test]
 fn on_rc(rt: HostRuntime) -> Result<(), Fail> {
-    on::<Rc>(&rt, rt.alloc())
+    on::<Rc>(&rt, rt.alloc(), HOSTILE)
 }
 
 #[test]
 fn on_unique(rt: HostRuntime) -> Result<(), Fail> {
-    on::<Unique>(&rt, rt.alloc())
+    on::<Unique>(&rt, rt.alloc(), HOSTILE)
 }
