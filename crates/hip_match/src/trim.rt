@@ -13,6 +13,7 @@ use crate::rmatches::RMatches;
 use crate::white_space::WhiteSpace;
 
 // Where the longest front of nonempty matches ends.
+#[inline]
 fn front_of<P: Pattern>(text: &str, pattern: &P) -> usize
     requires { P.can_search pattern.now }
     ensures front { TrimsFront (P.ends pattern.now text.now) result }
@@ -29,6 +30,7 @@ fn front_of<P: Pattern>(text: &str, pattern: &P) -> usize
 }
 
 // Where the longest back of nonempty matches starts, of what lies from `from` on.
+#[inline]
 fn back_of<P: ReversePattern>(text: &str, pattern: &P, from: usize) -> usize
     requires can { P.can_search pattern.now }
     requires boundary { IsCharBoundary text.now from }
@@ -46,6 +48,7 @@ fn back_of<P: ReversePattern>(text: &str, pattern: &P, from: usize) -> usize
 }
 
 /// The range without the longest front of nonempty matches. An empty pattern removes nothing.
+#[inline]
 pub fn trim_start_matches<P: Pattern>(text: &str, pattern: P) -> (usize, usize)
     requires { P.can_search pattern }
     ensures front { TrimsFront (P.ends pattern text.now) result.0 }
@@ -56,6 +59,7 @@ pub fn trim_start_matches<P: Pattern>(text: &str, pattern: P) -> (usize, usize)
 }
 
 /// The range without the longest back of nonempty matches. An empty pattern removes nothing.
+#[inline]
 pub fn trim_end_matches<P: ReversePattern>(text: &str, pattern: P) -> (usize, usize)
     requires { P.can_search pattern }
     ensures start { result.0 ≡ 0 }
@@ -66,6 +70,7 @@ pub fn trim_end_matches<P: ReversePattern>(text: &str, pattern: P) -> (usize, us
 }
 
 /// The range without the longest front of matches, and without the longest back of them in what is left.
+#[inline]
 pub fn trim_matches<P: DoubleEndedPattern>(text: &str, pattern: P) -> (usize, usize)
     requires { P.can_search pattern }
     ensures front { TrimsFront (P.ends pattern text.now) result.0 }
@@ -77,6 +82,7 @@ pub fn trim_matches<P: DoubleEndedPattern>(text: &str, pattern: P) -> (usize, us
 }
 
 /// The range without white space at its front.
+#[inline]
 pub fn trim_start(text: &str) -> (usize, usize)
     ensures front { TrimsFront (char_ends is_whitespace text.now) result.0 }
     ensures end { result.1 ≡ length text.now }
@@ -86,6 +92,7 @@ pub fn trim_start(text: &str) -> (usize, usize)
 }
 
 /// The range without white space at its end.
+#[inline]
 pub fn trim_end(text: &str) -> (usize, usize)
     ensures start { result.0 ≡ 0 }
     ensures back { TrimsBack (char_ends is_whitespace text.now) 0 (length text.now) result.1 }
@@ -95,6 +102,7 @@ pub fn trim_end(text: &str) -> (usize, usize)
 }
 
 /// The range without white space at its front and at its end.
+#[inline]
 pub fn trim(text: &str) -> (usize, usize)
     ensures front { TrimsFront (char_ends is_whitespace text.now) result.0 }
     ensures back { TrimsBack (char_ends is_whitespace text.now) result.0 (length text.now) result.1 }
@@ -104,6 +112,7 @@ pub fn trim(text: &str) -> (usize, usize)
 }
 
 /// The range without one match at its front, if there is one.
+#[inline]
 pub fn strip_prefix<P: Pattern>(text: &str, pattern: P) -> Option<(usize, usize)>
     requires { P.can_search pattern }
     ensures value { result ≡ strip_prefix (P.ends pattern text.now) (length text.now) }
@@ -114,6 +123,7 @@ pub fn strip_prefix<P: Pattern>(text: &str, pattern: P) -> Option<(usize, usize)
 }
 
 /// The range without one match at its end, if there is one.
+#[inline]
 pub fn strip_suffix<P: ReversePattern>(text: &str, pattern: P) -> Option<(usize, usize)>
     requires { P.can_search pattern }
     ensures value { result ≡ strip_suffix (P.ends pattern text.now) (length text.now) }
@@ -124,6 +134,7 @@ pub fn strip_suffix<P: ReversePattern>(text: &str, pattern: P) -> Option<(usize,
 }
 
 /// What lies before the first match and all that lies behind it, if there is one.
+#[inline]
 pub fn split_once<P: Pattern>(text: &str, pattern: P) -> Option<((usize, usize), (usize, usize))>
     requires { P.can_search pattern }
     ensures value { result ≡ split_once (P.ends pattern text.now) (length text.now) }
@@ -135,6 +146,7 @@ pub fn split_once<P: Pattern>(text: &str, pattern: P) -> Option<((usize, usize),
 }
 
 /// What lies before the rightmost match and all that lies behind it, if there is one.
+#[inline]
 pub fn rsplit_once<P: ReversePattern>(
     text: &str,
     pattern: P,

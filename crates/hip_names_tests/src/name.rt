@@ -53,7 +53,7 @@ pub trait Name: Drop {
 }
 
 /// A value as `Debug` shows it.
-pub fn text_of<T: fmt::Debug>(alloc: Global, value: &T) -> Result<String, Fail> {
+pub(crate) fn text_of<T: fmt::Debug>(alloc: Global, value: &T) -> Result<String, Fail> {
     Ok(format!(in alloc; "{value:?}")?)
 }
 
