@@ -267,12 +267,13 @@ fn costs<B: Backend>(rt: &impl Abort, alloc: Global) -> Result<(), Fail> {
 
 /// While a clone lives, the two share one vector, which neither hands out.
 fn shares_its_vector(rt: &impl Abort, alloc: Global) -> Result<(), Fail> {
-    let handle = LocalHipByt::from_slice(alloc, b"abcdefghijklmnopqrstuvwxyz")?;
+    let letters: &[u8] = b"abcdefghijklmnopqrstuvwxyz";
+    let handle = LocalHipByt::from_slice(alloc, letters)?;
     let clone = handle.clone(alloc)?;
     let handle = handle.into_vec(alloc).err().ok_or("a clone lives")?;
     drop(clone);
     let vec = handle.into_vec(alloc).or(Err("the only handle"))?;
-    assert_eq!(rt; vec.as_slice(), b"abcdefghijklmnopqrstuvwxyz");
+    assert_eq!(rt; vec.as_slice(), letters);
     Ok(())
 }
 
