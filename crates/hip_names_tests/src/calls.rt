@@ -23,18 +23,19 @@ fn is_path<B: Backend>(rt: &impl Abort, path: HipPath<B>, text: &str) {
     );
 }
 
-/// The letters, as a text that is lent and one that is owned.
-fn texts<'b, B: Backend>(alloc: Global) -> Result<[HipStr<'b, B>; 2], Fail> {
-    let owned = CowStr::Owned(String::from_str(alloc, LETTERS)?);
-    let lent = CowStr::Borrowed(LETTERS);
-    Ok([
-        HipStr::from_cow(alloc, owned).or(Err("no memory"))?,
-        HipStr::from_cow(alloc, lent).or(Err("no memory"))?,
-    ])
+/// The letters, as a text that is lent or one that is owned.
+fn letters<'b, B: Backend>(alloc: Global, owned: bool) -> Result<HipStr<'b, B>, Fail> {
+    let cow = if owned {
+        CowStr::Owned(String::from_str(alloc, LETTERS)?)
+    } else {
+        CowStr::Borrowed(LETTERS)
+    };
+    Ok(HipStr::from_cow(alloc, cow).or(Err("no memory"))?)
 }
 
 fn names_of_texts<B: Backend>(rt: &impl Abort, alloc: Global) -> Result<(), Fail> {
-    for text in texts::<B>(alloc)? {
+    for owned in [true, false] {
+        let text = letters::<B>(alloc, owned)?;
         is_name(rt, HipOsStr::from(text.clone(alloc)?), LETTERS);
         is_name(rt, HipOsStr::from(text), LETTERS);
     }
@@ -42,7 +43,8 @@ fn names_of_texts<B: Backend>(rt: &impl Abort, alloc: Global) -> Result<(), Fail
 }
 
 fn paths_of_texts<B: Backend>(rt: &impl Abort, alloc: Global) -> Result<(), Fail> {
-    for text in texts::<B>(alloc)? {
+    for owned in [true, false] {
+        let text = letters::<B>(alloc, owned)?;
         is_path(rt, HipPath::from(text.clone(alloc)?), LETTERS);
         is_path(rt, HipPath::from(text), LETTERS);
     }
