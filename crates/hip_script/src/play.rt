@@ -115,10 +115,7 @@ fn show<B: Backend, W: Write>(pool: &Pool<'_, B>, slot: usize, out: &mut W) -> i
 }
 
 /// Writes what waits in the buffer, but nothing more after a failed write.
-fn leave<W: Write + Drop>(
-    mut out: BufWriter<W>,
-    played: Result<(), Stop>,
-) -> Result<(), Stop> {
+fn leave<W: Write + Drop>(mut out: BufWriter<W>, played: Result<(), Stop>) -> Result<(), Stop> {
     let flushed = match played {
         Err(Stop::WriteFailed) => Ok(()),
         _ => out.flush(),
