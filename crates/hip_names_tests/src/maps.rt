@@ -6,23 +6,17 @@ use std::process::Abort;
 use std::test::Fail;
 
 /// The age under a path, by its hash.
-fn age<B: Backend>(ages: &HashMap<HipPath<'static, B>, i32>, path: &'static str) -> Option<i32> {
+fn age<B: Backend>(ages: &HashMap<HipPath<B>, i32>, path: &'static str) -> Option<i32> {
     ages.get(&HipPath::borrowed(path)).copied()
 }
 
 /// The same, by its order.
-fn ordered_age<B: Backend>(
-    ages: &BTreeMap<HipPath<'static, B>, i32>,
-    path: &'static str,
-) -> Option<i32> {
+fn ordered_age<B: Backend>(ages: &BTreeMap<HipPath<B>, i32>, path: &'static str) -> Option<i32> {
     ages.get(&HipPath::borrowed(path)).copied()
 }
 
 /// The age under an OS string, by its hash.
-fn age_of_name<B: Backend>(
-    ages: &HashMap<HipOsStr<'static, B>, i32>,
-    name: &'static str,
-) -> Option<i32> {
+fn age_of_name<B: Backend>(ages: &HashMap<HipOsStr<B>, i32>, name: &'static str) -> Option<i32> {
     ages.get(&HipOsStr::borrowed(name)).copied()
 }
 
