@@ -20,12 +20,8 @@ fn compared<B: Backend>(alloc: Global, input: &[u8], rounds: u64) -> Option<u64>
     let paths = paths::<B>(alloc, input)?;
     let mut sum = 0u64;
     for _ in 0..rounds {
-        let mut before: Option<&HipPath<'_, B>> = None;
-        for path in &paths {
-            if let Some(before) = before {
-                sum = sum.wrapping_add(number_of(before.cmp(path)));
-            }
-            before = Some(path);
+        for i in 1..paths.len() {
+            sum = sum.wrapping_add(number_of(paths[i - 1].cmp(&paths[i])));
         }
         sum = mix(sum, 7);
     }

@@ -90,11 +90,11 @@ fn holds<B: Backend>(slot: Option<&Slot<'_, B>>, piece: Option<&str>) -> bool {
 }
 
 /// Whether a text is taken apart by a script as it should be, with nothing copied.
-fn takes_apart<B: Backend>(
+fn takes_apart<'s, B: Backend>(
     alloc: Global,
-    text: &str,
+    text: &'s str,
     way: Way,
-    script: &[End],
+    script: &'s [End],
 ) -> Result<bool, Fail> {
     let (how, has_both_ends, pieces) = way;
     let mut pool = Pool::<B>::new(alloc, 7)?;
@@ -112,15 +112,23 @@ fn takes_apart<B: Backend>(
         Answer::Number(pieces.len().min(script.len()))
     };
     let mut is_so = answers.as_slice().last() == Some(&wanted) && meter.copied() == 0;
-    let mut left = if is_refused { &[] } else { pieces };
+    let mut front = 0;
+    let mut back = if is_refused { 0 } else { pieces.len() };
     for (i, end) in script.iter().enumerate() {
-        let drawn = match end {
-            End::Front => left.split_first(),
-            End::Back => left.split_last(),
-        };
-        let piece = drawn.map(|(piece, _)| *piece);
-        left = drawn.map_or(&[], |(_, rest)| rest);
-        is_so = is_so && holds(pool.slot(i + 1), piece);
+        let mut at = pieces.len();
+        if front < back {
+            match end {
+                End::Front => {
+                    at = front;
+                    front += 1;
+                }
+                End::Back => {
+                    back -= 1;
+                    at = back;
+                }
+            }
+        }
+        is_so = is_so && holds(pool.slot(i + 1), pieces.get(at).copied());
     }
     Ok(is_so)
 }
