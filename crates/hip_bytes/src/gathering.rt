@@ -16,7 +16,7 @@ use std::marker::Model;
 #[derive(Drop)]
 enum Place {
     /// Where a handle would have them in itself.
-    Handle(Inline<INLINE_CAPACITY>),
+    Handle(Inline<INLINE_CAPACITY, u8>),
     /// In a vector.
     Vector(Filling),
 }
@@ -52,7 +52,7 @@ impl Gathering {
 
     /// Bytes that fit the handle itself.
     #[inline]
-    pub(crate) fn in_handle(inline: Inline<INLINE_CAPACITY>) -> Self
+    pub(crate) fn in_handle(inline: Inline<INLINE_CAPACITY, u8>) -> Self
         ensures items { result.items ≡ inline }
         ensures place { result.in_handle ≡ true }
     {
@@ -188,7 +188,7 @@ impl Gathering {
 #[inline(always)]
 fn spilled(
     alloc: Global,
-    inline: &Inline<INLINE_CAPACITY>,
+    inline: &Inline<INLINE_CAPACITY, u8>,
     gap: &[u8],
     bytes: &[u8],
     meter: &mut Meter,

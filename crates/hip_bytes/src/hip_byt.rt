@@ -19,7 +19,7 @@ mod write;
 /// Where the bytes of a handle lie.
 #[derive(Drop)]
 enum Repr<'b, B: Backend> {
-    Inline(Inline<INLINE_CAPACITY>),
+    Inline(Inline<INLINE_CAPACITY, u8>),
     Borrowed(Borrowed<'b>),
     Allocated(Allocated<B>),
 }
@@ -63,7 +63,7 @@ impl<'b, B: Backend> HipByt<'b, B> {
     }
 
     #[inline]
-    pub(crate) fn from_inline(inline: Inline<INLINE_CAPACITY>) -> Self
+    pub(crate) fn from_inline(inline: Inline<INLINE_CAPACITY, u8>) -> Self
         ensures items { result.items ≡ inline }
         ensures kind { result.kind ≡ Kind.Inline }
         ensures capacity { result.capacity ≡ INLINE_CAPACITY }

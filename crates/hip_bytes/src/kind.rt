@@ -1,5 +1,5 @@
 /// How many bytes a handle holds in itself at most.
-pub const INLINE_CAPACITY: usize = 23;
+pub const INLINE_CAPACITY: usize = hip_raw::INLINE_CAPACITY;
 
 /// Where the bytes of a handle lie.
 #[derive(Clone, Copy, Debug, PartialEq, Eq)]

@@ -1,5 +1,7 @@
 -- Parts of parts of lists.
-use Rattle.std.proofs.Common.{◌≡◌, ℕ, ◌+◌, ◌-◌, ◌≤◌, List, ◌++◌, length, take, drop, sym, ap, ◌∙◌, arith}
+use Rattle.std.proofs.Common.{[], ◌∷◌, zero, suc, refl, ◌≡◌, ℕ, ◌+◌, ◌-◌, ◌≤◌, List, ◌++◌, length, take, drop, sym, ap, ◌∙◌, arith}
+use Rattle.std.proofs.lemmas.Grind.{common_steps}
+use Rattle.std.specs.List.{refill}
 use Rattle.std.proofs.Math.Seq.{take-append-add, take-append_seam}
 use Rattle.std.proofs.lemmas.List.{drop-take, drop-drop, take-take}
 
@@ -15,3 +17,17 @@ pub take-append_two : (xs ys zs : List ℕ) (m n : ℕ) → length xs ≡ m → 
 take-append_two xs ys zs m n to_m to_n =
     ap (λ k. take (k + n) (xs ++ (ys ++ zs))) (sym to_m) ∙ take-append-add xs (ys ++ zs) n
     ∙ ap (λ k. xs ++ take k (ys ++ zs)) (sym to_n) ∙ ap (λ ws. xs ++ ws) (take-append_seam ys zs)
+
+-- the first items of a list whose front was written over are those of its first items whose front was
+pub take-over_front : (ws xs : List ℕ) (m : ℕ) → take m (ws ++ drop (length ws) xs) ≡ take m (ws ++ drop (length ws) (take m xs))
+take-over_front [] xs m = sym (take-take m m xs (omega arith))
+take-over_front (w ∷ ws) xs zero = refl
+take-over_front (w ∷ ws) [] (suc m) = refl
+take-over_front (w ∷ ws) (x ∷ xs) (suc m) = ap (λ ys. w ∷ ys) (take-over_front ws xs m)
+
+-- what is written over the front of a list, seen from the front
+pub refill-front : (m : ℕ) (xs ws : List ℕ) → m ≤ length xs → take m (refill (length xs) xs ws) ≡ refill (length (take m xs)) (take m xs) ws
+refill-front m xs ws le =
+    let count : length (take m xs) ≡ m = grind (arith, common_steps) in
+    let short : take m (refill (length xs) xs ws) ≡ take m (ws ++ drop (length ws) xs) = take-take m (length xs) (ws ++ drop (length ws) xs) le in
+    short ∙ take-over_front ws xs m ∙ ap (λ k. take k (ws ++ drop (length ws) (take m xs))) (sym count)

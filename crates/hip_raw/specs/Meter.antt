@@ -1,6 +1,6 @@
 -- What calls copy. A meter counts bytes in 128 bits and stays at its greatest number, so a contract says by how much it
 -- rises at most.
-use Rattle.std.specs.Prelude.{◌≡◌, ℕ, ◌+◌, ◌-◌, ◌^◌, ◌≤◌, min, Bool, true, false, refl}
+use Rattle.std.specs.Prelude.{◌≡◌, ℕ, ◌+◌, ◌-◌, ◌*◌, ◌^◌, ◌≤◌, min, Bool, true, false, refl}
 
 -- a meter that stood at `old` stands at `new`: it has not fallen, and has risen by `most` at most
 pub record RisesAtMost (old new most : ℕ) : Type 0 where
@@ -33,3 +33,10 @@ times_copied false n = n + n
 
 pub times_copied-examples : (times_copied true 24 ≡ 24) × (times_copied false 24 ≡ 48)
 times_copied-examples = (refl, refl)
+
+-- twice a length less the capacity, nothing where that is negative: what growth may still copy has been paid for by appends
+abbrev pub pot : ℕ → ℕ → ℕ
+pot len capacity = 2 * len - capacity
+
+pub pot-examples : (pot 30 64 ≡ 0) × (pot 60 64 ≡ 56)
+pot-examples = (refl, refl)

@@ -1,15 +1,16 @@
 //! Bytes that an owner holds.
-ghost use Rattle.std.specs.Prelude.{◌≡◌, ◌+◌, ◌-◌, ◌^◌, ◌<◌, ◌≤◌, ◌==◌, ◌++◌, max, min, map, false, true, length, take, vec_len, IsSome, IfSome, IfOk, IfErr, OnErr, slice_range, slice_set, if◌then◌else◌, IsOk};
+ghost use Rattle.std.specs.Prelude.{◌≡◌, ◌+◌, ◌*◌, ◌-◌, ◌^◌, ◌<◌, ◌≤◌, ◌==◌, ◌++◌, max, min, map, false, true, length, take, vec_len, IsSome, IfSome, IfOk, IfErr, OnErr, slice_range, slice_set, if◌then◌else◌, IsOk};
 ghost use Rattle.std.specs.Char.{to_ascii_lowercase, to_ascii_uppercase};
 ghost use Rattle.std.specs.Fn.{FnOnceReturnsAtMut, FnOnceTakesAtMut};
 ghost use Rattle.hip_raw.specs.Appended.{OnDone, OnShared, OnMemory, OnRefused};
 ghost use Rattle.hip_raw.specs.Held.{held_items, held_capacity, OwnAnswers};
-ghost use Rattle.hip_raw.specs.Meter.{RisesAtMost, times_copied, unless_shared};
+ghost use Rattle.hip_raw.specs.Meter.{RisesAtMost, pot, times_copied, unless_shared};
 
 use crate::appended::Appended;
 use crate::backend::Backend;
 use crate::block::Block;
 use crate::meter::{Meter, copy_counted, copy_with_capacity};
+use crate::start::Start;
 use crate::room::{Room, cut, write_range};
 use std::alloc::{AllocError, Global};
 use std::marker::Model;
@@ -19,7 +20,7 @@ use std::ops::Range;
 #[derive(Drop)]
 pub struct Allocated<B: Backend> {
     owner: B,
-    start: usize,
+    start: B::Start,
     len: usize,
 }
 
@@ -32,11 +33,11 @@ impl<B: Backend> Model for Allocated<B> {
     ghost Value = { Held };
 
     ghost view = { λ h. record {
-      items = window (B.items h.owner) h.start h.len;
-      capacity = B.capacity h.owner - h.start;
+      items = window (B.items h.owner) (B.Start.start_of h.start) h.len;
+      capacity = B.capacity h.owner - B.Start.start_of h.start;
     } };
 
-    ghost invariant = { λ h. LiesIn B.SHARES (B.items h.owner) (B.capacity h.owner) h.start h.len };
+    ghost invariant = { λ h. LiesIn B.SHARES (B.items h.owner) (B.capacity h.owner) (B.Start.start_of h.start) h.len };
 }
 
 impl<B: Backend> Allocated<B> {
@@ -59,7 +60,7 @@ impl<B: Backend> Allocated<B> {
         let owner = B::own(alloc, vec, meter)?;
         Ok(Allocated {
             owner,
-            start: 0,
+            start: B::Start::of(0),
             len,
         })
     }
@@ -76,7 +77,7 @@ impl<B: Backend> Allocated<B> {
         ensures counted { RisesAtMost meter.old meter.new (unless_shared B.SHARES (vec_len vec)) }
         ensures refused_copies_nothing { OnErr result (meter.new ≡ meter.old) }
     {
-        let (start, len) = (0, vec.len());
+        let (start, len) = (B::Start::of(0), vec.len());
         let owner = B::own_in(alloc, block, vec, meter)?;
         Ok(Allocated { owner, start, len })
     }
@@ -133,7 +134,7 @@ impl<B: Backend> Allocated<B> {
         ensures capacity { result ≡ self.now.capacity }
         ensures fits { length self.now.items ≤ self.now.capacity }
     {
-        self.owner.capacity() - self.start
+        self.owner.capacity() - self.start.get()
     }
 
     /// The bytes.
@@ -143,7 +144,8 @@ impl<B: Backend> Allocated<B> {
         ensures fits { length self.now.items ≤ self.now.capacity }
         ensures bound { length self.now.items < 2 ^ 64 }
     {
-        &self.owner.as_slice()[self.start..self.start + self.len]
+        let start = self.start.get();
+        &self.owner.as_slice()[start..start + self.len]
     }
 
     /// The bytes in this range, under the same owner where owners can be shared, else under one of their own.
@@ -178,7 +180,8 @@ impl<B: Backend> Allocated<B> {
         let len = range.end - range.start;
         let (owner, start) = self
             .owner
-            .part(alloc, self.start + range.start, len, meter)?;
+            .part(alloc, self.start.get() + range.start, len, meter)?;
+        let start = B::Start::of(start);
         Ok(Allocated { owner, start, len })
     }
 
@@ -209,13 +212,15 @@ impl<B: Backend> Allocated<B> {
         ensures capacity { B.SHARES ≡ false → self.old.capacity ≤ self.new.capacity }
         ensures counted { RisesAtMost meter.old meter.new
             (length addition.now + unless_shared B.SHARES (length self.old.items)) }
+        ensures potential { B.SHARES ≡ false → OnDone result (meter.new + pot (length self.new.items) self.new.capacity
+            ≤ meter.old + pot (length self.old.items) self.old.capacity + 3 * length addition.now) }
         ensures shared { OnShared result (B.SHARES ≡ true) }
         ensures memory { OnMemory result
             (B.SHARES ≡ false → self.old.capacity < length self.old.items + length addition.now) }
         ensures refused { OnRefused result (self.new ≡ self.old) }
         ensures refused_copies_nothing { OnRefused result (meter.new ≡ meter.old) }
     {
-        let keep = self.start + self.len;
+        let keep = self.start.get() + self.len;
         let answer = self.owner.append(alloc, keep, addition, meter);
         if let Appended::Done = answer {
             self.len += addition.len();
@@ -268,7 +273,7 @@ impl<B: Backend> Allocated<B> {
         ensures handed_back { IfErr result (λ back. back ≡ self) }
         ensures refused_copies_nothing { OnErr result (meter.new ≡ meter.old) }
     {
-        if self.start != 0 {
+        if self.start.get() != 0 {
             return Err(self);
         }
         let Allocated {
@@ -299,7 +304,8 @@ impl<B: Backend> Allocated<B> {
         ensures err { OnErr result (self.new ≡ self.old) }
         ensures handed_back { IfErr result (λ back. back ≡ f) }
     {
-        write_range(&mut self.owner, self.start, self.len, f)
+        let start = self.start.get();
+        write_range(&mut self.owner, start, self.len, f)
     }
 
     /// Writes one byte, where no other handle shares the owner, and answers whether it did.
@@ -344,7 +350,8 @@ impl<B: Backend> Allocated<B> {
         ensures items { IfSome result (λ bytes. bytes.now ≡ self.old.items) }
         ensures sole { B.SHARES ≡ false → IsSome result }
     {
-        let (start, end) = (self.start, self.start + self.len);
+        let start = self.start.get();
+        let end = start + self.len;
         match self.owner.writable() {
             Some(sole) => {
                 let bytes = sole.as_mut_slice();

@@ -1,15 +1,16 @@
 //! What an owner of bytes promises.
-ghost use Rattle.std.specs.Prelude.{◌≡◌, ℕ, ◌+◌, ◌^◌, ◌<◌, ◌≤◌, Bool, false, true, List, ◌++◌, length, take, vec_len, IsSome, IfOk, IfErr, IfSome, OnErr};
+ghost use Rattle.std.specs.Prelude.{◌≡◌, ℕ, ◌+◌, ◌*◌, ◌^◌, ◌<◌, ◌≤◌, Bool, false, true, List, ◌++◌, length, take, vec_len, IsSome, IfOk, IfErr, IfSome, OnErr};
 ghost use Rattle.std.specs.Borrow.{sem, LendsIf};
 ghost use Rattle.hip_raw.specs.Appended.{OnDone, OnShared, OnMemory, OnRefused};
 ghost use Rattle.hip_raw.specs.Held.{OwnAnswers};
-ghost use Rattle.hip_raw.specs.Meter.{RisesAtMost, unless_shared};
+ghost use Rattle.hip_raw.specs.Meter.{RisesAtMost, pot, unless_shared};
 ghost use Rattle.hip_raw.specs.Window.{window};
 
 use crate::appended::Appended;
 use crate::block::Block;
 use crate::meter::Meter;
 use crate::room::Room;
+use crate::start::Start;
 use std::alloc::{AllocError, Global};
 
 /// An owner of bytes: a list and a capacity. Where `SHARES` many handles stand on one owner, where not each has its own.
@@ -29,6 +30,9 @@ pub trait Backend: Drop + Sized {
 
     /// What a sole owner lends for writing.
     type Sole: Room;
+
+    /// Where a handle's bytes begin in an owner's list.
+    type Start: Start;
 
     // The owner after what it lent was written.
     ghost with_sole: { Self → Self.Sole → Self };
@@ -91,6 +95,8 @@ pub trait Backend: Drop + Sized {
         ensures fits { length (items self.new) ≤ capacity self.new }
         ensures bound { length (items self.new) < 2 ^ 64 }
         ensures counted { RisesAtMost meter.old meter.new (length addition.now + unless_shared SHARES keep) }
+        ensures potential { SHARES ≡ false → OnDone result (meter.new + pot (length (items self.new)) (capacity self.new)
+            ≤ meter.old + pot keep (capacity self.old) + 3 * length addition.now) }
         ensures shared { OnShared result (SHARES ≡ true) }
         ensures memory { OnMemory result (SHARES ≡ false → capacity self.old < keep + length addition.now) }
         ensures refused { OnRefused result ((items self.new ≡ items self.old) × (capacity self.new ≡ capacity self.old)) }
@@ -126,6 +132,9 @@ pub trait Backend: Drop + Sized {
 
     // What the sole owner has when the loan ends is what this owner has.
     ghost sole_items: { (owner : Self) (sole : Self.Sole) → items (with_sole owner sole) ≡ Self.Sole.items sole };
+
+    // Where owners are shared any position can be, else 0.
+    ghost starts: { (start : ℕ) → (SHARES ≡ false → start ≡ 0) → Self.Start.holds start };
 
     ghost sole_capacity: { (owner : Self) (sole : Self.Sole) → capacity (with_sole owner sole) ≡ Self.Sole.capacity sole };
 }

@@ -5,29 +5,39 @@ ghost use Rattle.hip_raw.specs.Meter.{RisesAtMost, count_from};
 
 use crate::meter::{Meter, fill_counted};
 use cells::Cells;
+use length::Length;
 use std::alloc::AllocError;
 use std::marker::Model;
 
 mod cells;
+pub(crate) mod length;
 
-/// At most `N` bytes, which lie in the value itself.
+/// At most `N` bytes, which lie in the value itself. How many there are is kept as an `L`, which may be shorter than a `usize`.
 #[derive(Drop)]
-pub struct Inline<const N: usize> {
-    cells: Cells<u8, N>,
-    len: usize,
+pub struct Inline<const N: usize, L: Length<N> = usize> {
+    row: Row<N, L>,
 }
 
-impl<const N: usize> Model for Inline<N> {
+// What a clone copies whole.
+#[derive(Clone, Copy)]
+struct Row<const N: usize, L: Length<N>> {
+    // It has no bytes. It aligns the others, so that they are moved by whole words.
+    align: [usize; 0],
+    cells: Cells<u8, N>,
+    len: L,
+}
+
+impl<const N: usize, L: Length<N>> Model for Inline<N, L> {
     ghost use Rattle.std.specs.Prelude.{◌≡◌, ◌≤◌, List, ℕ, length, take};
 
     ghost Value = { List ℕ };
 
-    ghost view = { λ inline. take inline.len inline.cells.items };
+    ghost view = { λ inline. take (L.count_of inline.row.len) inline.row.cells.items };
 
-    ghost invariant = { λ inline. (inline.len ≤ N) × (length inline.cells.items ≡ N) };
+    ghost invariant = { λ inline. (L.count_of inline.row.len ≤ N) × (length inline.row.cells.items ≡ N) };
 }
 
-impl<const N: usize> Inline<N> {
+impl<const N: usize, L: Length<N>> Inline<N, L> {
     ghost use Rattle.hip_raw.specs.Inline.{LendsBytes};
 
     /// No bytes.
@@ -36,8 +46,11 @@ impl<const N: usize> Inline<N> {
         ensures { result ≡ [] }
     {
         Inline {
-            cells: Cells { items: [0; N] },
-            len: 0,
+            row: Row {
+                align: [],
+                cells: Cells { items: [0; N] },
+                len: L::of(0),
+            },
         }
     }
 
@@ -48,8 +61,11 @@ impl<const N: usize> Inline<N> {
         ensures { result ≡ replicate len 0 }
     {
         Inline {
-            cells: Cells { items: [0; N] },
-            len,
+            row: Row {
+                align: [],
+                cells: Cells { items: [0; N] },
+                len: L::of(len),
+            },
         }
     }
 
@@ -104,7 +120,7 @@ impl<const N: usize> Inline<N> {
         ensures len { result ≡ length self.now }
         ensures within { result ≤ N }
     {
-        self.len
+        self.row.len.get()
     }
 
     /// Whether there is no byte.
@@ -112,7 +128,7 @@ impl<const N: usize> Inline<N> {
     pub fn is_empty(&self) -> bool
         ensures { result ≡ (length self.now == 0) }
     {
-        self.len == 0
+        self.row.len.get() == 0
     }
 
     /// How many bytes it can hold, which is `N`.
@@ -122,7 +138,7 @@ impl<const N: usize> Inline<N> {
         ensures within { length self.now ≤ N }
     {
         // Naming a field lets the proof know the invariant.
-        let _ = &self.len;
+        let _ = &self.row.len;
         N
     }
 
@@ -132,16 +148,18 @@ impl<const N: usize> Inline<N> {
         ensures items { result.now ≡ self.now }
         ensures within { length self.now ≤ N }
     {
-        &self.cells.items[..self.len]
+        &self.row.cells.items[..self.row.len.get()]
     }
 
     /// The bytes, for writing.
     #[inline]
     pub fn as_mut_slice(&mut self) -> &mut [u8]
-        ensures* writes_back { sem 𝓛 (LendsBytes N.row self.entry result) }
+        ensures* writes_back { sem 𝓛 (LendsBytes N.row L.row L.Length self.entry result) }
         ensures items { result.now ≡ self.old }
     {
-        self.cells.front_mut(self.len)
+        let len = self.row.len.get();
+        let cells = &mut self.row.cells;
+        cells.front_mut(len)
     }
 
     /// Appends these bytes, for which there is room.
@@ -160,11 +178,11 @@ impl<const N: usize> Inline<N> {
         ensures items { self.new ≡ self.old ++ addition.now }
         ensures counted { RisesAtMost meter.old meter.new (length addition.now) }
     {
-        let start = self.len;
+        let start = self.row.len.get();
         let end = start + addition.len();
-        let room = &mut self.cells.items[..];
+        let room = &mut self.row.cells.items[..];
         fill_counted(&mut room[start..end], addition, meter);
-        self.len = end;
+        self.row.len = L::of(end);
     }
 
     /// Appends the first `count` bytes again, for which there is room, counted.
@@ -175,11 +193,11 @@ impl<const N: usize> Inline<N> {
         ensures items { self.new ≡ self.old ++ take count self.old }
         ensures counted { RisesAtMost meter.old meter.new count }
     {
-        let start = self.len;
-        let room = &mut self.cells.items[..];
+        let start = self.row.len.get();
+        let room = &mut self.row.cells.items[..];
         let (front, back) = room.split_at_mut(start);
         fill_counted(&mut back[..count], &front[..count], meter);
-        self.len = start + count;
+        self.row.len = L::of(start + count);
     }
 
     /// Keeps the first `len` bytes, or all where there are fewer. It copies nothing.
@@ -187,8 +205,8 @@ impl<const N: usize> Inline<N> {
     pub fn truncate(&mut self, len: usize)
         ensures { self.new ≡ take len self.old }
     {
-        if len < self.len {
-            self.len = len;
+        if len < self.row.len.get() {
+            self.row.len = L::of(len);
         }
     }
 
@@ -199,17 +217,12 @@ impl<const N: usize> Inline<N> {
         ensures counted { RisesAtMost meter.old meter.new (length self.now) }
         ensures exact { meter.new ≡ count_from meter.old (length self.now) }
     {
-        meter.count(self.len);
-        Inline {
-            cells: Cells {
-                items: self.cells.items,
-            },
-            len: self.len,
-        }
+        meter.count(self.row.len.get());
+        Inline { row: self.row }
     }
 }
 
-impl<const N: usize> Clone for Inline<N> {
+impl<const N: usize, L: Length<N>> Clone for Inline<N, L> {
     ghost is_clone = { λ inline copy. copy ≡ inline };
 
     ghost is_infallible = { λ _. ⊤ };

@@ -27,6 +27,7 @@ mod inline;
 mod meter;
 mod rc;
 mod room;
+mod start;
 mod unique;
 
 pub use allocated::Allocated;
@@ -36,9 +37,11 @@ pub use block::Block;
 pub use borrowed::Borrowed;
 pub use filling::Filling;
 pub use inline::Inline;
+pub use inline::length::{INLINE_CAPACITY, Length};
 pub use meter::{
     Meter, copy_counted, copy_with_capacity, extend_counted, extend_within, fill_counted,
 };
 pub use rc::Rc;
 pub use room::Room;
+pub use start::{Front, Start};
 pub use unique::Unique;

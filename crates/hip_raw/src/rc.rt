@@ -38,6 +38,8 @@ impl Backend for Rc {
 
     type Sole = Vec<u8>;
 
+    type Start = usize;
+
     ghost with_sole = { λ owner sole. record { items = sole.items; capacity = vec_capacity sole } };
 
     #[inline]
@@ -127,6 +129,8 @@ impl Backend for Rc {
     }
 
     ghost sole_items = { λ owner sole. refl };
+
+    ghost starts = { λ start front. tt };
 
     ghost sole_capacity = { λ owner sole. refl };
 }

@@ -4,6 +4,7 @@ ghost use Rattle.std.specs.Prelude.{false, vec_capacity, refl};
 use crate::appended::{Appended, append_to};
 use crate::backend::Backend;
 use crate::meter::{Meter, copy_counted};
+use crate::start::Front;
 use std::alloc::{AllocError, Global};
 use std::marker::Model;
 
@@ -32,6 +33,8 @@ impl Backend for Unique {
     const SHARES: bool = false;
 
     type Sole = Vec<u8>;
+
+    type Start = Front;
 
     ghost with_sole = { λ owner sole. record { items = sole.items; capacity = vec_capacity sole } };
 
@@ -85,6 +88,8 @@ impl Backend for Unique {
     }
 
     ghost sole_items = { λ owner sole. refl };
+
+    ghost starts = { λ start front. front refl };
 
     ghost sole_capacity = { λ owner sole. refl };
 }

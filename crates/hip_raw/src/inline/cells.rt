@@ -3,7 +3,7 @@ ghost use Rattle.std.specs.Prelude.{◌≡◌, ◌≤◌, take};
 ghost use Rattle.std.specs.Borrow.{sem};
 
 /// An array in a struct of its own, so that a contract can say what a loan of its first items leaves.
-#[derive(Drop)]
+#[derive(Clone, Copy)]
 pub(crate) struct Cells<T, const N: usize> {
     pub(crate) items: [T; N],
 }
