@@ -1,7 +1,8 @@
 -- How many bytes a call copies at most, and where it may want memory, by the kind and the length that there are.
 -- `shares` says whether owners are shared.
-use Rattle.std.specs.Prelude.{◌≡◌, ℕ, ◌<◌, min, Bool, true, false, if◌then◌else◌, nat_le, refl}
-use Rattle.hip_raw.specs.Meter.{unless_shared, times_copied}
+use Rattle.std.specs.Prelude.{◌≡◌, ℕ, ◌+◌, ◌*◌, ◌<◌, ◌≤◌, min, Bool, true, false, length, if◌then◌else◌, nat_le, refl}
+use Rattle.hip_raw.specs.Meter.{pot, unless_shared, times_copied}
+use Rattle.hip_bytes.specs.Handle.{Handle}
 use Rattle.hip_bytes.specs.declared.kind.Kind.{Kind}
 use Rattle.hip_bytes.specs.declared.kind.Kind.TheVariants.{Inline, Borrowed, Allocated}
 use Rattle.hip_bytes.specs.declared.kind.TheConstants.{INLINE_CAPACITY}
@@ -47,15 +48,29 @@ write_cost shares Borrowed len = times_copied shares len
 write_cost true Allocated len = len
 write_cost false Allocated len = 0
 
+-- what a handle's owner has been paid for growth less than it may copy: the potential of amortised counting
+abbrev pub pot_of : Kind → ℕ → ℕ → ℕ
+pot_of Inline len capacity = 0
+pot_of Borrowed len capacity = 0
+pot_of Allocated len capacity = pot len capacity
+
+abbrev pub handle_pot : Handle → ℕ
+handle_pot handle = pot_of handle.kind (length handle.items) handle.capacity
+
+-- a push of `added` bytes on an owner that isn't shared, for which the meter goes from `before` to `after`: what it copies, and the
+-- pot that it leaves, are paid by the pot that there was and three times the addition
+abbrev pub PushIsPaid : Bool → Handle → Handle → ℕ → ℕ → ℕ → Type 0
+PushIsPaid shares old new added before after = shares ≡ false → old.kind ≡ Allocated → after + handle_pot new ≤ before + handle_pot old + 3 * added
+
 -- a part of `len` bytes may want memory
 abbrev pub CutNeedsMemory : Kind → ℕ → Type 0
 CutNeedsMemory kind len = (kind ≡ Allocated) × (INLINE_CAPACITY < len)
 
--- a push that leaves `len` bytes may want memory
-abbrev pub PushNeedsMemory : Kind → ℕ → Type 0
-PushNeedsMemory Inline len = INLINE_CAPACITY < len
-PushNeedsMemory Borrowed len = INLINE_CAPACITY < len
-PushNeedsMemory Allocated len = Unit {0}
+-- a push that leaves `len` bytes on a handle of some capacity may want memory: on an owner that isn't shared where they pass it
+abbrev pub PushNeedsMemory : Bool → Kind → ℕ → ℕ → Type 0
+PushNeedsMemory shares Inline capacity len = INLINE_CAPACITY < len
+PushNeedsMemory shares Borrowed capacity len = INLINE_CAPACITY < len
+PushNeedsMemory shares Allocated capacity len = shares ≡ false → capacity < len
 
 -- bytes that are made the handle's own may want memory
 abbrev pub OwnNeedsMemory : Kind → ℕ → Type 0

@@ -7,7 +7,7 @@ use Rattle.hip_bytes.specs.declared.hip_byt.Repr.TheVariants.{Inline as inline, 
 use Rattle.hip_bytes.specs.declared.kind.Kind.TheVariants.{Inline, Borrowed, Allocated}
 use Rattle.hip_bytes.specs.declared.kind.TheConstants.{INLINE_CAPACITY}
 
-abbrev pub handle_of : {B S : Type 0} → Repr B S → Handle
+abbrev pub handle_of : {B S P : Type 0} → Repr B S P → Handle
 handle_of (inline list) = record { kind = Inline; items = list; capacity = INLINE_CAPACITY }
 handle_of (borrowed lent) = record { kind = Borrowed; items = borrowed_bytes lent; capacity = length (borrowed_bytes lent) }
 handle_of (allocated held) = record { kind = Allocated; items = held.items; capacity = held.capacity }

@@ -12,7 +12,7 @@ use Rattle.hip_bytes.specs.declared.slice_error.SliceRefusal.{SliceRefusal}
 use Rattle.hip_bytes.specs.declared.slice_error.SliceRefusal.TheVariants.{Slice, Memory}
 
 -- the error says why these bounds are no range of the source
-pub record IsErrorOf {B S : Type 0} (error : SliceError B S) (source : Handle) (low high : Bound ℕ) : Type 0 where
+pub record IsErrorOf {B S P : Type 0} (error : SliceError B S P) (source : Handle) (low high : Bound ℕ) : Type 0 where
   pub fault : slice_fault low high (length source.items) ≡ Some (error_kind error)
   pub start : error_start error ≡ kept_number (start_index low)
   pub end : error_end error ≡ kept_number (end_index high (length source.items))
@@ -20,7 +20,7 @@ pub record IsErrorOf {B S : Type 0} (error : SliceError B S) (source : Handle) (
 
 -- a range of the source is answered by its part, or by want of memory where a part of that length may want it; what is no range
 -- of the source is answered by its fault
-abbrev pub SliceAnswers : {B S : Type 0} → Handle → Bound ℕ → Bound ℕ → Result Handle (SliceRefusal B S) → Type 0
+abbrev pub SliceAnswers : {B S P : Type 0} → Handle → Bound ℕ → Bound ℕ → Result Handle (SliceRefusal B S P) → Type 0
 SliceAnswers source low high (Ok part) =
     (slice_fault low high (length source.items) ≡ None) × IsPart source part (slice_of low high source.items)
 SliceAnswers source low high (Err Memory) =

@@ -7,16 +7,16 @@ use Rattle.hip_bytes.specs.declared.slice_error.SliceErrorKind.TheVariants.{Star
 use Rattle.hip_bytes.specs.declared.slice_error.SliceError.{SliceError}
 
 -- which test failed, the range's start and end, and the value that was to be sliced
-abbrev pub error_kind : {B S : Type 0} → SliceError B S → SliceErrorKind
+abbrev pub error_kind : {B S P : Type 0} → SliceError B S P → SliceErrorKind
 error_kind error = error.kind
 
-abbrev pub error_start : {B S : Type 0} → SliceError B S → ℕ
+abbrev pub error_start : {B S P : Type 0} → SliceError B S P → ℕ
 error_start error = error.start
 
-abbrev pub error_end : {B S : Type 0} → SliceError B S → ℕ
+abbrev pub error_end : {B S P : Type 0} → SliceError B S P → ℕ
 error_end error = error.end
 
-abbrev pub error_source : {B S : Type 0} → SliceError B S → Handle
+abbrev pub error_source : {B S P : Type 0} → SliceError B S P → Handle
 error_source error = error.source.now
 
 -- a number as an error keeps it: one past the greatest `usize` becomes that

@@ -11,19 +11,19 @@ use Rattle.hip_text.specs.declared.faults.BytesFault.TheVariants.{Memory, NotUtf
 use Rattle.hip_text.specs.declared.from_utf8_error.FromUtf8Error.{FromUtf8Error}
 
 -- the bytes that an error keeps, and what is wrong with them
-abbrev pub error_bytes : {B S : Type 0} → FromUtf8Error B S → Handle
+abbrev pub error_bytes : {B S P : Type 0} → FromUtf8Error B S P → Handle
 error_bytes error = error.bytes
 
-abbrev pub error_cause : {B S : Type 0} → FromUtf8Error B S → Utf8Error
+abbrev pub error_cause : {B S P : Type 0} → FromUtf8Error B S P → Utf8Error
 error_cause error = error.error
 
 -- bytes that are UTF-8 become the text, in the same handle; any others are kept by the error, which tells their longest front that is
-abbrev pub FromUtf8Answers : {B S : Type 0} → Handle → Result Handle (FromUtf8Error B S) → Type 0
+abbrev pub FromUtf8Answers : {B S P : Type 0} → Handle → Result Handle (FromUtf8Error B S P) → Type 0
 FromUtf8Answers bytes (Ok text) = (text ≡ bytes) × IsUtf8 bytes.items
 FromUtf8Answers bytes (Err error) = (error_bytes error ≡ bytes) × ¬ (IsUtf8 bytes.items) × IsValidUpTo bytes.items (valid_up_to (error_cause error))
 
 -- the same error again, of a clone of the bytes
-abbrev pub CloneErrorAnswers : {B S E : Type 0} → FromUtf8Error B S → Result (FromUtf8Error B S) E → Type 0
+abbrev pub CloneErrorAnswers : {B S P E : Type 0} → FromUtf8Error B S P → Result (FromUtf8Error B S P) E → Type 0
 CloneErrorAnswers error (Ok copy) =
     Holds (error_bytes copy) (error_bytes error).kind (error_bytes error).items × (error_cause copy ≡ error_cause error)
 CloneErrorAnswers error (Err refused) = (error_bytes error).kind ≡ Allocated

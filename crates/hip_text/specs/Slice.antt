@@ -38,7 +38,7 @@ abbrev pub text_slice_fault : Bound ℕ → Bound ℕ → List ℕ → Option Sl
 text_slice_fault low high text = text_fault_after (slice_fault low high (length text)) text (start_index low) (end_index high (length text))
 
 -- the error says why these bounds are no range of the source
-pub record IsErrorOf {B S : Type 0} (error : SliceError B S) (source : Handle) (low high : Bound ℕ) : Type 0 where
+pub record IsErrorOf {B S P : Type 0} (error : SliceError B S P) (source : Handle) (low high : Bound ℕ) : Type 0 where
   pub fault : text_slice_fault low high source.items ≡ Some (error_kind error)
   pub start : error_start error ≡ kept_number (start_index low)
   pub end : error_end error ≡ kept_number (end_index high (length source.items))
@@ -46,7 +46,7 @@ pub record IsErrorOf {B S : Type 0} (error : SliceError B S) (source : Handle) (
 
 -- a range of the source is answered by its part, or by want of memory where a part of that length may want it; what is no range
 -- of the source is answered by its fault
-abbrev pub SliceAnswers : {B S : Type 0} → Handle → Bound ℕ → Bound ℕ → Result Handle (SliceRefusal B S) → Type 0
+abbrev pub SliceAnswers : {B S P : Type 0} → Handle → Bound ℕ → Bound ℕ → Result Handle (SliceRefusal B S P) → Type 0
 SliceAnswers source low high (Ok part) =
     (text_slice_fault low high source.items ≡ None) × IsPart source part (slice_of low high source.items)
 SliceAnswers source low high (Err Memory) =

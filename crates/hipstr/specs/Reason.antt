@@ -31,11 +31,11 @@ text_reason_of text_start_within = StartNotACharBoundary
 text_reason_of text_end_within = EndNotACharBoundary
 
 -- why there is no slice
-abbrev pub bytes_refusal : {B S : Type 0} → SliceRefusal B S → Reason
+abbrev pub bytes_refusal : {B S P : Type 0} → SliceRefusal B S P → Reason
 bytes_refusal (bytes_slice error) = reason_of (bytes_error_kind error)
 bytes_refusal bytes_memory = Memory
 
-abbrev pub text_refusal : {B S : Type 0} → TextRefusal B S → Reason
+abbrev pub text_refusal : {B S P : Type 0} → TextRefusal B S P → Reason
 text_refusal (text_slice error) = text_reason_of (text_error_kind error)
 text_refusal text_memory = Memory
 

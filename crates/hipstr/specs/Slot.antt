@@ -12,7 +12,7 @@ pub record SlotState : Type 0 where
   pub is_text : Bool
   pub handle : Handle
 
-abbrev pub state_of : {B S : Type 0} → Slot B S → SlotState
+abbrev pub state_of : {B S P : Type 0} → Slot B S P → SlotState
 state_of (Bytes handle) = record { is_text = false; handle = handle }
 state_of (Text text) = record { is_text = true; handle = text }
 

@@ -3,7 +3,7 @@ ghost use Rattle.std.specs.Prelude.{◌≡◌, ◌≤◌, ◌<◌, ◌+◌, ◌�
 ghost use Rattle.std.specs.Option.{option_to_list};
 ghost use Rattle.hip_raw.specs.Meter.{RisesAtMost, times_copied};
 ghost use Rattle.hip_bytes.specs.Change.{IsShortened, PopAnswers, PushAnswers, ShrinkAnswers};
-ghost use Rattle.hip_bytes.specs.Cost.{CutNeedsMemory, PushNeedsMemory, shortened_cost, shrink_cost};
+ghost use Rattle.hip_bytes.specs.Cost.{CutNeedsMemory, PushIsPaid, PushNeedsMemory, shortened_cost, shrink_cost};
 ghost use Rattle.hip_bytes.specs.Repr.{handle_of};
 ghost use Rattle.hip_bytes.specs.Kinds.{by_length, cut_kind, kept_capacity, PushedKind, HasCapacity};
 ghost use Rattle.hip_bytes.specs.declared.kind.TheConstants.{INLINE_CAPACITY};
@@ -65,6 +65,7 @@ impl<'b, B: Backend> HipByt<'b, B> {
     ) -> Result<(), AllocError>
         ensures push { PushAnswers B.SHARES self.old addition.now result self.new }
         ensures counted { RisesAtMost meter.old meter.new (times_copied B.SHARES (length self.old.items + length addition.now)) }
+        ensures paid { PushIsPaid B.SHARES self.old self.new (length addition.now) meter.old meter.new }
     {
         match &mut self.bare.repr {
             Repr::Inline(inline) if addition.len() <= INLINE_CAPACITY - inline.len() => {
@@ -124,6 +125,7 @@ impl<'b, B: Backend> HipByt<'b, B> {
     ) -> Result<(), AllocError>
         ensures push { PushAnswers B.SHARES self.old (byte ∷ []) result self.new }
         ensures counted { RisesAtMost meter.old meter.new (times_copied B.SHARES (length self.old.items + 1)) }
+        ensures paid { PushIsPaid B.SHARES self.old self.new 1 meter.old meter.new }
     {
         self.push_slice_metered(alloc, &[byte], meter)
     }

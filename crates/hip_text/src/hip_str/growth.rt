@@ -3,7 +3,7 @@ ghost use Rattle.std.specs.Prelude.{◌≡◌, ◌≤◌, ◌+◌, length, max};
 ghost use Rattle.std.specs.Char.{encode_utf8};
 ghost use Rattle.std.specs.Str.{IsCharBoundary};
 ghost use Rattle.hip_bytes.specs.Change.{IsShortened, PushAnswers, ShrinkAnswers};
-ghost use Rattle.hip_bytes.specs.Cost.{shortened_cost, shrink_cost};
+ghost use Rattle.hip_bytes.specs.Cost.{PushIsPaid, shortened_cost, shrink_cost};
 ghost use Rattle.hip_bytes.specs.Meter.{RisesAtMost, times_copied};
 ghost use Rattle.hip_text.specs.Change.{PopCharAnswers};
 
@@ -30,7 +30,7 @@ impl<'b, B: Backend> HipStr<'b, B> {
         meter: &mut Meter,
     ) -> Result<(), AllocError>
         ensures push { PushAnswers B.SHARES self.old addition.now result self.new }
-        ensures counted { RisesAtMost meter.old meter.new (times_copied B.SHARES (length self.old.items + length addition.now)) }
+        ensures counted { RisesAtMost meter.old meter.new (times_copied B.SHARES (length self.old.items + length addition.now)) }        ensures paid { PushIsPaid B.SHARES self.old self.new (length addition.now) meter.old meter.new }
     {
         self.bytes
             .push_slice_metered(alloc, addition.as_bytes(), meter)
@@ -54,7 +54,7 @@ impl<'b, B: Backend> HipStr<'b, B> {
         meter: &mut Meter,
     ) -> Result<(), AllocError>
         ensures push { PushAnswers B.SHARES self.old (encode_utf8 c) result self.new }
-        ensures counted { RisesAtMost meter.old meter.new (times_copied B.SHARES (length self.old.items + length (encode_utf8 c))) }
+        ensures counted { RisesAtMost meter.old meter.new (times_copied B.SHARES (length self.old.items + length (encode_utf8 c))) }        ensures paid { PushIsPaid B.SHARES self.old self.new (length (encode_utf8 c)) meter.old meter.new }
     {
         let mut room = [0; 4];
         let bytes = c.encode_utf8(&mut room).as_bytes();

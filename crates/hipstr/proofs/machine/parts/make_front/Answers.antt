@@ -7,7 +7,7 @@ use Rattle.hipstr.proofs.machine.parts.make_front.Goals as goal
 
 pub loop-i-preserved : goal.loop-i-preserved
 loop-i-preserved g c =
-    let state = state_of {B = g.row.B.Denot} {S = g.row.B-Sole.Denot} in
+    let state = state_of {B = g.row.B.Denot} {S = g.row.B-Sole.Denot} {P = g.row.B-Start.Denot} in
     let room : length c.args.script.now ≤ length (map state c.loop-i.spare) = omega (arith, c.requires.room, c.loop-i.auto.spare, length-map c.loop-i.spare state) in
     record {
       so_far = goes-on c.in-Some-Ok.field-0 g.B.Backend.SHARES c.args.walk.source.now c.loop-i.walk.source.now (draw (g.I.Ranges.rest c.args.walk.ranges) c.args.script.now) (g.I.Ranges.rest c.loop-i.walk.ranges) (g.I.Ranges.rest c.front_part.new.walk.ranges)
@@ -20,7 +20,7 @@ loop-i-preserved g c =
 
 pub returns-in-Some-Err-clause-made : goal.returns-in-Some-Err-clause-made
 returns-in-Some-Err-clause-made g c =
-    let state = state_of {B = g.row.B.Denot} {S = g.row.B-Sole.Denot} in
+    let state = state_of {B = g.row.B.Denot} {S = g.row.B-Sole.Denot} {P = g.row.B-Start.Denot} in
     let refused = is-refused c.in-Some-Err.field-0 _ g.B.Backend.SHARES c.args.walk.source.now c.loop-i.walk.source.now (draw (g.I.Ranges.rest c.args.walk.ranges) c.args.script.now) (g.I.Ranges.rest c.loop-i.walk.ranges) (g.I.Ranges.rest c.front_part.new.walk.ranges)
     c.args.script.now c.loop-i.i _ (map state c.loop-i.spare) c.args.meter.now c.loop-i.meter c.front_part.new.meter
     c.loop-i.invariant.so_far c.loop-i.invariant.source c.loop-i-test.true c.in-Some-Err.ensures.drawn c.in-Some-Err.field-0-is in
@@ -28,7 +28,7 @@ returns-in-Some-Err-clause-made g c =
 
 pub returns-in-Some-Err-clause-counted : goal.returns-in-Some-Err-clause-counted
 returns-in-Some-Err-clause-counted g c =
-    let state = state_of {B = g.row.B.Denot} {S = g.row.B-Sole.Denot} in
+    let state = state_of {B = g.row.B.Denot} {S = g.row.B-Sole.Denot} {P = g.row.B-Start.Denot} in
     let refused = is-refused c.in-Some-Err.field-0 _ g.B.Backend.SHARES c.args.walk.source.now c.loop-i.walk.source.now (draw (g.I.Ranges.rest c.args.walk.ranges) c.args.script.now) (g.I.Ranges.rest c.loop-i.walk.ranges) (g.I.Ranges.rest c.front_part.new.walk.ranges)
     c.args.script.now c.loop-i.i _ (map state c.loop-i.spare) c.args.meter.now c.loop-i.meter c.front_part.new.meter
     c.loop-i.invariant.so_far c.loop-i.invariant.source c.loop-i-test.true c.in-Some-Err.ensures.drawn c.in-Some-Err.field-0-is in
@@ -37,13 +37,13 @@ returns-in-Some-Err-clause-counted g c =
 pub returns-in-None-clause-made : goal.returns-in-None-clause-made
 returns-in-None-clause-made g c =
     let all = has-ended g.B.Backend.SHARES c.args.walk.source.now (draw (g.I.Ranges.rest c.args.walk.ranges) c.args.script.now) (g.I.Ranges.rest c.loop-i.walk.ranges) c.args.script.now c.loop-i.i
-    (map (state_of {B = g.row.B.Denot} {S = g.row.B-Sole.Denot}) c.loop-i.spare) c.args.meter.now c.loop-i.meter c.front_part.new.meter c.loop-i.invariant.so_far c.in-None.ensures.drawn.0 c.in-None.ensures.drawn.1 in
+    (map (state_of {B = g.row.B.Denot} {S = g.row.B-Sole.Denot} {P = g.row.B-Start.Denot}) c.loop-i.spare) c.args.meter.now c.loop-i.meter c.front_part.new.meter c.loop-i.invariant.so_far c.in-None.ensures.drawn.0 c.in-None.ensures.drawn.1 in
     all.made
 
 pub returns-in-None-clause-counted : goal.returns-in-None-clause-counted
 returns-in-None-clause-counted g c =
     let all = has-ended g.B.Backend.SHARES c.args.walk.source.now (draw (g.I.Ranges.rest c.args.walk.ranges) c.args.script.now) (g.I.Ranges.rest c.loop-i.walk.ranges) c.args.script.now c.loop-i.i
-    (map (state_of {B = g.row.B.Denot} {S = g.row.B-Sole.Denot}) c.loop-i.spare) c.args.meter.now c.loop-i.meter c.front_part.new.meter c.loop-i.invariant.so_far c.in-None.ensures.drawn.0 c.in-None.ensures.drawn.1 in
+    (map (state_of {B = g.row.B.Denot} {S = g.row.B-Sole.Denot} {P = g.row.B-Start.Denot}) c.loop-i.spare) c.args.meter.now c.loop-i.meter c.front_part.new.meter c.loop-i.invariant.so_far c.in-None.ensures.drawn.0 c.in-None.ensures.drawn.1 in
     all.rises
 
 pub front_part-requires-clause-front : goal.front_part-requires-clause-front

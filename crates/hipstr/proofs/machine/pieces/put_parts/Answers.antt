@@ -7,7 +7,7 @@ use Rattle.hipstr.proofs.machine.pieces.put_parts.Goals as goal
 
 pub loop-i-preserved : goal.loop-i-preserved
 loop-i-preserved g c =
-    let state = state_of {B = g.row.B.Denot} {S = g.row.B-Sole.Denot} in
+    let state = state_of {B = g.row.B.Denot} {S = g.row.B-Sole.Denot} {P = g.row.B-Start.Denot} in
     let within : c.args.count ≤ length (map state c.args.spare.now) = omega (arith, c.requires.made, length-map c.args.spare.now state) in
     let there : c.loop-i.i < length (map state c.args.spare.now) = omega (arith, c.loop-i-test.true, within) in
     record {

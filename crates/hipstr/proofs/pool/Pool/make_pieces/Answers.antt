@@ -18,13 +18,13 @@ use Rattle.hipstr.proofs.pool.Pool.make_pieces.Goals as goal
 
 pub make_parts-requires-clause-empty : goal.make_parts-requires-clause-empty
 make_parts-requires-clause-empty g c =
-    let state = state_of {B = g.row.B.Denot} {S = g.row.B-Sole.Denot} in
+    let state = state_of {B = g.row.B.Denot} {S = g.row.B-Sole.Denot} {P = g.row.B-Start.Denot} in
     let empty : map state c.deref_mut-spare.result.now ≡ replicate (length c.self.inside.slots.items) empty_slot = ap (map state) c.deref_mut-spare.ensures.value ∙ c.self.invariant in
     empty ∙ ap (λ n. replicate n empty_slot) (sym (empty-length state c.deref_mut-spare.result.now (length c.self.inside.slots.items) empty))
 
 pub make_parts-requires-clause-room : goal.make_parts-requires-clause-room
 make_parts-requires-clause-room g c =
-    let state = state_of {B = g.row.B.Denot} {S = g.row.B-Sole.Denot} in
+    let state = state_of {B = g.row.B.Denot} {S = g.row.B-Sole.Denot} {P = g.row.B-Start.Denot} in
     let empty : map state c.deref_mut-spare.result.now ≡ replicate (length c.self.inside.slots.items) empty_slot = ap (map state) c.deref_mut-spare.ensures.value ∙ c.self.invariant in
     let same : length c.self.inside.slots.items ≡ length c.args.self.now = sym (length-map c.self.inside.slots.items state) ∙ ap length c.self.view_is in
     let targets : c.args.first + length c.args.script.now ≤ length c.args.self.now = leb-true _ _ (sym c.if-not-has_slots.ensures) in
@@ -32,19 +32,19 @@ make_parts-requires-clause-room g c =
 
 pub put_parts-requires-clause-made : goal.put_parts-requires-clause-made
 put_parts-requires-clause-made g c =
-    let state = state_of {B = g.row.B.Denot} {S = g.row.B-Sole.Denot} in
+    let state = state_of {B = g.row.B.Denot} {S = g.row.B-Sole.Denot} {P = g.row.B-Start.Denot} in
     omega (arith, c.in_ok-count.ensures.made.0, hold-within c.in_ok-text.text.now (draw (pieces_of c.args.how c.in_ok-text.text.now.items) c.args.script.now) (map state c.make_parts.new.spare) c.in_ok-count.ensures.made.1, length-map c.make_parts.new.spare state)
 
 pub put_parts-requires-clause-room : goal.put_parts-requires-clause-room
 put_parts-requires-clause-room g c =
-    let state = state_of {B = g.row.B.Denot} {S = g.row.B-Sole.Denot} in
+    let state = state_of {B = g.row.B.Denot} {S = g.row.B-Sole.Denot} {P = g.row.B-Start.Denot} in
     let same : length c.self.inside.slots.items ≡ length c.args.self.now = sym (length-map c.self.inside.slots.items state) ∙ ap length c.self.view_is in
     let targets : c.args.first + length c.args.script.now ≤ length c.args.self.now = leb-true _ _ (sym c.if-not-has_slots.ensures) in
     omega (arith, c.in_ok-count.ensures.made.0, draw-within (pieces_of c.args.how c.in_ok-text.text.now.items) c.args.script.now, same, targets, ap length c.deref_mut.ensures.value)
 
 pub returns-in_err-count-clause-step : goal.returns-in_err-count-clause-step
 returns-in_err-count-clause-step g c =
-    let state = state_of {B = g.row.B.Denot} {S = g.row.B-Sole.Denot} in
+    let state = state_of {B = g.row.B.Denot} {S = g.row.B-Sole.Denot} {P = g.row.B-Start.Denot} in
     let slots = c.args.self.now in
     let shown : map state c.deref.result.now ≡ slots = ap (map state) c.deref.ensures.value ∙ c.self.view_is in
     let within_s : c.args.s < length slots = omega (arith, c.if-s-len.false, c.len.ensures) in
@@ -61,7 +61,7 @@ returns-in_err-count-clause-step g c =
 
 pub invariant_of-self-2 : goal.invariant_of-self-2
 invariant_of-self-2 g c =
-    let state = state_of {B = g.row.B.Denot} {S = g.row.B-Sole.Denot} in
+    let state = state_of {B = g.row.B.Denot} {S = g.row.B-Sole.Denot} {P = g.row.B-Start.Denot} in
     let ranges = draw (pieces_of c.args.how c.in_ok-text.text.now.items) c.args.script.now in
     let empty : map state c.deref_mut-spare.result.now ≡ replicate (length c.self.inside.slots.items) empty_slot = ap (map state) c.deref_mut-spare.ensures.value ∙ c.self.invariant in
     let emptied : map state c.put_parts.new.spare ≡ replicate (length (map state c.make_parts.new.spare)) empty_slot =
@@ -75,7 +75,7 @@ invariant_of-self-2 g c =
 
 pub returns-clause-step : goal.returns-clause-step
 returns-clause-step g c =
-    let state = state_of {B = g.row.B.Denot} {S = g.row.B-Sole.Denot} in
+    let state = state_of {B = g.row.B.Denot} {S = g.row.B-Sole.Denot} {P = g.row.B-Start.Denot} in
     let slots = c.args.self.now in
     let shown : map state c.deref.result.now ≡ slots = ap (map state) c.deref.ensures.value ∙ c.self.view_is in
     let within_s : c.args.s < length slots = omega (arith, c.if-s-len.false, c.len.ensures) in
