@@ -9,8 +9,8 @@
 //! - [`RefMut`] lends a value of a [`Source`], as a handle is one, as a vector; [`mutate`] makes one in functions that are generic in
 //!   the source.
 //! - [`Piece`] is what joins are made of, bytes or texts.
-//! - What an implementor of [`Backend`], or a caller of the representations, names is handed on: [`Room`], [`Appended`], [`Block`],
-//!   [`Inline`], [`Borrowed`], [`Allocated`], [`fill_counted`], [`copy_counted`].
+//! - What an implementor of [`Backend`], or a caller of the representations, names is handed on: [`Room`], [`Start`], [`Front`],
+//!   [`Appended`], [`Block`], [`Inline`], [`Length`], [`Borrowed`], [`Allocated`], [`fill_counted`], [`copy_counted`].
 //!
 //! A call that copies has a form with the suffix `_metered` and a last argument `&mut Meter`; the plain call is that form with a
 //! fresh meter. Conversions from a `Cow`, and into a vector or a `Cow`, have none. A call that may want memory takes the allocator first,
@@ -34,8 +34,8 @@ mod slice_error;
 pub use grow_fault::GrowFault;
 pub use hip_byt::HipByt;
 pub use hip_raw::{
-    Allocated, Appended, Backend, Block, Borrowed, Inline, Meter, Rc, Room, Unique, copy_counted,
-    fill_counted,
+    Allocated, Appended, Backend, Block, Borrowed, Front, Inline, Length, Meter, Rc, Room, Start,
+    Unique, copy_counted, fill_counted,
 };
 pub use kind::{INLINE_CAPACITY, Kind};
 pub use piece::Piece;

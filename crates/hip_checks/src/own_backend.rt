@@ -37,6 +37,8 @@ impl Backend for Shared {
 
     type Sole = Vec<u8>;
 
+    type Start = usize;
+
     ghost with_sole = { λ owner sole. record { items = sole.items; capacity = vec_capacity sole } };
 
     fn part(
@@ -99,6 +101,8 @@ impl Backend for Shared {
     ghost sole_items = { λ owner sole. refl };
 
     ghost sole_capacity = { λ owner sole. refl };
+
+    ghost starts = { λ start front. tt };
 }
 
 #[test]

@@ -18,8 +18,8 @@ mod order;
 
 pub use component::{Component, Components};
 pub use hip_bytes::{
-    Allocated, Appended, Backend, Block, Borrowed, HipByt, INLINE_CAPACITY, Inline, Kind, Meter,
-    Rc, RefMut, Room, Source, Unique, mutate,
+    Allocated, Appended, Backend, Block, Borrowed, Front, HipByt, INLINE_CAPACITY, Inline, Kind,
+    Length, Meter, Rc, RefMut, Room, Source, Start, Unique, mutate,
 };
 pub use hip_os_str::HipOsStr;
 pub use hip_path::HipPath;

@@ -1,19 +1,20 @@
 //! The lowest layer of hipstr: **an owner is a list of bytes and a capacity, and every byte that is copied is counted.**
 //!
-//! - [`Meter`] counts copied bytes. [`fill_counted`] copies them, all but those of a cloned [`Inline`], which is copied whole. By it [`extend_counted`] appends to a vector,
-//!   [`copy_counted`] and [`copy_with_capacity`] make one, and a [`Filling`] gathers many parts.
+//! - [`Meter`] counts copied bytes. [`fill_counted`] copies them, all but those of a cloned [`Inline`], which is copied whole. By it
+//!   [`extend_counted`] appends to a vector, [`copy_counted`] and [`copy_with_capacity`] make one, and a [`Filling`] gathers many
+//!   parts.
 //! - [`Backend`] is what an owner promises, to this crate and to any other implementor: [`Rc`], which many handles share, and
 //!   [`Unique`], which has one. A sole owner lends a [`Room`], an append answers [`Appended`], and a vector that was taken out
-//!   leaves a [`Block`].
-//! - [`Inline`], [`Borrowed`] and [`Allocated`] are the three representations of a byte string: in the handle itself, lent by
-//!   another value, or a range of an owner's list.
+//!   leaves a [`Block`]. Where a handle begins in its owner's list is a [`Start`], which takes no bytes where it is always the [`Front`].
+//! - [`Inline`], [`Borrowed`] and [`Allocated`] are the three representations of a byte string: in the handle itself, with a
+//!   [`Length`] that may be one byte, lent by another value, or a range of an owner's list.
 //!
 //! A call that copies has a form with the suffix `_metered` and a last argument `&mut Meter`; the plain call is that form with a fresh
 //! meter. A call that takes memory on some backend is passed the allocator first, and a refused one changes nothing. The calls of a
 //! [`Filling`] and those on vectors have the meter alone: they have no uncounted form, and the vector has its allocator.
 //!
 //! The words of the contracts stand in `specs/`: `Held` (what a contract sees of an owner and of an allocated handle), `Meter` (what is
-//! copied), `Window` (a part of a list), `Appended` (facts by the answer of an append), `Allocated` (what holds of a handle's range),
+//! copied, and what growth is paid by), `Window` (a part of a list), `Appended` (facts by the answer of an append), `Allocated` (what holds of a handle's range),
 //! `Block`, `Borrowed` and `Inline`.
 #![tactic(auto)]
 

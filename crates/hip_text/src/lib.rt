@@ -18,8 +18,8 @@ mod slice_error;
 pub use faults::{BytesFault, Utf16Fault};
 pub use from_utf8_error::FromUtf8Error;
 pub use hip_bytes::{
-    Allocated, Appended, Backend, Block, Borrowed, GrowFault, HipByt, INLINE_CAPACITY, Inline,
-    Kind, Meter, Rc, Room, Unique, copy_counted, fill_counted,
+    Allocated, Appended, Backend, Block, Borrowed, Front, GrowFault, HipByt, INLINE_CAPACITY,
+    Inline, Kind, Length, Meter, Rc, Room, Start, Unique, copy_counted, fill_counted,
 };
 pub use hip_str::HipStr;
 pub use ref_mut::{RefMut, TextSource, mutate, mutate_metered};

@@ -1,3 +1,4 @@
+pub mod Amortised
 pub mod Joins
 pub mod Parts
 pub mod Places

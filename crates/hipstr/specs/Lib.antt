@@ -1,3 +1,4 @@
+pub mod Amortised
 pub mod Cut
 pub mod Parts
 pub mod Slot

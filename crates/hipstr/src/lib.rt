@@ -27,8 +27,8 @@ mod text;
 pub use command::{Answer, Command, How, Pat, Reason, Side};
 pub use hip_match::draw::End;
 pub use hip_text::{
-    Allocated, Appended, Backend, Block, Borrowed, Inline, Kind, Meter, Rc, Room, Unique,
-    copy_counted, fill_counted,
+    Allocated, Appended, Backend, Block, Borrowed, Front, Inline, Kind, Length, Meter, Rc, Room,
+    Start, Unique, copy_counted, fill_counted,
 };
 pub use machine::run;
 pub use pool::{MAX_SLOTS, Pool, Slot};

@@ -1,5 +1,6 @@
-ghost use Rattle.std.specs.Prelude.{◌≡◌, ℕ, IfOk, OnErr};
+ghost use Rattle.std.specs.Prelude.{◌≡◌, ℕ, ◌+◌, false, IfOk, OnErr};
 ghost use Rattle.hip_bytes.specs.Meter.{RisesAtMost};
+ghost use Rattle.hipstr.specs.Amortised.{pots, PushesArePaid, RunAmortised};
 ghost use Rattle.hipstr.specs.Reason.{answer_of};
 ghost use Rattle.hipstr.specs.Step.{Step, Costs};
 ghost use Rattle.hipstr.specs.Run.{Run};
@@ -29,6 +30,7 @@ impl<'b, B: Backend> Pool<'b, B> {
     ) -> Result<Answer, Reason>
         ensures step { Step B.SHARES self.old command.entry (answer_of result) self.new }
         ensures counted { (cost : ℕ) × Costs B.SHARES self.old command.entry cost × RisesAtMost meter.old meter.new cost }
+        ensures paid { PushesArePaid B.SHARES self.old command.entry self.new meter.old meter.new }
     {
         match command {
             Command::New(t) => self.make_new(t),
@@ -85,6 +87,7 @@ pub fn run<'b, B: Backend>(
     meter: &mut Meter,
 ) -> Result<Vec<Answer>, AllocError>
     ensures run { IfOk result (λ answers. (total : ℕ) × Run B.SHARES pool.old commands.now answers.items pool.new total × RisesAtMost meter.old meter.new total) }
+    ensures amortised { B.SHARES ≡ false → IfOk result (λ answers. (total : ℕ) × RunAmortised B.SHARES pool.old commands.now answers.items pool.new total × RisesAtMost meter.old meter.new (pots pool.old + total)) }
     ensures err { OnErr result (pool.new ≡ pool.old) }
     ensures nothing_counted { OnErr result (meter.new ≡ meter.old) }
 {

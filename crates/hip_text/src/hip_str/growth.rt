@@ -30,7 +30,8 @@ impl<'b, B: Backend> HipStr<'b, B> {
         meter: &mut Meter,
     ) -> Result<(), AllocError>
         ensures push { PushAnswers B.SHARES self.old addition.now result self.new }
-        ensures counted { RisesAtMost meter.old meter.new (times_copied B.SHARES (length self.old.items + length addition.now)) }        ensures paid { PushIsPaid B.SHARES self.old self.new (length addition.now) meter.old meter.new }
+        ensures counted { RisesAtMost meter.old meter.new (times_copied B.SHARES (length self.old.items + length addition.now)) }
+        ensures paid { PushIsPaid B.SHARES self.old self.new (length addition.now) meter.old meter.new }
     {
         self.bytes
             .push_slice_metered(alloc, addition.as_bytes(), meter)
@@ -54,7 +55,8 @@ impl<'b, B: Backend> HipStr<'b, B> {
         meter: &mut Meter,
     ) -> Result<(), AllocError>
         ensures push { PushAnswers B.SHARES self.old (encode_utf8 c) result self.new }
-        ensures counted { RisesAtMost meter.old meter.new (times_copied B.SHARES (length self.old.items + length (encode_utf8 c))) }        ensures paid { PushIsPaid B.SHARES self.old self.new (length (encode_utf8 c)) meter.old meter.new }
+        ensures counted { RisesAtMost meter.old meter.new (times_copied B.SHARES (length self.old.items + length (encode_utf8 c))) }
+        ensures paid { PushIsPaid B.SHARES self.old self.new (length (encode_utf8 c)) meter.old meter.new }
     {
         let mut room = [0; 4];
         let bytes = c.encode_utf8(&mut room).as_bytes();

@@ -1,5 +1,6 @@
 //! Commands that change a slot's value at its end.
 ghost use Rattle.hip_bytes.specs.Meter.{RisesAtMost};
+ghost use Rattle.hipstr.specs.Amortised.{PushesArePaid};
 ghost use Rattle.hipstr.specs.declared.command.Command.{Command};
 ghost use Rattle.hipstr.specs.Reason.{answer_of};
 ghost use Rattle.hipstr.specs.Step.{Step, cost_of};
@@ -21,6 +22,7 @@ impl<'b, B: Backend> Pool<'b, B> {
     ) -> Result<Answer, Reason>
         ensures step { Step B.SHARES self.old (Command.Push t addition.entry) (answer_of result) self.new }
         ensures counted { RisesAtMost meter.old meter.new (cost_of B.SHARES self.old (Command.Push t addition.entry)) }
+        ensures paid { PushesArePaid B.SHARES self.old (Command.Push t addition.entry) self.new meter.old meter.new }
     {
         if t >= self.len() {
             return Err(Reason::NoSlot);

@@ -1,5 +1,6 @@
-use Rattle.std.proofs.Common.{◌≡◌, ◌≤◌, ℕ, length, take, vec_len, vec_capacity}
+use Rattle.std.proofs.Common.{◌≡◌, ◌+◌, ◌≤◌, ℕ, false, length, take, vec_len, vec_capacity}
 use Rattle.hip_bytes.specs.Meter.{RisesAtMost}
+use Rattle.hipstr.specs.Amortised.{pots, RunAmortised}
 use Rattle.hipstr.specs.Run.{Run}
 use Rattle.hipstr.proofs.machine.run.Given as goal
 
@@ -7,6 +8,7 @@ use Rattle.hipstr.proofs.machine.run.Given as goal
 abbrev pub invariant-loop-command : goal.invariant-loop-command
 invariant-loop-command g l = record {
   run : (total : ℕ) × Run g.B.Backend.SHARES l.fn.pool (take l.command-index l.commands) l.answers.items l.pool total × RisesAtMost l.fn.meter l.meter total;
+  amortised : g.B.Backend.SHARES ≡ false → (total : ℕ) × RunAmortised g.B.Backend.SHARES l.fn.pool (take l.command-index l.commands) l.answers.items l.pool total × (l.meter + pots l.pool ≤ l.fn.meter + pots l.fn.pool + total);
   answered : vec_len l.answers ≡ l.command-index;
   room : length l.commands ≤ vec_capacity l.answers;
 }

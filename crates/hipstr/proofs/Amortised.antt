@@ -1,0 +1,86 @@
+-- Lemmas on the amortised cost of runs.
+use Rattle.std.proofs.Common.{◌≡◌, ◌∙◌, ℕ, zero, suc, ◌+◌, ◌-◌, ◌*◌, ◌<◌, ◌≤◌, Bool, false, List, [], ◌∷◌, ◌++◌, length, take, get_or, slice_set, Option, Some, None, MatchOption, refl, ap, subst, sym, arith}
+use Rattle.std.proofs.lemmas.List.{set-set, take_more}
+use Rattle.hip_bytes.specs.Cost.{handle_pot, PushIsPaid}
+use Rattle.hip_bytes.specs.Handle.{Handle}
+use Rattle.hip_bytes.specs.Meter.{RisesAtMost}
+use Rattle.hip_bytes.specs.declared.kind.Kind.{Kind}
+use Rattle.hip_bytes.specs.declared.kind.Kind.TheVariants.{Inline, Borrowed, Allocated}
+use Rattle.hipstr.specs.Amortised.{added_to, pots, pushed_onto_owner, rises, CostsAmortised, PushesArePaid, RunAmortised}
+use Rattle.hipstr.specs.Slot.{SlotState, empty_slot, slot_at}
+use Rattle.hipstr.specs.Step.{Step, Costs}
+use Rattle.hipstr.specs.declared.command.Command.{Command}
+use Rattle.hipstr.specs.declared.command.Answer.{Answer}
+
+-- the pots grow by no more than they rise
+pub pots-rise : (old new : List SlotState) → pots new ≤ pots old + rises old new
+pots-rise old [] = omega arith
+pots-rise [] (after ∷ new) = omega (arith, pots-rise [] new)
+pots-rise (before ∷ old) (after ∷ new) = omega (arith, pots-rise old new)
+
+-- the pots where one slot is another
+pots-set : (slots : List SlotState) (i : ℕ) (slot : SlotState) → i < length slots → pots (slice_set slots i slot) + handle_pot (slot_at slots i) ≡ pots slots + handle_pot slot.handle
+pots-set [] i slot within = absurd (omega (arith, within))
+pots-set (s ∷ slots) zero slot within = omega arith
+pots-set (s ∷ slots) (suc i) slot within = omega (arith, pots-set slots i slot (omega (arith, within)))
+
+-- a push onto a slot that was taken out and put back
+pub pushed-put : (shares : Bool) (old mid new : List SlotState) (t : ℕ) (is_text : Bool) (was now : Handle) (added before after : ℕ)
+    → t < length old → was ≡ slot_at old t → mid ≡ slice_set old t empty_slot → new ≡ slice_set mid t (record { is_text = is_text; handle = now })
+    → PushIsPaid shares was now added before after
+    → shares ≡ false → MatchOption (added_to (slot_at old t).kind added) (Unit {0}) (λ n. after + pots new ≤ before + pots old + 3 * n)
+pushed-put shares old mid new t is_text was now added before after within is_was taken put paid unshared = by-kind (slot_at old t).kind (ap (λ (handle : Handle). handle.kind) is_was) where
+  slot : SlotState
+  slot = record { is_text = is_text; handle = now }
+
+  once : new ≡ slice_set old t slot
+  once = put ∙ ap (λ s. slice_set s t slot) taken ∙ set-set old t empty_slot slot
+
+  by-kind : (kind : Kind) → was.kind ≡ kind → MatchOption (added_to kind added) (Unit {0}) (λ n. after + pots new ≤ before + pots old + 3 * n)
+  by-kind Inline is = tt
+  by-kind Borrowed is = tt
+  by-kind Allocated is =
+      omega (arith, paid unshared is, pots-set old t slot within, ap pots once, ap handle_pot is_was)
+
+-- a command that changes nothing
+pub unchanged-paid : (pushed : Option ℕ) (old new : List SlotState) (before after : ℕ) → new ≡ old → after ≡ before
+    → MatchOption pushed (Unit {0}) (λ n. after + pots new ≤ before + pots old + 3 * n)
+unchanged-paid None old new before after same counted = tt
+unchanged-paid (Some n) old new before after same counted = omega (arith, ap pots same, counted)
+
+-- what a step adds to the amortised cost pays for what it copies and for the pots that it leaves
+pub step-paid : (shares : Bool) (old new : List SlotState) (command : Command) (before after cost : ℕ) → shares ≡ false
+    → PushesArePaid shares old command new before after → Costs shares old command cost → RisesAtMost before after cost
+    → (amortised : ℕ) × CostsAmortised shares old command new amortised × (after + pots new ≤ before + pots old + amortised)
+step-paid shares old new command before after cost unshared paid costs risen = by-pushed (pushed_onto_owner old command) (paid unshared) where
+  by-pushed : (pushed : Option ℕ) → MatchOption pushed (Unit {0}) (λ added. after + pots new ≤ before + pots old + 3 * added)
+      → (amortised : ℕ) × MatchOption pushed ((cost : ℕ) × Costs shares old command cost × (amortised ≡ cost + rises old new)) (λ added. amortised ≡ 3 * added)
+      × (after + pots new ≤ before + pots old + amortised)
+  by-pushed None paid = (cost + rises old new, (cost, costs, refl), omega (arith, risen.at_most, pots-rise old new))
+  by-pushed (Some added) paid = (3 * added, refl, paid)
+
+-- a run goes on by a step
+RunAmortised-append : (shares : Bool) (old mid new : List SlotState) (commands : List Command) (answers : List Answer) (total : ℕ) (command : Command) (answer : Answer)
+    (amortised : ℕ) → RunAmortised shares old commands answers mid total → Step shares mid command answer new → CostsAmortised shares mid command new amortised
+    → RunAmortised shares old (commands ++ command ∷ []) (answers ++ answer ∷ []) new (total + amortised)
+RunAmortised-append shares old mid new [] [] total command answer amortised run step costs =
+    subst (λ (slots : List SlotState). RunAmortised shares slots (command ∷ []) (answer ∷ []) new (total + amortised)) run.0
+    (new, amortised, 0, step, costs, (refl, refl), ap (λ n. n + amortised) run.1 ∙ omega arith)
+RunAmortised-append shares old mid new [] (a ∷ answers) total command answer amortised run step costs = absurd run
+RunAmortised-append shares old mid new (c ∷ commands) [] total command answer amortised run step costs = absurd run
+RunAmortised-append shares old mid new (c ∷ commands) (a ∷ answers) total command answer amortised run step costs = (
+  run.0,
+  run.1,
+  run.2 + amortised,
+  run.3,
+  run.4,
+  RunAmortised-append shares run.0 mid new commands answers run.2 command answer amortised run.5 step costs,
+  ap (λ n. n + amortised) run.6 ∙ omega arith,
+)
+
+-- a run over the commands before a position goes on by the command there
+pub RunAmortised-take_more : (shares : Bool) (old mid new : List SlotState) (commands : List Command) (i : ℕ) (default : Command) (answers more : List Answer) (total : ℕ) (answer : Answer) (amortised : ℕ)
+    → i < length commands → RunAmortised shares old (take i commands) answers mid total → Step shares mid (get_or commands i default) answer new → CostsAmortised shares mid (get_or commands i default) new amortised
+    → more ≡ answers ++ answer ∷ [] → RunAmortised shares old (take (i + 1) commands) more new (total + amortised)
+RunAmortised-take_more shares old mid new commands i default answers more total answer amortised within run step costs added =
+    rw (take_more commands i default within, added) (RunAmortised-append shares old mid new (take i commands) answers total (get_or commands i default) answer amortised run step costs)
