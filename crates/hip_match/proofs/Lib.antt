@@ -14,3 +14,6 @@ pub mod LawLemmas
 pub mod RightLawLemmas
 pub mod DecodeLemmas
 pub mod RunLemmas
+pub mod LaneLemmas
+pub mod MarkLemmas
+pub mod GapLemmas

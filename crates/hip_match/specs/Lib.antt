@@ -11,5 +11,6 @@ pub mod Trims
 pub mod Draw
 pub mod Joined
 pub mod Answers
+pub mod Marks
 pub mod Ready
 pub mod Rows

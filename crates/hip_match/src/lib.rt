@@ -1,6 +1,7 @@
 //! Finding text: patterns, and iterators over the ranges that they cut a text into.
 #![tactic(auto)]
 
+mod ascii_space;
 mod boundaries;
 mod chars;
 pub mod chosen;

@@ -1,12 +1,11 @@
 //! The runs of a text between white space.
 ghost use Rattle.std.specs.Prelude.{◌≡◌};
-ghost use Rattle.std.specs.Char.{is_whitespace, is_ascii_whitespace};
-ghost use Rattle.std.specs.Str.{IsCharBoundary};
-ghost use Rattle.hip_match.specs.Occurrence.{IsNextMatch};
+ghost use Rattle.std.specs.Char.{is_whitespace};
 ghost use Rattle.hip_match.specs.Characters.{char_ends};
 ghost use Rattle.hip_match.specs.CharLaws.{char_ends-spans, char_ends-one_start, char_ends-one_char};
 ghost use Rattle.hip_match.specs.Runs.{nonempty, split_whitespace, split_ascii_whitespace};
 
+use crate::ascii_space::AsciiGaps;
 use crate::chars::{CharSet, end_of, first_of, last_of, start_before};
 use crate::pattern::{DoubleEndedPattern, OneChar, Pattern, ReversePattern};
 use crate::ranges::{Ranges, RangesBack};
@@ -94,91 +93,6 @@ impl OneChar for WhiteSpace {
     ghost one_char = { λ _. char_ends-one_char is_whitespace };
 }
 
-// The first ASCII white space at or after `from`. No byte past ASCII is one, or a part of one.
-#[inline]
-fn first_ascii_space(text: &str, from: usize) -> Option<(usize, usize)>
-    requires { IsCharBoundary text.now from }
-    ensures { IsNextMatch (char_ends is_ascii_whitespace text.now) from result }
-{
-    let bytes = text.as_bytes();
-    for i in from..bytes.len() {
-        if bytes[i].is_ascii_whitespace() {
-            return Some((i, i + 1));
-        }
-    }
-    None
-}
-
-// The characters of ASCII white space: space, tab, line feed, form feed, carriage return.
-#[derive(Clone, Copy)]
-pub(crate) struct AsciiWhiteSpace;
-
-impl CharSet for AsciiWhiteSpace {
-    ghost belongs = { λ _. is_ascii_whitespace };
-
-    #[inline]
-    fn has(&self, c: char) -> bool {
-        c.is_ascii_whitespace()
-    }
-}
-
-impl Pattern for AsciiWhiteSpace {
-    type Searcher = ();
-
-    ghost ends = { λ _. char_ends is_ascii_whitespace };
-
-    #[inline]
-    fn searcher(&self) {}
-
-    #[inline]
-    fn next_match(&self, text: &str, from: usize) -> Option<(usize, usize)> {
-        first_ascii_space(text, from)
-    }
-
-    #[inline]
-    fn next_match_by(&self, _searcher: &(), text: &str, from: usize) -> Option<(usize, usize)> {
-        first_ascii_space(text, from)
-    }
-
-    #[inline]
-    fn match_at(&self, text: &str, at: usize) -> Option<usize> {
-        end_of(self, text, at)
-    }
-
-    ghost spans = { λ _. char_ends-spans is_ascii_whitespace };
-}
-
-impl ReversePattern for AsciiWhiteSpace {
-    #[inline]
-    fn reverse_searcher(&self) {}
-
-    #[inline]
-    fn last_match(&self, text: &str, to: usize) -> Option<(usize, usize)> {
-        last_of(self, text, to)
-    }
-
-    #[inline]
-    fn last_match_by(&self, _searcher: &(), text: &str, to: usize) -> Option<(usize, usize)> {
-        last_of(self, text, to)
-    }
-
-    #[inline]
-    fn match_before(&self, text: &str, to: usize) -> Option<usize> {
-        start_before(self, text, to)
-    }
-
-    ghost one_start = { λ _. char_ends-one_start is_ascii_whitespace };
-}
-
-impl OneChar for AsciiWhiteSpace {
-    #[inline]
-    fn ends_at(&self, text: &str, to: usize) -> bool {
-        self.match_before(text, to).is_some()
-    }
-
-    ghost one_char = { λ _. char_ends-one_char is_ascii_whitespace };
-}
-
 // The ranges that are not empty.
 #[derive(Clone, Drop)]
 struct Runs<R> {
@@ -260,7 +174,7 @@ impl<'h> RangesBack for SplitWhitespace<'h> {
 /// The longest runs of a text without ASCII white space, to which U+000B doesn't belong.
 #[derive(Clone, Drop)]
 pub struct SplitAsciiWhitespace<'h> {
-    runs: Runs<Split<'h, AsciiWhiteSpace>>,
+    runs: Runs<AsciiGaps<'h>>,
 }
 
 impl<'h> SplitAsciiWhitespace<'h> {
@@ -273,18 +187,18 @@ impl<'h> SplitAsciiWhitespace<'h> {
     {
         SplitAsciiWhitespace {
             runs: Runs {
-                ranges: Split::new(text, AsciiWhiteSpace),
+                ranges: AsciiGaps::new(text),
             },
         }
     }
 }
 
 impl<'h> Ranges for SplitAsciiWhitespace<'h> {
-    ghost ready = { λ s. ⟦<Runs<Split<'h, AsciiWhiteSpace>> as Ranges>⟧.ready s.runs };
+    ghost ready = { λ s. ⟦<Runs<AsciiGaps<'h>> as Ranges>⟧.ready s.runs };
 
-    ghost text = { λ s. ⟦<Runs<Split<'h, AsciiWhiteSpace>> as Ranges>⟧.text s.runs };
+    ghost text = { λ s. ⟦<Runs<AsciiGaps<'h>> as Ranges>⟧.text s.runs };
 
-    ghost rest = { λ s. ⟦<Runs<Split<'h, AsciiWhiteSpace>> as Ranges>⟧.rest s.runs };
+    ghost rest = { λ s. ⟦<Runs<AsciiGaps<'h>> as Ranges>⟧.rest s.runs };
 
     #[inline]
     fn next(&mut self) -> Option<(usize, usize)> {

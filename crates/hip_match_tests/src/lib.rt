@@ -19,6 +19,8 @@ mod cuts;
 #[cfg(test)]
 mod each_way;
 #[cfg(test)]
+mod lanes;
+#[cfg(test)]
 mod laws;
 #[cfg(test)]
 mod scripts;
