@@ -1,4 +1,5 @@
 pub mod Costs
+pub mod Forms
 pub mod Joins
 pub mod Repeats
 pub mod Slices

@@ -1,11 +1,14 @@
+pub mod Borsh
 pub mod Change
 pub mod Cost
+pub mod FormatFault
 pub mod Gathering
 pub mod GrowFault
 pub mod Handle
 pub mod Join
 pub mod Kinds
 pub mod Made
+pub mod Moved
 pub mod Range
 pub mod RefMut
 pub mod Repr
@@ -14,4 +17,7 @@ pub mod SliceError
 pub use Rattle.hip_raw.specs.Appended
 pub use Rattle.hip_raw.specs.Held
 pub use Rattle.hip_raw.specs.Meter
+pub use Rattle.hip_raw.specs.Sink
+pub use Rattle.hip_raw.specs.Sources
+pub use Rattle.hip_raw.specs.Transfer
 pub use Rattle.hip_raw.specs.Window

@@ -5,6 +5,7 @@ use crate::kind::{INLINE_CAPACITY, Kind};
 use hip_raw::{Allocated, Backend, Borrowed, Inline};
 use std::marker::Model;
 
+mod borsh;
 mod build;
 mod compare;
 mod convert;

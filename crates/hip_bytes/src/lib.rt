@@ -21,6 +21,7 @@
 //! memory), `Range`, `Slice` and `SliceError` (ranges and their faults), `Join` (joins and repetitions), `GrowFault` and `RefMut`.
 #![tactic(auto)]
 
+mod borsh_fault;
 mod gathering;
 mod grow_fault;
 mod hip_byt;
@@ -31,11 +32,17 @@ mod range;
 mod ref_mut;
 mod slice_error;
 
+pub use borsh_fault::BorshFault;
 pub use grow_fault::GrowFault;
 pub use hip_byt::HipByt;
 pub use hip_raw::{
+<<<<<<< HEAD
     Allocated, Appended, Backend, Block, Borrowed, Front, Inline, Length, Meter, Rc, Room, Start,
     Unique, copy_counted, fill_counted,
+=======
+    Allocated, Appended, Backend, Block, Borrowed, ByteSink, ByteSource, FromRead, Inline, IoFault,
+    Meter, Rc, Room, SliceSource, ToWrite, Unique, VecSink, copy_counted, fill_counted,
+>>>>>>> fd2c8dc9e62c568a0e0fd94e649237045b512435
 };
 pub use kind::{INLINE_CAPACITY, Kind};
 pub use piece::Piece;

@@ -6,4 +6,7 @@ pub mod Cells
 pub mod Held
 pub mod Inline
 pub mod Meter
+pub mod Sink
+pub mod Sources
+pub mod Transfer
 pub mod Window

@@ -30,6 +30,17 @@ impl Model for Filling {
 }
 
 impl Filling {
+    /// No bytes, and no room yet.
+    #[inline]
+    pub fn new(alloc: Global) -> Self
+        ensures { result.items ≡ [] }
+    {
+        Filling {
+            vec: Vec::new(alloc),
+            len: 0,
+        }
+    }
+
     /// No bytes, with room for `capacity`.
     #[inline]
     pub fn with_capacity(alloc: Global, capacity: usize) -> Result<Self, AllocError>

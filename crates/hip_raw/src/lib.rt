@@ -23,8 +23,11 @@ mod appended;
 mod backend;
 mod block;
 mod borrowed;
+mod byte_sink;
+mod byte_source;
 mod filling;
 mod inline;
+mod io_fault;
 mod meter;
 mod rc;
 mod room;
@@ -36,9 +39,12 @@ pub use appended::Appended;
 pub use backend::Backend;
 pub use block::Block;
 pub use borrowed::Borrowed;
+pub use byte_sink::{ByteSink, ToWrite, VecSink};
+pub use byte_source::{ByteSource, FromRead, SliceSource};
 pub use filling::Filling;
 pub use inline::Inline;
 pub use inline::length::{INLINE_CAPACITY, Length};
+pub use io_fault::IoFault;
 pub use meter::{
     Meter, copy_counted, copy_with_capacity, extend_counted, extend_within, fill_counted,
 };

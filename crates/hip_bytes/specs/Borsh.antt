@@ -1,0 +1,72 @@
+-- Borsh's form of a list of bytes, and what a call that writes or reads one may answer. (The specification at borsh.io: a `u32` is four
+-- bytes, the least first; a dynamic container is its length as a `u32` and then its items; a text's form is that of its bytes.)
+use Rattle.std.specs.Prelude.{◌≡◌, ℕ, ◌+◌, ◌-◌, ◌^◌, ◌<◌, ◌≤◌, ◌⊎◌, List, [], ◌∷◌, ◌++◌, length, Option, Result, Ok, Err, codes, refl}
+use Rattle.std.specs.Int.{w32, to_le_bytes, from_le_bytes}
+use Rattle.std.specs.Io.KnownBytes.{Appends, Consumes, IsAtEnd, Keeps}
+use Rattle.hip_raw.specs.Transfer.{one_more}
+use Rattle.hip_bytes.specs.Handle.{Handle}
+use Rattle.hip_bytes.specs.Kinds.{HoldsByLength}
+use Rattle.hip_bytes.specs.declared.borsh_fault.BorshFault.{BorshFault}
+use Rattle.hip_bytes.specs.declared.borsh_fault.BorshFault.TheVariants.{Memory, TooLong, Truncated, Io, NotUtf8}
+use Rattle.hip_bytes.specs.declared.kind.TheConstants.{INLINE_CAPACITY}
+
+-- the form of a list of fewer than 2^32 bytes
+abbrev pub borsh_form : List ℕ → List ℕ
+borsh_form items = to_le_bytes w32 (length items) ++ items
+
+-- how long the form is that begins with these bytes: four, and as many as these four say
+abbrev pub form_length : List ℕ → ℕ
+form_length bytes = 4 + from_le_bytes w32 bytes
+
+-- a beginning of a form that lacks a byte at least
+abbrev pub IsUnfinished : List ℕ → Type 0
+IsUnfinished bytes = length bytes < form_length bytes
+
+-- what a sink had and has, by the answer of a call that writes the form of a list: the whole form went there, or, where a write failed or
+-- took no byte, a beginning of it, or nothing, where the list is too long
+abbrev pub BorshWrites : {T : Type 0} → List ℕ → Option (List ℕ) → Option (List ℕ) → Result T BorshFault → Type 0
+BorshWrites items old new (Ok done) = (length items < 2 ^ 32) × Appends old new (borsh_form items)
+BorshWrites items old new (Err TooLong) = (2 ^ 32 ≤ length items) × Keeps old new
+BorshWrites items old new (Err Io) =
+    (length items < 2 ^ 32) × (front : List ℕ) × (rest : List ℕ) × (borsh_form items ≡ front ++ rest) × (0 < length rest) × Appends old new front
+BorshWrites items old new (Err Memory) = ⊥
+BorshWrites items old new (Err Truncated) = ⊥
+BorshWrites items old new (Err NotUtf8) = ⊥
+
+-- what a source had to come and has, by the answer of a call that reads a form: just the form was taken; or all that there was, a form that
+-- lacks a byte; or, where a read failed, such a beginning; or, where more bytes than a handle itself holds wanted memory, a beginning or
+-- the whole form
+abbrev pub BorshReads : Option (List ℕ) → Option (List ℕ) → Result Handle BorshFault → Type 0
+BorshReads old new (Ok handle) = (length handle.items < 2 ^ 32) × HoldsByLength handle handle.items × Consumes old new (borsh_form handle.items)
+BorshReads old new (Err Truncated) = (taken : List ℕ) × Consumes old new taken × IsUnfinished taken × IsAtEnd new
+BorshReads old new (Err Io) = (taken : List ℕ) × Consumes old new taken × IsUnfinished taken
+BorshReads old new (Err Memory) =
+    (taken : List ℕ) × Consumes old new taken × (length taken ≤ form_length taken) × (4 + INLINE_CAPACITY < form_length taken)
+BorshReads old new (Err TooLong) = ⊥
+BorshReads old new (Err NotUtf8) = ⊥
+
+-- how many reads have failed: Io tells of one that did, and of no other; any other answer tells that none did
+abbrev pub CountsReads : {T : Type 0} → Result T BorshFault → ℕ → ℕ → Type 0
+CountsReads (Ok done) old new = new ≡ old
+CountsReads (Err Io) old new = new ≡ one_more old
+CountsReads (Err Memory) old new = new ≡ old
+CountsReads (Err TooLong) old new = new ≡ old
+CountsReads (Err Truncated) old new = new ≡ old
+CountsReads (Err NotUtf8) old new = new ≡ old
+
+-- the same of writes, where Io may also tell of one that took no byte, as only a sink that is full does
+abbrev pub CountsWrites : {T : Type 0} → Result T BorshFault → Type 0 → ℕ → ℕ → Type 0
+CountsWrites (Err Io) Full old new = (new ≡ one_more old) ⊎ (Full × (new ≡ old))
+CountsWrites (Ok done) Full old new = new ≡ old
+CountsWrites (Err Memory) Full old new = new ≡ old
+CountsWrites (Err TooLong) Full old new = new ≡ old
+CountsWrites (Err Truncated) Full old new = new ≡ old
+CountsWrites (Err NotUtf8) Full old new = new ≡ old
+
+-- the form of `abc`
+pub three_bytes : borsh_form (codes "abc") ≡ 3 ∷ 0 ∷ 0 ∷ 0 ∷ 97 ∷ 98 ∷ 99 ∷ []
+three_bytes = refl
+
+-- a length of four gigabytes with one byte behind it
+pub far_from_whole : form_length (255 ∷ 255 ∷ 255 ∷ 255 ∷ 97 ∷ []) ≡ 4 + (2 ^ 32 - 1)
+far_from_whole = refl

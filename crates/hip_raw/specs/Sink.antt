@@ -1,0 +1,11 @@
+-- What clauses see of a sink that writes into a vector.
+use Rattle.std.specs.Prelude.{ℕ, List, []}
+
+-- the bytes written, and how many writes failed
+pub record Sink : Type 0 where
+  pub items : List ℕ
+  pub failures : ℕ
+
+-- nothing was written, and nothing failed
+abbrev pub unwritten : Sink
+unwritten = record { items = []; failures = 0 }
