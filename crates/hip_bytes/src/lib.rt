@@ -36,13 +36,9 @@ pub use borsh_fault::BorshFault;
 pub use grow_fault::GrowFault;
 pub use hip_byt::HipByt;
 pub use hip_raw::{
-<<<<<<< HEAD
-    Allocated, Appended, Backend, Block, Borrowed, Front, Inline, Length, Meter, Rc, Room, Start,
-    Unique, copy_counted, fill_counted,
-=======
-    Allocated, Appended, Backend, Block, Borrowed, ByteSink, ByteSource, FromRead, Inline, IoFault,
-    Meter, Rc, Room, SliceSource, ToWrite, Unique, VecSink, copy_counted, fill_counted,
->>>>>>> fd2c8dc9e62c568a0e0fd94e649237045b512435
+    Allocated, Appended, Backend, Block, Borrowed, ByteSink, ByteSource, FromRead, Front, Inline,
+    IoFault, Length, Meter, Rc, Room, SliceSource, Start, ToWrite, Unique, VecSink, copy_counted,
+    fill_counted,
 };
 pub use kind::{INLINE_CAPACITY, Kind};
 pub use piece::Piece;
