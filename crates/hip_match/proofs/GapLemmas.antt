@@ -1,17 +1,18 @@
 -- The parts of a text between its ASCII white space, from either end.
-use Rattle.std.proofs.Common.{◌≡◌, ℕ, ◌+◌, ◌<◌, ◌≤◌, List, [], ◌∷◌, ◌++◌, Option, Some, length, sym, ap, ◌∙◌, arith}
+use Rattle.std.proofs.Common.{◌≡◌, ℕ, ◌+◌, ◌-◌, ◌<◌, ◌≤◌, List, [], ◌∷◌, ◌++◌, Option, None, Some, refl, ap, ◌∙◌, arith}
 use Rattle.std.specs.Char.{is_ascii_whitespace}
 use Rattle.hip_match.specs.Characters.{char_ends}
 use Rattle.hip_match.specs.CharLaws.{char_ends-spans, char_ends-one_char}
-use Rattle.hip_match.specs.Leftmost.{leftmost_between}
-use Rattle.hip_match.specs.Marks.{NoSpace, IsNextSpace, IsLastSpace}
+use Rattle.hip_match.specs.Leftmost.{leftmost_between, end_within}
+use Rattle.hip_match.specs.Marks.{NoSpace, IsNextSpace, IsLastSpace, parts}
 use Rattle.hip_match.specs.Occurrence.{IsCut}
 use Rattle.hip_match.specs.Pieces.{gaps}
 use Rattle.hip_match.specs.Ready.{IsWindow}
-use Rattle.hip_match.proofs.LeftmostLemmas.{leftmost_between-some, leftmost_between-past, leftmost_between-none}
-use Rattle.hip_match.proofs.MarkLemmas.{starts_first, starts_nowhere, ends_last, ends_nowhere}
-use Rattle.hip_match.proofs.OneCharLemmas.{HasCharOccurrences, clear, back_match, back_none, back_past}
-use Rattle.hip_match.proofs.PiecesLemmas.{gaps-append}
+use Rattle.hip_match.specs.Runs.{nonempty}
+use Rattle.hip_match.proofs.LeftmostLemmas.{leftmost_between-some, leftmost_from-none, end_within-none, end_within-past}
+use Rattle.hip_match.proofs.MarkLemmas.{starts_first, ends_last, ends_behind}
+use Rattle.hip_match.proofs.OneCharLemmas.{HasCharOccurrences, back_match}
+use Rattle.hip_match.proofs.PiecesLemmas.{gaps-append, nonempty-kept, nonempty-dropped, nonempty-append_kept, nonempty-append_dropped}
 
 module _ (t : List ℕ) (from to : ℕ) (w : IsWindow t from to) where
   abbrev e : ℕ → Option ℕ
@@ -20,39 +21,43 @@ module _ (t : List ℕ) (from to : ℕ) (w : IsWindow t from to) where
   chars : HasCharOccurrences t e
   chars = record { spans = λ a b. char_ends-spans is_ascii_whitespace t a b w.utf8; one = λ a b. char_ends-one_char is_ascii_whitespace t a b w.utf8 }
 
-  abbrev parts : ℕ → ℕ → List (ℕ × ℕ)
-  parts i j = gaps i (leftmost_between e i j) j
-
-  pub space_cut : (at : ℕ) → e at ≡ Some (at + 1) → IsCut t (at, at + 1)
-  space_cut at is = chars.spans at (at + 1) is
-
   pub next_cut : (at : ℕ) → IsNextSpace t from at → IsCut t (at, at + 1)
-  next_cut at next = space_cut at (starts_first t w.utf8 from at next).occurs
+  next_cut at next = chars.spans at (at + 1) (starts_first t w.utf8 from at next).occurs
 
   pub last_cut : (at : ℕ) → IsLastSpace t to at → IsCut t (at, at + 1)
-  last_cut at last = space_cut at (ends_last t w.utf8 to at last).occurs
+  last_cut at last = chars.spans at (at + 1) (ends_last t w.utf8 to at last).occurs
 
-  pub first_part : (at after : ℕ) → IsNextSpace t from at → at < to → after ≡ at + 1 → parts from to ≡ (from, at) ∷ parts after to
-  first_part at after next lt is =
+  first_part : (at : ℕ) → IsNextSpace t from at → at < to → parts t from to ≡ (from, at) ∷ parts t (at + 1) to
+  first_part at next lt =
       ap (λ l. gaps from l to)
       (leftmost_between-some e from to at (at + 1) (at + 1) (starts_first t w.utf8 from at next) (omega arith) (omega arith) (omega arith) (omega arith) (omega arith) (λ k lo mid hi. absurd (omega arith)))
-      ∙ ap (λ k. (from, at) ∷ parts k to) (sym is)
 
-  pub only_part_before : (at : ℕ) → IsNextSpace t from at → to ≤ at → parts from to ≡ (from, to) ∷ []
-  only_part_before at next ge =
-      ap (λ l. gaps from l to) (leftmost_between-past e from to at (at + 1) (starts_first t w.utf8 from at next) (omega arith) (clear t e chars to w.end) (λ k m is. (chars.spans k m is).ordered))
-
-  pub only_part_to_end : NoSpace t from (length t) → parts from to ≡ (from, to) ∷ []
-  only_part_to_end none = ap (λ l. gaps from l to) (leftmost_between-none e from to (starts_nowhere t w.utf8 from none))
-
-  pub last_part : (at before : ℕ) → IsLastSpace t to at → from ≤ at → before ≡ at → parts from to ≡ parts from before ++ (at + 1, to) ∷ []
-  last_part at before last le is =
+  last_part : (at : ℕ) → IsLastSpace t to at → from ≤ at → parts t from to ≡ parts t from at ++ (at + 1, to) ∷ []
+  last_part at last le =
       ap (λ l. gaps from l to) (back_match t e chars from to w at (at + 1) (ends_last t w.utf8 to at last) le)
       ∙ gaps-append (leftmost_between e from at) from to (at, at + 1)
-      ∙ ap (λ k. parts from k ++ (at + 1, to) ∷ []) (sym is)
 
-  pub only_part_after : (at : ℕ) → IsLastSpace t to at → at < from → parts from to ≡ (from, to) ∷ []
-  only_part_after at last lt = ap (λ l. gaps from l to) (back_past t e chars from to w at (at + 1) (ends_last t w.utf8 to at last) lt)
+  quiet : NoSpace t from to → (k : ℕ) → from ≤ k → (o : Option ℕ) → e k ≡ o → end_within to (e k) ≡ None
+  quiet none k lo None is = end_within-none to (e k) is
+  quiet none k lo (Some m) is = end_within-past to m (e k) is (ends_behind t w.utf8 from to k m none is lo)
 
-  pub only_part_from_start : NoSpace t 0 to → parts from to ≡ (from, to) ∷ []
-  only_part_from_start none = ap (λ l. gaps from l to) (back_none t e chars from to w (ends_nowhere t w.utf8 to none))
+  only_part : NoSpace t from to → parts t from to ≡ (from, to) ∷ []
+  only_part none = ap (λ l. gaps from l to) (leftmost_from-none (λ k. end_within to (e k)) from (to + 1 - from) (λ k lo hi. quiet none k lo (e k) refl))
+
+  pub first_run : (at : ℕ) → IsNextSpace t from at → at < to → from < at → nonempty (parts t from to) ≡ (from, at) ∷ nonempty (parts t (at + 1) to)
+  first_run at next lt full = ap nonempty (first_part at next lt) ∙ nonempty-kept (from, at) (parts t (at + 1) to) full
+
+  pub first_empty : (at : ℕ) → IsNextSpace t from at → at < to → at ≤ from → nonempty (parts t from to) ≡ nonempty (parts t (at + 1) to)
+  first_empty at next lt empty = ap nonempty (first_part at next lt) ∙ nonempty-dropped (from, at) (parts t (at + 1) to) empty
+
+  pub last_run : (at : ℕ) → IsLastSpace t to at → from ≤ at → at + 1 < to → nonempty (parts t from to) ≡ nonempty (parts t from at) ++ (at + 1, to) ∷ []
+  last_run at last le full = nonempty-append_kept (parts t from to) (parts t from at) (at + 1, to) (last_part at last le) full
+
+  pub last_empty : (at : ℕ) → IsLastSpace t to at → from ≤ at → to ≤ at + 1 → nonempty (parts t from to) ≡ nonempty (parts t from at)
+  last_empty at last le empty = nonempty-append_dropped (parts t from to) (parts t from at) (at + 1, to) (last_part at last le) empty
+
+  pub only_run : NoSpace t from to → from < to → nonempty (parts t from to) ≡ (from, to) ∷ []
+  only_run none full = ap nonempty (only_part none) ∙ nonempty-kept (from, to) [] full
+
+  pub no_run : NoSpace t from to → to ≤ from → nonempty (parts t from to) ≡ []
+  no_run none empty = ap nonempty (only_part none) ∙ nonempty-dropped (from, to) [] empty

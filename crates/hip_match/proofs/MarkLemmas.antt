@@ -1,5 +1,5 @@
 -- Marks of ASCII white space: the bits of one number, and the white space that they tell.
-use Rattle.std.proofs.Common.{◌≡◌, ◌≢◌, ℕ, zero, suc, ◌+◌, ◌-◌, ◌*◌, ◌%◌, ◌^◌, ◌<◌, ◌≤◌, Bool, true, false, cond, List, Some, None, length, sym, ap, subst, ◌∙◌, arith, ⊎_elim, refl}
+use Rattle.std.proofs.Common.{◌≡◌, ◌≢◌, ℕ, zero, suc, ◌+◌, ◌-◌, ◌*◌, ◌%◌, ◌^◌, ◌<◌, ◌≤◌, Bool, true, false, cond, List, Some, length, sym, ap, subst, ◌∙◌, arith, ⊎_elim, refl}
 use Rattle.std.proofs.Math.Nat.{two-pow-succ, mod-eq_of_lt}
 use Rattle.std.proofs.Math.Pow.{pow-lt}
 use Rattle.std.proofs.lemmas.Bool.{cases_lt, cases_Bool, false≢true}
@@ -26,11 +26,11 @@ no : (b : Bool) (n : ℕ) → n ≡ cond b 1 0 → n ≡ 0 → b ≡ false
 no true n is none = absurd (omega arith)
 no false n is none = refl
 
-set : (b : Bool) (n : ℕ) → n ≡ cond b 1 0 → b ≡ true → n ≡ 1
-set b n is yes = is ∙ ap (λ c. cond c 1 0) yes
+set_bit : (b : Bool) (n : ℕ) → n ≡ cond b 1 0 → b ≡ true → n ≡ 1
+set_bit b n is yes = is ∙ ap (λ c. cond c 1 0) yes
 
-clear : (b : Bool) (n : ℕ) → n ≡ cond b 1 0 → b ≡ false → n ≡ 0
-clear b n is no = is ∙ ap (λ c. cond c 1 0) no
+clear_bit : (b : Bool) (n : ℕ) → n ≡ cond b 1 0 → b ≡ false → n ≡ 0
+clear_bit b n is no = is ∙ ap (λ c. cond c 1 0) no
 
 xor_same : (m r : ℕ) → bit_at m r ≡ 1 → bit_at (bit_xor m (2 ^ r)) r ≡ 0
 xor_same m r one = bit_at_xor m (2 ^ r) r ∙ omega (arith, one, bit_at-pow_same r)
@@ -43,8 +43,7 @@ highest : (m r : ℕ) → 2 ^ r ≤ m → m < 2 * 2 ^ r → (bit_at m r ≡ 1) �
 highest m r low high =
     let is : m ≡ 1 * 2 ^ r + (m - 2 ^ r) = omega arith in
     let under : m < 2 ^ suc r = omega (arith, two-pow-succ r) in
-    let none : r - r ≡ 0 = omega arith in
-    (
+    let none : r - r ≡ 0 = omega arith in (
       ap (λ x. bit_at x r) is ∙ bit_at_cat_high 1 r (m - 2 ^ r) r (omega arith) (omega arith) ∙ ap (λ i. bit_at 1 i) none,
       λ k above. bit_at_above m (suc r) k under (omega arith),
     )
@@ -102,8 +101,7 @@ module _ (t : List ℕ) where
         let first = bit_at-trailing_zeros w64 m (omega arith) fits in
         let inside : r < 64 = first.0 in
         let after : from ≤ block + r =
-        ⊎_elim (λ (lt : block + r < from). absurd (omega (arith, first.1, h.taken r inside lt))) (λ (ge : from ≤ block + r). ge) (cases_lt (block + r) from) in
-        (
+        ⊎_elim (λ (lt : block + r < from). absurd (omega (arith, first.1, h.taken r inside lt))) (λ (ge : from ≤ block + r). ge) (cases_lt (block + r) from) in (
           inside,
           record {
             after = after;
@@ -130,16 +128,16 @@ module _ (t : List ℕ) where
         let r = at - block in
         let back : block + r ≡ at = omega arith in
         let after = next.after in
-        let one : bit_at m r ≡ 1 = set _ _ (h.left r (omega arith) (omega arith)) (ap (is_space t) back ∙ next.is) in
+        let one : bit_at m r ≡ 1 = set_bit _ _ (h.left r (omega arith) (omega arith)) (ap (is_space t) back ∙ next.is) in
         record {
           within = h.within;
           reached = omega arith;
           between = λ k lo hi. absurd (omega arith);
           taken = λ k low before. ⊎_elim
               (λ (lt : k < r). xor_other m r k (λ e. omega arith)
-                  ∙ ⊎_elim (λ (gone : block + k < from). h.taken k low gone)
-                  (λ (ge : from ≤ block + k). clear _ _ (h.left k low ge) (next.first (block + k) ge (omega arith)))
-                  (cases_lt (block + k) from))
+              ∙ ⊎_elim (λ (gone : block + k < from). h.taken k low gone)
+              (λ (ge : from ≤ block + k). clear_bit _ _ (h.left k low ge) (next.first (block + k) ge (omega arith)))
+              (cases_lt (block + k) from))
               (λ (ge : r ≤ k). let same : k ≡ r = omega arith in ap (bit_at (bit_xor m (2 ^ r))) same ∙ xor_same m r one)
               (cases_lt k r);
           left = λ k low ge. xor_other m r k (λ e. omega arith) ∙ h.left k low (omega arith);
@@ -187,7 +185,7 @@ module _ (t : List ℕ) where
           within = omega arith;
           reached = λ k lo hi. h.reached k lo (omega arith);
           between = λ k lo hi. back_none none k (omega arith) hi;
-          taken = λ k low past. clear _ _ (marks k low) (h.reached (64 * fewer + k) past (omega arith));
+          taken = λ k low past. clear_bit _ _ (marks k low) (h.reached (64 * fewer + k) past (omega arith));
           left = λ k low before. marks k low;
         }
 
@@ -196,20 +194,30 @@ module _ (t : List ℕ) where
         let r = at - 64 * blocks in
         let back : 64 * blocks + r ≡ at = omega arith in
         let before = last.before in
-        let one : bit_at m r ≡ 1 = set _ _ (h.left r (omega arith) (omega arith)) (ap (is_space t) back ∙ last.is) in
+        let one : bit_at m r ≡ 1 = set_bit _ _ (h.left r (omega arith) (omega arith)) (ap (is_space t) back ∙ last.is) in
         record {
           within = h.within;
           reached = λ k lo hi. absurd (omega arith);
           between = λ k lo hi. absurd (omega arith);
           taken = λ k low past. ⊎_elim
               (λ (gt : r < k). xor_other m r k (λ e. omega arith)
-                  ∙ ⊎_elim (λ (lt : 64 * blocks + k < to). clear _ _ (h.left k low lt) (last.last (64 * blocks + k) (omega arith) lt))
-                  (λ (gone : to ≤ 64 * blocks + k). h.taken k low gone)
-                  (cases_lt (64 * blocks + k) to))
+              ∙ ⊎_elim (λ (lt : 64 * blocks + k < to). clear_bit _ _ (h.left k low lt) (last.last (64 * blocks + k) (omega arith) lt))
+              (λ (gone : to ≤ 64 * blocks + k). h.taken k low gone)
+              (cases_lt (64 * blocks + k) to))
               (λ (le : k ≤ r). let same : k ≡ r = omega arith in ap (bit_at (bit_xor m (2 ^ r))) same ∙ xor_same m r one)
               (cases_lt r k);
           left = λ k low lt. xor_other m r k (λ e. omega arith) ∙ h.left k low (omega arith);
         }
+
+  -- where no white space is left, the end may move to the front
+  pub back_closed : (from to blocks m : ℕ) → from ≤ to → NoSpace t from to → AreBackMarks t to blocks m → AreBackMarks t from blocks m
+  back_closed from to blocks m le clear h = record {
+    within = h.within;
+    reached = λ k lo hi. ⊎_elim (λ (lt : k < to). clear k lo lt) (λ (ge : to ≤ k). h.reached k ge hi) (cases_lt k to);
+    between = λ k lo hi. h.between k lo (omega arith);
+    taken = λ k low past. ⊎_elim (λ (lt : 64 * blocks + k < to). clear_bit _ _ (h.left k low lt) (clear (64 * blocks + k) past lt)) (λ (ge : to ≤ 64 * blocks + k). h.taken k low ge) (cases_lt (64 * blocks + k) to);
+    left = λ k low before. h.left k low (omega arith);
+  }
 
   -- no mark yet, behind the text
   pub back_new : (blocks : ℕ) → length t ≤ 64 * blocks → 64 * blocks < length t + 64 → AreBackMarks t (length t) blocks 0
@@ -238,10 +246,6 @@ module _ (t : List ℕ) where
       first = λ k lo hi. ascii_space-none t k utf8 (next.first k lo hi);
     }
 
-    pub starts_nowhere : (from : ℕ) → NoSpace t from (length t) → (k : ℕ) → from ≤ k → char_ends is_ascii_whitespace t k ≡ None
-    starts_nowhere from none k lo =
-        ascii_space-none t k utf8 (⊎_elim (λ (lt : k < length t). none k lo lt) (λ (ge : length t ≤ k). space_past k ge) (cases_lt k (length t)))
-
     pub ends_last : (to at : ℕ) → IsLastSpace t to at → EndsLast (char_ends is_ascii_whitespace t) to (at, at + 1)
     ends_last to at last =
         let before = last.before in
@@ -254,8 +258,9 @@ module _ (t : List ℕ) where
               ⊎_elim (λ (inside : a < to). absurd (false≢true (sym (last.last a (omega arith) inside) ∙ one.0))) (λ (ge : to ≤ a). omega arith) (cases_lt a to);
         }
 
-    pub ends_nowhere : (to : ℕ) → NoSpace t 0 to → (a b : ℕ) → char_ends is_ascii_whitespace t a ≡ Some b → to < b
-    ends_nowhere to none a b is =
+    -- what begins where no white space is ends behind it
+    pub ends_behind : (from to a b : ℕ) → NoSpace t from to → char_ends is_ascii_whitespace t a ≡ Some b → from ≤ a → to < b
+    ends_behind from to a b none is le =
         let one = space_of a b is in
         let end = one.1 in
-        ⊎_elim (λ (inside : a < to). absurd (false≢true (sym (none a (omega arith) inside) ∙ one.0))) (λ (ge : to ≤ a). omega arith) (cases_lt a to)
+        ⊎_elim (λ (inside : a < to). absurd (false≢true (sym (none a le inside) ∙ one.0))) (λ (ge : to ≤ a). omega arith) (cases_lt a to)

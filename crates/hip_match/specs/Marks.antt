@@ -2,6 +2,9 @@
 use Rattle.std.specs.Prelude.{◌≡◌, ℕ, ◌+◌, ◌*◌, ◌<◌, ◌≤◌, Bool, true, false, List, length, slice_index, if◌then◌else◌}
 use Rattle.std.specs.Char.{is_ascii_whitespace}
 use Rattle.std.specs.Int.{bit_at}
+use Rattle.hip_match.specs.Characters.{char_ends}
+use Rattle.hip_match.specs.Leftmost.{leftmost_between}
+use Rattle.hip_match.specs.Pieces.{gaps}
 
 -- the byte at i is ASCII white space; none stands past the end
 abbrev pub is_space : List ℕ → ℕ → Bool
@@ -14,6 +17,10 @@ NoSpace text i j = (k : ℕ) → i ≤ k → k < j → is_space text k ≡ false
 -- bit k says so of the byte at `at + k`
 abbrev pub AreMarks : List ℕ → ℕ → ℕ → Type 0
 AreMarks text at marks = (k : ℕ) → k < 64 → bit_at marks k ≡ (if is_space text (at + k) then 1 else 0)
+
+-- the parts from `from` up to `to` between ASCII white space
+abbrev pub parts : List ℕ → ℕ → ℕ → List (ℕ × ℕ)
+parts text from to = gaps from (leftmost_between (char_ends is_ascii_whitespace text) from to) to
 
 -- the first white space at or after `from`
 pub record IsNextSpace (text : List ℕ) (from at : ℕ) : Type 0 where

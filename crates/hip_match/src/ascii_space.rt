@@ -1,11 +1,9 @@
 //! ASCII white space, found 64 bytes at a time.
-ghost use Rattle.std.specs.Prelude.{◌≡◌, ℕ, ◌+◌, ◌*◌, ◌<◌, ◌≤◌, [], true, length, IfSome, MatchOption, if◌then◌else◌};
-ghost use Rattle.std.specs.Char.{is_ascii_whitespace};
-ghost use Rattle.hip_match.specs.Characters.{char_ends};
-ghost use Rattle.hip_match.specs.Leftmost.{leftmost_between};
-ghost use Rattle.hip_match.specs.Pieces.{split, gaps};
-ghost use Rattle.hip_match.specs.Marks.{is_space, NoSpace, AreMarks, IsNextSpace, IsLastSpace, AreFrontMarks, AreBackMarks};
+ghost use Rattle.std.specs.Prelude.{◌≡◌, ◌+◌, ◌*◌, ◌<◌, ◌≤◌, [], ◌∷◌, length, IfSome, MatchOption};
+ghost use Rattle.hip_match.specs.Marks.{NoSpace, AreMarks, IsNextSpace, IsLastSpace, AreFrontMarks, AreBackMarks, parts};
+ghost use Rattle.hip_match.specs.Occurrence.{IsCut};
 ghost use Rattle.hip_match.specs.Ready.{IsWindow};
+ghost use Rattle.hip_match.specs.Runs.{nonempty, split_ascii_whitespace};
 
 use crate::ranges::{Ranges, RangesBack};
 use std::simd::prelude::*;
@@ -20,7 +18,8 @@ fn block_marks(bytes: &[u8], at: usize) -> u64
 {
     let lanes = u8x64::from_slice(&bytes[at..]);
     // From tab, 9, to carriage return, 13, but for the vertical tab.
-    let is_break = (lanes - u8x64::splat(9)).simd_lt(u8x64::splat(5)) & lanes.simd_ne(u8x64::splat(11));
+    let is_break = (lanes - u8x64::splat(9)).simd_lt(u8x64::splat(5))
+        & lanes.simd_ne(u8x64::splat(11));
     (is_break | lanes.simd_eq(u8x64::splat(b' '))).to_bitmask()
 }
 
@@ -72,11 +71,12 @@ impl FrontMarks {
         }
     }
 
-    // The next white space, which isn't passed.
+    // The next white space before `to`, which isn't passed.
     #[inline(always)]
-    fn next(&mut self, bytes: &[u8]) -> Option<usize>
-        requires { AreFrontMarks bytes.now self.old.from self.old.block self.old.marks }
-        ensures next { MatchOption result (NoSpace bytes.now self.old.from (length bytes.now)) (IsNextSpace bytes.now self.old.from) }
+    fn next(&mut self, bytes: &[u8], to: usize) -> Option<usize>
+        requires marks { AreFrontMarks bytes.now self.old.from self.old.block self.old.marks }
+        requires within { to ≤ length bytes.now }
+        ensures next { MatchOption result (NoSpace bytes.now self.old.from to) (λ at. IsNextSpace bytes.now self.old.from at × (at < to)) }
         ensures in_block { IfSome result (λ at. (self.new.block ≤ at) × (at < self.new.block + 64)) }
         ensures from { self.new.from ≡ self.old.from }
         ensures marks { AreFrontMarks bytes.now self.new.from self.new.block self.new.marks }
@@ -85,6 +85,8 @@ impl FrontMarks {
         let mut marks = self.marks;
         while marks == 0 {
             if bytes.len() - block <= LANES {
+                self.block = block;
+                self.marks = marks;
                 return None;
             }
             block += LANES;
@@ -92,7 +94,8 @@ impl FrontMarks {
         }
         self.block = block;
         self.marks = marks;
-        Some(block + marks.trailing_zeros() as usize)
+        let at = block + marks.trailing_zeros() as usize;
+        if at < to { Some(at) } else { None }
     }
 
     // Passes the white space at `at`.
@@ -131,11 +134,11 @@ impl BackMarks {
         }
     }
 
-    // The last white space, which isn't passed.
+    // The last white space at or after `from`, which isn't passed.
     #[inline(always)]
-    fn last(&mut self, bytes: &[u8]) -> Option<usize>
+    fn last(&mut self, bytes: &[u8], from: usize) -> Option<usize>
         requires { AreBackMarks bytes.now self.old.to self.old.blocks self.old.marks }
-        ensures last { MatchOption result (NoSpace bytes.now 0 self.old.to) (IsLastSpace bytes.now self.old.to) }
+        ensures last { MatchOption result (NoSpace bytes.now from self.old.to) (λ at. IsLastSpace bytes.now self.old.to at × (from ≤ at)) }
         ensures in_block { IfSome result (λ at. (64 * self.new.blocks ≤ at) × (at < 64 * self.new.blocks + 64)) }
         ensures to { self.new.to ≡ self.old.to }
         ensures marks { AreBackMarks bytes.now self.new.to self.new.blocks self.new.marks }
@@ -144,6 +147,8 @@ impl BackMarks {
         let mut marks = self.marks;
         while marks == 0 {
             if blocks == 0 {
+                self.blocks = blocks;
+                self.marks = marks;
                 return None;
             }
             blocks -= 1;
@@ -151,7 +156,8 @@ impl BackMarks {
         }
         self.blocks = blocks;
         self.marks = marks;
-        Some(LANES * blocks + marks.ilog2() as usize)
+        let at = LANES * blocks + marks.ilog2() as usize;
+        if from <= at { Some(at) } else { None }
     }
 
     // Passes the white space at `at`.
@@ -168,79 +174,86 @@ impl BackMarks {
     }
 }
 
-/// The parts of a text between its ASCII white space, one more than there is of it.
+/// The longest runs of a text without ASCII white space.
 #[derive(Clone, Drop)]
-pub(crate) struct AsciiGaps<'h> {
+pub(crate) struct AsciiRuns<'h> {
     text: &'h str,
     front: FrontMarks,
     back: BackMarks,
-    done: bool,
 }
 
-impl<'h> AsciiGaps<'h> {
-    /// The parts of `text` between its ASCII white space.
+impl<'h> AsciiRuns<'h> {
+    /// The runs of `text` between ASCII white space.
     #[inline]
     pub(crate) fn new(text: &'h str) -> Self
-        ensures ready { ⟦<AsciiGaps<'h> as Ranges>⟧.ready result }
-        ensures text { ⟦<AsciiGaps<'h> as Ranges>⟧.text result ≡ text.now }
-        ensures rest { ⟦<AsciiGaps<'h> as Ranges>⟧.rest result ≡ split (char_ends is_ascii_whitespace text.now) (length text.now) }
+        ensures ready { ⟦<AsciiRuns<'h> as Ranges>⟧.ready result }
+        ensures text { ⟦<AsciiRuns<'h> as Ranges>⟧.text result ≡ text.now }
+        ensures rest { ⟦<AsciiRuns<'h> as Ranges>⟧.rest result ≡ split_ascii_whitespace text.now }
     {
         let bytes = text.as_bytes();
-        AsciiGaps {
+        AsciiRuns {
             text,
             front: FrontMarks::new(bytes),
             back: BackMarks::new(bytes),
-            done: false,
+        }
+    }
+
+    // What is left, where it holds no white space: one run, or nothing.
+    #[inline]
+    fn take_rest(&mut self) -> Option<(usize, usize)>
+        requires ready { ⟦<AsciiRuns<'h> as Ranges>⟧.ready self.old }
+        requires clear { NoSpace self.old.text.now self.old.front.from self.old.back.to }
+        ensures only { MatchOption result (⟦<AsciiRuns<'h> as Ranges>⟧.rest self.old ≡ []) (λ r. ⟦<AsciiRuns<'h> as Ranges>⟧.rest self.old ≡ r ∷ []) }
+        ensures rest { ⟦<AsciiRuns<'h> as Ranges>⟧.rest self.new ≡ [] }
+        ensures cut { IfSome result (IsCut self.old.text.now) }
+        ensures text { self.new.text.now ≡ self.old.text.now }
+        ensures ready { ⟦<AsciiRuns<'h> as Ranges>⟧.ready self.new }
+    {
+        let start = self.front.from;
+        let end = self.back.to;
+        self.back.to = start;
+        if start < end {
+            Some((start, end))
+        } else {
+            None
         }
     }
 }
 
-impl<'h> Ranges for AsciiGaps<'h> {
+impl<'h> Ranges for AsciiRuns<'h> {
     ghost ready = { λ s. IsWindow s.text.now s.front.from s.back.to
         × AreFrontMarks s.text.now s.front.from s.front.block s.front.marks
         × AreBackMarks s.text.now s.back.to s.back.blocks s.back.marks };
 
     ghost text = { λ s. s.text.now };
 
-    ghost rest = { λ s. if s.done then [] else gaps s.front.from (leftmost_between (char_ends is_ascii_whitespace s.text.now) s.front.from s.back.to) s.back.to };
+    ghost rest = { λ s. nonempty (parts s.text.now s.front.from s.back.to) };
 
     #[inline(always)]
     fn next(&mut self) -> Option<(usize, usize)> {
-        if self.done {
-            return None;
-        }
         let bytes = self.text.as_bytes();
-        let start = self.front.from;
-        match self.front.next(bytes) {
-            Some(at) if at < self.back.to => {
-                self.front.pass(bytes, at);
-                Some((start, at))
-            }
-            _ => {
-                self.done = true;
-                Some((start, self.back.to))
+        while let Some(at) = self.front.next(bytes, self.back.to) {
+            let start = self.front.from;
+            self.front.pass(bytes, at);
+            if start < at {
+                return Some((start, at));
             }
         }
+        self.take_rest()
     }
 }
 
-impl<'h> RangesBack for AsciiGaps<'h> {
+impl<'h> RangesBack for AsciiRuns<'h> {
     #[inline(always)]
     fn next_back(&mut self) -> Option<(usize, usize)> {
-        if self.done {
-            return None;
-        }
         let bytes = self.text.as_bytes();
-        let end = self.back.to;
-        match self.back.last(bytes) {
-            Some(at) if self.front.from <= at => {
-                self.back.pass(bytes, at);
-                Some((at + 1, end))
-            }
-            _ => {
-                self.done = true;
-                Some((self.front.from, end))
+        while let Some(at) = self.back.last(bytes, self.front.from) {
+            let end = self.back.to;
+            self.back.pass(bytes, at);
+            if at + 1 < end {
+                return Some((at + 1, end));
             }
         }
+        self.take_rest()
     }
 }

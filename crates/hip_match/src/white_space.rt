@@ -5,7 +5,7 @@ ghost use Rattle.hip_match.specs.Characters.{char_ends};
 ghost use Rattle.hip_match.specs.CharLaws.{char_ends-spans, char_ends-one_start, char_ends-one_char};
 ghost use Rattle.hip_match.specs.Runs.{nonempty, split_whitespace, split_ascii_whitespace};
 
-use crate::ascii_space::AsciiGaps;
+use crate::ascii_space::AsciiRuns;
 use crate::chars::{CharSet, end_of, first_of, last_of, start_before};
 use crate::pattern::{DoubleEndedPattern, OneChar, Pattern, ReversePattern};
 use crate::ranges::{Ranges, RangesBack};
@@ -174,7 +174,7 @@ impl<'h> RangesBack for SplitWhitespace<'h> {
 /// The longest runs of a text without ASCII white space, to which U+000B doesn't belong.
 #[derive(Clone, Drop)]
 pub struct SplitAsciiWhitespace<'h> {
-    runs: Runs<AsciiGaps<'h>>,
+    runs: AsciiRuns<'h>,
 }
 
 impl<'h> SplitAsciiWhitespace<'h> {
@@ -186,19 +186,17 @@ impl<'h> SplitAsciiWhitespace<'h> {
         ensures rest { ⟦<SplitAsciiWhitespace<'h> as Ranges>⟧.rest result ≡ split_ascii_whitespace text.now }
     {
         SplitAsciiWhitespace {
-            runs: Runs {
-                ranges: AsciiGaps::new(text),
-            },
+            runs: AsciiRuns::new(text),
         }
     }
 }
 
 impl<'h> Ranges for SplitAsciiWhitespace<'h> {
-    ghost ready = { λ s. ⟦<Runs<AsciiGaps<'h>> as Ranges>⟧.ready s.runs };
+    ghost ready = { λ s. ⟦<AsciiRuns<'h> as Ranges>⟧.ready s.runs };
 
-    ghost text = { λ s. ⟦<Runs<AsciiGaps<'h>> as Ranges>⟧.text s.runs };
+    ghost text = { λ s. ⟦<AsciiRuns<'h> as Ranges>⟧.text s.runs };
 
-    ghost rest = { λ s. ⟦<Runs<AsciiGaps<'h>> as Ranges>⟧.rest s.runs };
+    ghost rest = { λ s. ⟦<AsciiRuns<'h> as Ranges>⟧.rest s.runs };
 
     #[inline]
     fn next(&mut self) -> Option<(usize, usize)> {

@@ -1,3 +1,4 @@
+pub mod Alike
 pub mod Allocated
 pub mod Appended
 pub mod Block

@@ -7,6 +7,7 @@ ghost use Rattle.hip_raw.specs.Held.{held_items, held_capacity, OwnAnswers};
 ghost use Rattle.hip_raw.specs.Meter.{RisesAtMost, pot, times_copied, unless_shared};
 
 use crate::appended::Appended;
+use crate::ascii_case::{make_ascii_lowercase, make_ascii_uppercase};
 use crate::backend::Backend;
 use crate::block::Block;
 use crate::meter::{Meter, copy_counted, copy_with_capacity};
@@ -328,7 +329,7 @@ impl<B: Backend> Allocated<B> {
         ensures capacity { self.new.capacity ≡ self.old.capacity }
         ensures sole { B.SHARES ≡ false → result ≡ true }
     {
-        self.with_mut_slice(|bytes| bytes.make_ascii_lowercase())
+        self.with_mut_slice(|bytes| make_ascii_lowercase(bytes))
             .is_ok()
     }
 
@@ -340,7 +341,7 @@ impl<B: Backend> Allocated<B> {
         ensures capacity { self.new.capacity ≡ self.old.capacity }
         ensures sole { B.SHARES ≡ false → result ≡ true }
     {
-        self.with_mut_slice(|bytes| bytes.make_ascii_uppercase())
+        self.with_mut_slice(|bytes| make_ascii_uppercase(bytes))
             .is_ok()
     }
 

@@ -8,23 +8,27 @@
 //!   leaves a [`Block`]. Where a handle begins in its owner's list is a [`Start`], which takes no bytes where it is always the [`Front`].
 //! - [`Inline`], [`Borrowed`] and [`Allocated`] are the three representations of a byte string: in the handle itself, with a
 //!   [`Length`] that may be one byte, lent by another value, or a range of an owner's list.
+//! - [`equal`] and [`order`] are `==` and `cmp` of bytes, [`make_ascii_lowercase`] and [`make_ascii_uppercase`] move ASCII letters in
+//!   place: each by blocks of up to 64 bytes.
 //!
 //! A call that copies has a form with the suffix `_metered` and a last argument `&mut Meter`; the plain call is that form with a fresh
 //! meter. A call that takes memory on some backend is passed the allocator first, and a refused one changes nothing. The calls of a
 //! [`Filling`] and those on vectors have the meter alone: they have no uncounted form, and the vector has its allocator.
 //!
 //! The words of the contracts stand in `specs/`: `Held` (what a contract sees of an owner and of an allocated handle), `Meter` (what is
-//! copied, and what growth is paid by), `Window` (a part of a list), `Appended` (facts by the answer of an append), `Allocated` (what holds of a handle's range),
-//! `Block`, `Borrowed` and `Inline`.
+//! copied, and what growth is paid by), `Window` (a part of a list), `Appended` (facts by the answer of an append), `Allocated` (what
+//! holds of a handle's range), `Block`, `Borrowed` and `Inline`, and `Alike` (where two lists have the same bytes).
 #![tactic(auto)]
 
 mod allocated;
 mod appended;
+mod ascii_case;
 mod backend;
 mod block;
 mod borrowed;
 mod byte_sink;
 mod byte_source;
+mod compare;
 mod filling;
 mod inline;
 mod io_fault;
@@ -36,11 +40,13 @@ mod unique;
 
 pub use allocated::Allocated;
 pub use appended::Appended;
+pub use ascii_case::{make_ascii_lowercase, make_ascii_uppercase};
 pub use backend::Backend;
 pub use block::Block;
 pub use borrowed::Borrowed;
 pub use byte_sink::{ByteSink, ToWrite, VecSink};
 pub use byte_source::{ByteSource, FromRead, SliceSource};
+pub use compare::{equal, order};
 pub use filling::Filling;
 pub use inline::Inline;
 pub use inline::length::{INLINE_CAPACITY, Length};

@@ -8,7 +8,7 @@ ghost use Rattle.std.specs.Cmp.Rules.{hashing};
 ghost use Rattle.std.proofs.Common.{rules};
 
 use super::HipByt;
-use hip_raw::Backend;
+use hip_raw::{Backend, equal, order};
 use std::cmp::Ordering;
 use std::fmt;
 use std::hash::{Hash, Hasher};
@@ -19,7 +19,7 @@ impl<'b, B: Backend> HipByt<'b, B> {
     pub fn eq_slice(&self, other: &[u8]) -> bool
         ensures { IsTrue result ↔ (self.now.items ≡ other.now) }
     {
-        self.as_slice() == other
+        equal(self.as_slice(), other)
     }
 
     /// How the bytes stand to these, in the order of their numbers.
@@ -27,7 +27,7 @@ impl<'b, B: Backend> HipByt<'b, B> {
     pub fn cmp_slice(&self, other: &[u8]) -> Ordering
         ensures { result ≡ slice_cmp nat_cmp self.now.items other.now }
     {
-        self.as_slice().cmp(other)
+        order(self.as_slice(), other)
     }
 
     /// Whether the bytes are those of a value on another backend.
@@ -54,7 +54,7 @@ impl<'b, B: Backend> PartialEq for HipByt<'b, B> {
 
     #[inline(always)]
     fn eq(&self, other: &Self) -> bool {
-        self.as_slice() == other.as_slice()
+        equal(self.as_slice(), other.as_slice())
     }
 }
 
@@ -84,7 +84,7 @@ impl<'b, B: Backend> Ord for HipByt<'b, B> {
 
     #[inline(always)]
     fn cmp(&self, other: &Self) -> Ordering {
-        self.as_slice().cmp(other.as_slice())
+        order(self.as_slice(), other.as_slice())
     }
 }
 

@@ -11,7 +11,9 @@ ghost use Rattle.hip_bytes.specs.Made.{CopyAnswers};
 
 use super::{Bare, HipByt, Repr};
 use crate::kind::{INLINE_CAPACITY, Kind};
-use hip_raw::{Allocated, Backend, Inline, Meter, copy_counted};
+use hip_raw::{
+    Allocated, Backend, Inline, Meter, copy_counted, make_ascii_lowercase, make_ascii_uppercase,
+};
 use std::alloc::{AllocError, Global};
 
 impl<'b, B: Backend> HipByt<'b, B> {
@@ -157,7 +159,7 @@ impl<'b, B: Backend> HipByt<'b, B> {
         ensures write { WriteAnswers B.SHARES self.old (map to_ascii_lowercase self.old.items) result self.new }
         ensures counted { RisesAtMost meter.old meter.new (write_cost B.SHARES self.old.kind (length self.old.items)) }
     {
-        self.with_to_mut_slice_metered(alloc, |bytes| bytes.make_ascii_lowercase(), meter)
+        self.with_to_mut_slice_metered(alloc, |bytes| make_ascii_lowercase(bytes), meter)
     }
 
     /// The same bytes with the letters `A` to `Z` moved to `a` to `z`.
@@ -201,7 +203,7 @@ impl<'b, B: Backend> HipByt<'b, B> {
         ensures write { WriteAnswers B.SHARES self.old (map to_ascii_uppercase self.old.items) result self.new }
         ensures counted { RisesAtMost meter.old meter.new (write_cost B.SHARES self.old.kind (length self.old.items)) }
     {
-        self.with_to_mut_slice_metered(alloc, |bytes| bytes.make_ascii_uppercase(), meter)
+        self.with_to_mut_slice_metered(alloc, |bytes| make_ascii_uppercase(bytes), meter)
     }
 
     /// The same bytes with the letters `a` to `z` moved to `A` to `Z`.

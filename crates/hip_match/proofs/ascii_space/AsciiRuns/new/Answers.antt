@@ -2,7 +2,7 @@ use Rattle.std.proofs.Common.{ℕ, List, length, subst, sym, ap, ◌∙◌, arit
 use Rattle.std.proofs.lemmas.Str.{IsCharBoundary-start, IsCharBoundary-end}
 use Rattle.std.specs.Str.{IsCharBoundary}
 use Rattle.hip_match.specs.Marks.{AreFrontMarks, AreBackMarks}
-use Rattle.hip_match.proofs.ascii_space.AsciiGaps.new.Goals as goal
+use Rattle.hip_match.proofs.ascii_space.AsciiRuns.new.Goals as goal
 
 pub returns-clause-ready : goal.returns-clause-ready
 returns-clause-ready c =
@@ -12,8 +12,7 @@ returns-clause-ready c =
     let back = c.new-2.result in
     let Cut : ℕ → Type 0 = IsCharBoundary text in
     let Front : List ℕ → Type 0 = λ t. AreFrontMarks t front.from front.block front.marks in
-    let Back : List ℕ → Type 0 = λ t. AreBackMarks t back.to back.blocks back.marks in
-    (
+    let Back : List ℕ → Type 0 = λ t. AreBackMarks t back.to back.blocks back.marks in (
       record {
         utf8 = c.utf8.text;
         start = subst Cut (sym c.new.ensures.from) (IsCharBoundary-start text c.utf8.text);
