@@ -1,8 +1,9 @@
 -- What is written and read of a form, part by part.
-use Rattle.std.proofs.Common.{◌≡◌, ◌∙◌, ℕ, ◌+◌, ◌-◌, ◌^◌, ◌<◌, ◌≤◌, List, [], ◌∷◌, ◌++◌, Option, Result, Ok, Err, length, drop, get_or, take, ap, append_assoc, arith, drop_at, length-append, length-take-le, le_refl, refl, subst, sym}
+use Rattle.std.proofs.Common.{◌≡◌, ◌∙◌, ℕ, ◌+◌, ◌-◌, ◌^◌, ◌<◌, ◌≤◌, List, [], ◌∷◌, ◌++◌, Option, Some, None, Result, Ok, Err, length, drop, get_or, take, ap, append_assoc, arith, drop_at, length-append, length-take-le, le_refl, refl, subst, sym}
 use Rattle.std.proofs.KnownBytes.{Consumes-trans}
+use Rattle.std.proofs.Math.Seq.{drop-append_seam}
 use Rattle.std.proofs.lemmas.List.{take_rest}
-use Rattle.std.proofs.lemmas.Nat.{le_bytes_4}
+use Rattle.std.proofs.lemmas.Nat.{from_le_bytes-to_le_bytes_4, le_bytes_4}
 use Rattle.std.proofs.lemmas.Slice.{take-put_mid_below}
 use Rattle.std.specs.Int.{w32, to_le_bytes, from_le_bytes}
 use Rattle.std.specs.Io.KnownBytes.{Appends, Consumes}
@@ -10,6 +11,7 @@ use Rattle.std.specs.Result.{IsErrAnd}
 use borrow.Rule.Slice.PartMut.{put_mid, post_of}
 use lib.Seq.{take-add, take-append-le}
 use Rattle.hip_bytes.specs.Borsh.{BorshReads, BorshWrites, IsUnfinished, borsh_form}
+use Rattle.hip_bytes.specs.Handle.{Handle}
 use Rattle.hip_bytes.specs.Moved.{MovesIn}
 use Rattle.hip_bytes.specs.declared.borsh_fault.BorshFault.{BorshFault}
 use Rattle.hip_bytes.specs.declared.borsh_fault.BorshFault.TheVariants.{Memory, TooLong, Truncated, Io, NotUtf8}
@@ -115,3 +117,29 @@ read-further shown shown' old mid new bytes more len Truncated first within (tak
 read-further shown shown' old mid new bytes more len Io first within (taken, consumed, short) =
     (bytes ++ taken, Consumes-trans _ _ _ _ _ first consumed, omega (arith, length-append bytes taken))
 read-further shown shown' old mid new bytes more len NotUtf8 first within moved = moved
+
+-- what a form says of its list, whatever follows it
+says-length : (items follow : List ℕ) → length items < 2 ^ 32 → from_le_bytes w32 (borsh_form items ++ follow) ≡ length items
+says-length items follow small = from_le-front (to_le_bytes w32 (length items)) (items ++ follow) refl ∙ from_le_bytes-to_le_bytes_4 (length items) small
+
+behind-same : (xs ys us vs : List ℕ) → length xs ≡ length ys → xs ++ us ≡ ys ++ vs → (ys ≡ xs) × (vs ≡ us)
+behind-same [] [] us vs same e = (refl, sym e)
+behind-same [] (y ∷ ys) us vs same e = absurd (omega arith)
+behind-same (x ∷ xs) [] us vs same e = absurd (omega arith)
+behind-same (x ∷ xs) (y ∷ ys) us vs same e =
+    let (front, back) = behind-same xs ys us vs (omega arith) (ap (drop 1) e) in
+    let first : y ≡ x = cc in
+    (ap (λ l. y ∷ l) front ∙ ap (λ b. b ∷ xs) first, back)
+
+-- bytes that begin with a form begin with no other
+pub form-alone : (xs ys us vs : List ℕ) → length xs < 2 ^ 32 → length ys < 2 ^ 32 → borsh_form xs ++ us ≡ borsh_form ys ++ vs → (ys ≡ xs) × (vs ≡ us)
+form-alone xs ys us vs small small' e =
+    behind-same xs ys us vs (sym (says-length xs us small) ∙ ap (from_le_bytes w32) e ∙ says-length ys vs small') (ap (drop 4) e)
+
+pub round-trip : (items follow old new : List ℕ) (left : Option (List ℕ)) (read : Handle) → BorshWrites {T = Unit {0}} items (Some old) (Some new) (Ok tt)
+    → BorshReads (Some (drop (length old) new ++ follow)) left (Ok read) → (read.items ≡ items) × (left ≡ Some follow)
+round-trip items follow old new None read (small, wrote) (small', holds, took) = absurd took
+round-trip items follow old new (Some rest) read (small, wrote) (small', holds, took) =
+    let form : drop (length old) new ≡ borsh_form items = ap (drop (length old)) wrote ∙ drop-append_seam old (borsh_form items) in
+    let (same, left) = form-alone items read.items follow rest small small' (ap (λ bytes. bytes ++ follow) (sym form) ∙ took) in
+    (same, ap Some left)

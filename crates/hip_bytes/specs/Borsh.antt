@@ -1,6 +1,6 @@
 -- Borsh's form of a list of bytes, and what a call that writes or reads one may answer. (The specification at borsh.io: a `u32` is four
 -- bytes, the least first; a dynamic container is its length as a `u32` and then its items; a text's form is that of its bytes.)
-use Rattle.std.specs.Prelude.{◌≡◌, ℕ, ◌+◌, ◌-◌, ◌^◌, ◌<◌, ◌≤◌, ◌⊎◌, List, [], ◌∷◌, ◌++◌, length, Option, Result, Ok, Err, codes, refl}
+use Rattle.std.specs.Prelude.{◌≡◌, ℕ, ◌+◌, ◌-◌, ◌^◌, ◌<◌, ◌≤◌, ◌⊎◌, List, [], ◌∷◌, ◌++◌, length, drop, Option, Some, Result, Ok, Err, codes, refl}
 use Rattle.std.specs.Int.{w32, to_le_bytes, from_le_bytes}
 use Rattle.std.specs.Io.KnownBytes.{Appends, Consumes, IsAtEnd, Keeps}
 use Rattle.hip_raw.specs.Transfer.{one_more}
@@ -62,6 +62,12 @@ CountsWrites (Err Memory) Full old new = new ≡ old
 CountsWrites (Err TooLong) Full old new = new ≡ old
 CountsWrites (Err Truncated) Full old new = new ≡ old
 CountsWrites (Err NotUtf8) Full old new = new ≡ old
+
+-- what was written of a list to a sink that held bytes before, and then other bytes, is read as that list, and those are left
+abbrev pub BorshRoundTrip : List ℕ → List ℕ → Type 0
+BorshRoundTrip items follow =
+    (old new : List ℕ) (left : Option (List ℕ)) (read : Handle) → BorshWrites {T = Unit {0}} items (Some old) (Some new) (Ok tt)
+    → BorshReads (Some (drop (length old) new ++ follow)) left (Ok read) → (read.items ≡ items) × (left ≡ Some follow)
 
 -- the form of `abc`
 pub three_bytes : borsh_form (codes "abc") ≡ 3 ∷ 0 ∷ 0 ∷ 0 ∷ 97 ∷ 98 ∷ 99 ∷ []

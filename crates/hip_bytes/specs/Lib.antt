@@ -6,6 +6,8 @@ pub mod Gathering
 pub mod GrowFault
 pub mod Handle
 pub mod Join
+pub mod Json
+pub mod JsonItems
 pub mod Kinds
 pub mod Made
 pub mod Moved

@@ -12,6 +12,7 @@ mod convert;
 mod cuts;
 mod growth;
 mod join;
+mod json;
 mod make;
 mod mutate;
 mod views;

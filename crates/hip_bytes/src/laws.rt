@@ -1,6 +1,7 @@
 //! Laws of the definitions that the contracts of this crate cite. Each function does nothing; its contract is the law.
 ghost use Rattle.std.specs.Prelude.{◌≡◌, ◌+◌, ◌-◌, ◌≤◌, length, slice_range, None};
 ghost use Rattle.std.specs.declared.ops.Bound.TheVariants.{Included, Excluded};
+ghost use Rattle.hip_bytes.specs.Borsh.{BorshRoundTrip};
 ghost use Rattle.hip_bytes.specs.Kinds.{cut_kind};
 ghost use Rattle.hip_bytes.specs.Range.{slice_fault};
 
@@ -13,4 +14,10 @@ pub fn slice_of_slice(bytes: &[u8], kind: Kind, start: usize, end: usize, from: 
     ensures items { slice_range (slice_range bytes.now start end) from to ≡ slice_range bytes.now (start + from) (start + to) }
     ensures range { slice_fault (Included (start + from)) (Excluded (start + to)) (length bytes.now) ≡ None }
     ensures kind { cut_kind (cut_kind kind (end - start)) (to - from) ≡ cut_kind kind (to - from) }
+{}
+
+/// What [`HipByt::serialize`](crate::HipByt::serialize) wrote, [`HipByt::deserialize_reader`](crate::HipByt::deserialize_reader) reads as the
+/// same bytes, and it leaves what follows, from whichever source.
+pub fn borsh_round_trip(items: &[u8], follow: &[u8])
+    ensures { BorshRoundTrip items.now follow.now }
 {}

@@ -25,6 +25,7 @@ mod borsh_fault;
 mod gathering;
 mod grow_fault;
 mod hip_byt;
+mod json_fault;
 mod kind;
 pub mod laws;
 mod piece;
@@ -40,6 +41,7 @@ pub use hip_raw::{
     IoFault, Length, Meter, Rc, Room, SliceSource, Start, ToWrite, Unique, VecSink, copy_counted,
     fill_counted,
 };
+pub use json_fault::JsonFault;
 pub use kind::{INLINE_CAPACITY, Kind};
 pub use piece::Piece;
 pub use range::{bound_of, end_of, range_of, start_of};

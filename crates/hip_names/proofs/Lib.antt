@@ -1,3 +1,4 @@
+pub mod Json
 pub mod Names
 pub mod Orders
 pub mod Shared

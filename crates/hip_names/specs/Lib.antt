@@ -1,6 +1,7 @@
 pub mod Components
 pub mod Decode
 pub mod Fed
+pub mod Json
 pub mod PathLaws
 pub mod Shared
 pub mod Shown

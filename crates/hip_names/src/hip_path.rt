@@ -6,6 +6,7 @@ use std::marker::Model;
 
 mod compare;
 mod convert;
+mod json;
 mod make;
 mod mutate;
 mod views;

@@ -6,7 +6,7 @@
 //! - [`path_cmp`] and [`components_eq`] compare paths that are plain bytes, without memory.
 //!
 //! The words of the contracts are those of hip_bytes, and `Components` (the components of a path, and their order), `Shown` (what is seen
-//! of the iterator), `Fed` (what a path feeds a hasher) and `Decode` (OS strings read as texts) of `specs/`.
+//! of the iterator), `Fed` (what a path feeds a hasher), `Decode` (OS strings read as texts) and `Json` (the JSON string of a path) of `specs/`.
 #![tactic(auto)]
 
 mod component;
@@ -18,8 +18,8 @@ mod order;
 
 pub use component::{Component, Components};
 pub use hip_bytes::{
-    Allocated, Appended, Backend, Block, Borrowed, Front, HipByt, INLINE_CAPACITY, Inline, Kind,
-    Length, Meter, Rc, RefMut, Room, Source, Start, Unique, mutate,
+    Allocated, Appended, Backend, Block, Borrowed, Front, HipByt, INLINE_CAPACITY, Inline,
+    JsonFault, Kind, Length, Meter, Rc, RefMut, Room, Source, Start, Unique, mutate,
 };
 pub use hip_os_str::HipOsStr;
 pub use hip_path::HipPath;

@@ -1,3 +1,4 @@
+pub mod Borsh
 pub mod Boundary
 pub mod Change
 pub mod Decode

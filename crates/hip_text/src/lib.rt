@@ -5,7 +5,7 @@
 //! - [`SliceError`] says why a range is none of a text, [`SliceRefusal`] why a call gave no slice.
 //!
 //! The words of the contracts are those of hip_bytes, and `Boundary` (where a text may be cut), `Slice` and `SliceError` (ranges of a
-//! text and their faults) of `specs/`.
+//! text and their faults) and `Borsh` (a text's form that is read) of `specs/`.
 #![tactic(auto)]
 
 mod faults;
@@ -18,8 +18,9 @@ mod slice_error;
 pub use faults::{BytesFault, Utf16Fault};
 pub use from_utf8_error::FromUtf8Error;
 pub use hip_bytes::{
-    Allocated, Appended, Backend, Block, Borrowed, Front, GrowFault, HipByt, INLINE_CAPACITY,
-    Inline, Kind, Length, Meter, Rc, Room, Start, Unique, copy_counted, fill_counted,
+    Allocated, Appended, Backend, Block, Borrowed, BorshFault, ByteSink, ByteSource, FromRead,
+    Front, GrowFault, HipByt, INLINE_CAPACITY, Inline, IoFault, JsonFault, Kind, Length, Meter, Rc,
+    Room, SliceSource, Start, ToWrite, Unique, VecSink, copy_counted, fill_counted,
 };
 pub use hip_str::HipStr;
 pub use ref_mut::{RefMut, TextSource, mutate, mutate_metered};

@@ -1,5 +1,5 @@
 //! Byte strings.
 pub use hip_bytes::{
-    Block, GrowFault, HipByt, INLINE_CAPACITY, Kind, RefMut, SliceError, SliceErrorKind,
-    SliceRefusal, Source, mutate, mutate_metered,
+    Block, BorshFault, GrowFault, HipByt, INLINE_CAPACITY, JsonFault, Kind, RefMut, SliceError,
+    SliceErrorKind, SliceRefusal, Source, mutate, mutate_metered,
 };

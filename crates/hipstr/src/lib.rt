@@ -11,6 +11,9 @@
 //! paths, [`HipPath`](path::HipPath), which are compared by their components. Anyone may implement [`Backend`]; the names that this takes,
 //! and the three representations of a byte string ([`Inline`], [`Borrowed`], [`Allocated`]), are handed on here.
 //!
+//! Byte strings and texts are written to a [`ByteSink`] and read from a [`ByteSource`] in the form of Borsh; these, and their
+//! implementors, stand here. All four types are made JSON values of the crate serde_json, and made of them.
+//!
 //! What the clauses of `run` say in words is defined in `specs/`: `Slot` (the machine's state), `Step` (one command: its fault, its
 //! answer, what it leaves, its cost) and `Run` (many commands).
 #![tactic(auto)]
@@ -27,8 +30,9 @@ mod text;
 pub use command::{Answer, Command, How, Pat, Reason, Side};
 pub use hip_match::draw::End;
 pub use hip_text::{
-    Allocated, Appended, Backend, Block, Borrowed, Front, Inline, Kind, Length, Meter, Rc, Room,
-    Start, Unique, copy_counted, fill_counted,
+    Allocated, Appended, Backend, Block, Borrowed, ByteSink, ByteSource, FromRead, Front, Inline,
+    IoFault, Kind, Length, Meter, Rc, Room, SliceSource, Start, ToWrite, Unique, VecSink,
+    copy_counted, fill_counted,
 };
 pub use machine::run;
 pub use pool::{MAX_SLOTS, Pool, Slot};

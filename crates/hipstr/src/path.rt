@@ -1,2 +1,2 @@
 //! Paths, and their components.
-pub use hip_names::{Component, Components, HipPath, RefMut, components_eq, path_cmp};
+pub use hip_names::{Component, Components, HipPath, JsonFault, RefMut, components_eq, path_cmp};
