@@ -1,5 +1,5 @@
 -- Lemmas on the amortised cost of runs.
-use Rattle.std.proofs.Common.{◌≡◌, ◌∙◌, ℕ, zero, suc, ◌+◌, ◌-◌, ◌*◌, ◌<◌, ◌≤◌, Bool, false, List, [], ◌∷◌, ◌++◌, length, take, get_or, slice_set, Option, Some, None, MatchOption, refl, ap, subst, sym, arith}
+use Rattle.std.proofs.Common.{◌≡◌, ◌∙◌, ℕ, zero, suc, ◌+◌, ◌*◌, ◌<◌, ◌≤◌, Bool, false, List, [], ◌∷◌, ◌++◌, length, take, get_or, slice_set, Option, Some, None, MatchOption, refl, ap, subst, arith}
 use Rattle.std.proofs.lemmas.List.{set-set, take_more}
 use Rattle.hip_bytes.specs.Cost.{handle_pot, PushIsPaid}
 use Rattle.hip_bytes.specs.Handle.{Handle}

@@ -1,11 +1,14 @@
-use Rattle.std.proofs.Common.{arith}
+use Rattle.std.proofs.Common.{◌+◌, get_or, arith}
 use Rattle.hipstr.proofs.Amortised.{step-paid, RunAmortised-take_more}
 use Rattle.hipstr.proofs.Runs.{Run-take_more}
+use Rattle.hipstr.specs.declared.command.Command.TheVariants.{New}
 use Rattle.hipstr.proofs.machine.run.Goals as goal
 
 pub loop-command-preserved : goal.loop-command-preserved
 loop-command-preserved g c =
     let so_far = c.loop-command.invariant.run in
+    let shares = g.B.Backend.SHARES in
+    let command = get_or c.args.commands.now c.loop-command.command-index (New 0) in
     let step = rw (← c.from.ensures) at c.perform.ensures.step in
     record {
       run = (
@@ -15,9 +18,11 @@ loop-command-preserved g c =
       );
       amortised = λ unshared.
           let before = c.loop-command.invariant.amortised unshared in
-          let paid = step-paid _ _ _ _ _ _ _ unshared c.perform.ensures.paid c.perform.ensures.counted.1 c.perform.ensures.counted.2 in (
-            _,
-            RunAmortised-take_more _ _ _ _ _ _ _ _ _ _ _ paid.0 c.loop-command-test.true before.1 step paid.1 c.push_reserved.ensures.items,
+          let paid = step-paid shares c.loop-command.pool c.perform.new.self command c.loop-command.meter c.perform.new.meter c.perform.ensures.counted.0
+          unshared c.perform.ensures.paid c.perform.ensures.counted.1 c.perform.ensures.counted.2 in (
+            before.0 + paid.0,
+            RunAmortised-take_more shares c.args.pool.now c.loop-command.pool c.perform.new.self c.args.commands.now c.loop-command.command-index (New 0) c.loop-command.answers.items
+                c.push_reserved.new.self.items before.0 c.from.result paid.0 c.loop-command-test.true before.1 step paid.1 c.push_reserved.ensures.items,
             omega (arith, before.2, paid.2),
           );
       answered = omega arith;

@@ -1,9 +1,21 @@
-use Rattle.std.proofs.Common.{◌≡◌, ◌≤◌, ◌∙◌, length, map, replicate, ap, sym, arith}
+use Rattle.std.proofs.Common.{◌≡◌, ◌≤◌, ◌∙◌, length, map, replicate, refl, ap, sym, arith}
 use Rattle.std.proofs.lemmas.List.{length-map}
 use Rattle.hip_match.specs.Draw.{draw}
 use Rattle.hipstr.specs.Slot.{empty_slot, state_of}
-use Rattle.hipstr.proofs.Parts.{goes-on, has-ended, is-refused}
+use Rattle.hipstr.proofs.Parts.{goes-on, has-ended, is-refused, so-far-none}
 use Rattle.hipstr.proofs.machine.parts.make_both.Goals as goal
+
+pub loop-i-init : goal.loop-i-init
+loop-i-init g c =
+    let state = state_of {B = g.row.B.Denot} {S = g.row.B-Sole.Denot} {P = g.row.B-Start.Denot} in
+    let spare = map state c.args.spare.now in
+    record {
+      so_far = so-far-none g.B.Backend.SHARES c.args.walk.source.now (draw (g.I.Ranges.rest c.args.walk.ranges) c.args.script.now) spare c.args.meter.now
+          (c.requires.empty ∙ ap (λ n. replicate n empty_slot) (sym (length-map c.args.spare.now state)));
+      source = refl;
+      ready = c.requires.ready.0;
+      text = c.requires.ready.1;
+    }
 
 pub loop-i-preserved : goal.loop-i-preserved
 loop-i-preserved g c =
