@@ -13,3 +13,9 @@ test:
 bench:
 	@cd crates/hip_bench && rt lib
 	@bench/run.sh
+
+# Measures the walks over the ranges of a text beside Rust's `str`.
+.PHONY: walks
+walks:
+	@cd crates/hip_walks && rt lib
+	@bench/walks.sh

@@ -5,12 +5,15 @@
 //! - `handles`: bytes in the handle itself, lent bytes.
 //! - `allocated`: ranges of an owner's bytes.
 //! - `owners`: what an owner promises.
+//! - `blocks`: comparisons and ASCII case, which go by blocks of bytes.
 //!
 //! What costs the check and what saves it is told in `hip_bytes_tests`.
 #![tactic(auto)]
 
 #[cfg(test)]
 mod allocated;
+#[cfg(test)]
+mod blocks;
 #[cfg(test)]
 mod copies;
 #[cfg(test)]

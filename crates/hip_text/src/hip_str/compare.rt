@@ -19,7 +19,7 @@ impl<'b, B: Backend> HipStr<'b, B> {
     pub fn str_eq(&self, other: &str) -> bool
         ensures { IsTrue result ↔ (self.now.items ≡ other.now) }
     {
-        self.as_bytes() == other.as_bytes()
+        self.bytes.eq_slice(other.as_bytes())
     }
 
     /// How the text stands to this one, in the order of their bytes.
@@ -27,7 +27,7 @@ impl<'b, B: Backend> HipStr<'b, B> {
     pub fn str_cmp(&self, other: &str) -> Ordering
         ensures { result ≡ slice_cmp nat_cmp self.now.items other.now }
     {
-        self.as_bytes().cmp(other.as_bytes())
+        self.bytes.cmp_slice(other.as_bytes())
     }
 
     /// Whether the text is that of a value on another backend.
@@ -54,7 +54,7 @@ impl<'b, B: Backend> PartialEq for HipStr<'b, B> {
 
     #[inline(always)]
     fn eq(&self, other: &Self) -> bool {
-        self.as_bytes() == other.as_bytes()
+        self.bytes == other.bytes
     }
 }
 
@@ -84,7 +84,7 @@ impl<'b, B: Backend> Ord for HipStr<'b, B> {
 
     #[inline(always)]
     fn cmp(&self, other: &Self) -> Ordering {
-        self.as_bytes().cmp(other.as_bytes())
+        self.bytes.cmp(&other.bytes)
     }
 }
 

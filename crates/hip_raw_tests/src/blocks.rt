@@ -1,0 +1,161 @@
+//! Comparisons and ASCII case at each place of bytes of each length up to two blocks of 64 and a rest, beside loops that go byte by
+//! byte.
+ghost use Rattle.std.specs.Prelude.{◌≤◌};
+
+use hip_raw::{equal, make_ascii_lowercase, make_ascii_uppercase, order};
+use std::cmp::Ordering;
+use std::process::Abort;
+
+/// The most bytes.
+const LONGEST: usize = 130;
+
+/// Whether the bytes are the same, as a plain loop tells it.
+fn plainly_equal(a: &[u8], b: &[u8]) -> bool {
+    for (x, y) in a.iter().zip(b) {
+        if x != y {
+            return false;
+        }
+    }
+    a.len() == b.len()
+}
+
+/// How the bytes stand to each other, as a plain loop tells it.
+fn plainly_ordered(a: &[u8], b: &[u8]) -> Ordering {
+    for (x, y) in a.iter().zip(b) {
+        if x != y {
+            return x.cmp(y);
+        }
+    }
+    a.len().cmp(&b.len())
+}
+
+/// Asserts both, each way round.
+fn compares(rt: &impl Abort, a: &[u8], b: &[u8]) {
+    assert_eq!(rt;
+        (equal(a, b), equal(b, a)),
+        (plainly_equal(a, b), plainly_equal(b, a))
+    );
+    assert_eq!(rt;
+        (order(a, b), order(b, a)),
+        (plainly_ordered(a, b), plainly_ordered(b, a))
+    );
+}
+
+/// Bytes that go on from 7, so that no two near each other are the same.
+fn counted() -> [u8; LONGEST] {
+    let mut bytes = [7u8; LONGEST];
+    for i in 1..LONGEST {
+        bytes[i] = bytes[i - 1].wrapping_add(29);
+    }
+    bytes
+}
+
+#[test]
+fn one_byte_differs(rt: HostRuntime) {
+    let bytes = counted();
+    for len in 0..=LONGEST {
+        compares(&rt, &bytes[..len], &bytes[..len]);
+        for at in 0..len {
+            let mut other = bytes;
+            other[at] = other[at].wrapping_add(100);
+            compares(&rt, &bytes[..len], &other[..len]);
+        }
+    }
+}
+
+#[test]
+fn two_bytes_differ(rt: HostRuntime) {
+    let bytes = counted();
+    for len in 0..=LONGEST {
+        for at in 0..len {
+            let mut other = bytes;
+            other[at] = 0;
+            other[len - 1 - at] = 0xFF;
+            compares(&rt, &bytes[..len], &other[..len]);
+        }
+    }
+}
+
+#[test]
+fn one_ends_before_the_other(rt: HostRuntime) {
+    let bytes = counted();
+    for len in 0..=LONGEST {
+        for front in 0..len {
+            compares(&rt, &bytes[..len], &bytes[..front]);
+        }
+    }
+}
+
+/// A byte with an ASCII letter in the other case, by the ranges of the standard.
+fn upper(byte: u8) -> u8 {
+    match byte {
+        b'a'..=b'z' => byte - 32,
+        _ => byte,
+    }
+}
+
+fn lower(byte: u8) -> u8 {
+    match byte {
+        b'A'..=b'Z' => byte + 32,
+        _ => byte,
+    }
+}
+
+/// Asserts that each byte of the first `len` is moved by itself.
+fn moves_letters(rt: &impl Abort, bytes: &[u8; LONGEST], len: usize)
+    requires { len ≤ 130 }
+{
+    let (mut ups, mut lows) = (*bytes, *bytes);
+    make_ascii_uppercase(&mut ups[..len]);
+    make_ascii_lowercase(&mut lows[..len]);
+    for i in 0..LONGEST {
+        let want = if i < len {
+            (upper(bytes[i]), lower(bytes[i]))
+        } else {
+            (bytes[i], bytes[i])
+        };
+        assert_eq!(rt; (ups[i], lows[i]), want);
+    }
+}
+
+#[test]
+fn one_letter_at_each_place(rt: HostRuntime) {
+    for len in 0..=LONGEST {
+        for at in 0..len {
+            let mut bytes = [b'!'; LONGEST];
+            bytes[at] = b'q';
+            bytes[len - 1 - at] = b'Z';
+            moves_letters(&rt, &bytes, len);
+        }
+    }
+}
+
+#[test]
+fn every_byte(rt: HostRuntime) {
+    for first in 0..=255u8 {
+        let mut bytes = [first; LONGEST];
+        for i in 1..LONGEST {
+            bytes[i] = bytes[i - 1].wrapping_add(1);
+        }
+        moves_letters(&rt, &bytes, LONGEST);
+    }
+}
+
+/// Bytes at the edges of the letters, seven times over.
+const EDGES: [u8; 10] = [0x40, 0x41, 0x5A, 0x5B, 0x60, 0x61, 0x7A, 0x7B, 0xC1, 0xE1];
+const LOWERED: [u8; 10] = [0x40, 0x61, 0x7A, 0x5B, 0x60, 0x61, 0x7A, 0x7B, 0xC1, 0xE1];
+const RAISED: [u8; 10] = [0x40, 0x41, 0x5A, 0x5B, 0x60, 0x41, 0x5A, 0x7B, 0xC1, 0xE1];
+
+#[test]
+fn the_edges_of_the_letters(rt: HostRuntime) {
+    let mut lows = [0; 70];
+    for i in 0..70 {
+        lows[i] = EDGES[i % 10];
+    }
+    let mut ups = lows;
+    make_ascii_lowercase(&mut lows);
+    make_ascii_uppercase(&mut ups);
+    for i in 0..70 {
+        assert_eq!(rt; (lows[i], ups[i]), (LOWERED[i % 10], RAISED[i % 10]));
+    }
+}
