@@ -7,6 +7,9 @@
 //!   leaves a [`Block`].
 //! - [`Inline`], [`Borrowed`] and [`Allocated`] are the three representations of a byte string: in the handle itself, lent by
 //!   another value, or a range of an owner's list.
+//! - [`ByteSource`] and [`ByteSink`] are what bytes are read from and written to, seen as the bytes still to come, or written, and a count of
+//!   failures: [`SliceSource`] and [`VecSink`] in memory, [`FromRead`] and [`ToWrite`] over readers and writers of the standard library. An
+//!   [`IoFault`] says that a call failed, and moved nothing.
 //!
 //! A call that copies has a form with the suffix `_metered` and a last argument `&mut Meter`; the plain call is that form with a fresh
 //! meter. A call that takes memory on some backend is passed the allocator first, and a refused one changes nothing. The calls of a
@@ -14,7 +17,7 @@
 //!
 //! The words of the contracts stand in `specs/`: `Held` (what a contract sees of an owner and of an allocated handle), `Meter` (what is
 //! copied), `Window` (a part of a list), `Appended` (facts by the answer of an append), `Allocated` (what holds of a handle's range),
-//! `Block`, `Borrowed` and `Inline`.
+//! `Block`, `Borrowed`, `Inline`, `Transfer` (what a read or a write does to the count of failures), `Sink` and `Sources`.
 #![tactic(auto)]
 
 mod allocated;
