@@ -11,6 +11,7 @@
 
 mod compare;
 mod cuts;
+mod formats;
 mod growth;
 mod handles;
 mod intern;

@@ -6,6 +6,8 @@
 //! - [`Kind`] says where the bytes of a handle lie.
 //! - [`SliceError`] says why a range is none of a handle's bytes, [`SliceRefusal`] why a call gave no slice, [`GrowFault`] why a list
 //!   wasn't made.
+//! - [`BorshFault`] says why a Borsh form wasn't written to a [`ByteSink`] or read from a [`ByteSource`], [`JsonFault`] why a JSON value
+//!   wasn't read.
 //! - [`RefMut`] lends a value of a [`Source`], as a handle is one, as a vector; [`mutate`] makes one in functions that are generic in
 //!   the source.
 //! - [`Piece`] is what joins are made of, bytes or texts.
@@ -18,7 +20,8 @@
 //!
 //! The words of the contracts stand in `specs/`: `Handle` (a handle as clauses see it), `Kinds` (the kind and the capacity that a call
 //! gives), `Made` and `Change` (what a call that makes or changes a handle may answer), `Cost` (what it copies, and where it may want
-//! memory), `Range`, `Slice` and `SliceError` (ranges and their faults), `Join` (joins and repetitions), `GrowFault` and `RefMut`.
+//! memory), `Range`, `Slice` and `SliceError` (ranges and their faults), `Join` (joins and repetitions), `Borsh` and `Json`
+//! (forms that are written and read), `GrowFault`, `FormatFault` and `RefMut`.
 #![tactic(auto)]
 
 mod borsh_fault;

@@ -1,7 +1,7 @@
 pub mod Components
 pub mod Decode
 pub mod Fed
-pub mod Json
+pub mod JsonPath
 pub mod PathLaws
 pub mod Shared
 pub mod Shown
@@ -10,3 +10,4 @@ pub use Rattle.hip_bytes.specs.Handle
 pub use Rattle.hip_bytes.specs.Kinds
 pub use Rattle.hip_bytes.specs.Made
 pub use Rattle.hip_bytes.specs.RefMut
+pub use Rattle.hip_bytes.specs.Json

@@ -6,7 +6,7 @@
 //! - [`path_cmp`] and [`components_eq`] compare paths that are plain bytes, without memory.
 //!
 //! The words of the contracts are those of hip_bytes, and `Components` (the components of a path, and their order), `Shown` (what is seen
-//! of the iterator), `Fed` (what a path feeds a hasher), `Decode` (OS strings read as texts) and `Json` (the JSON string of a path) of `specs/`.
+//! of the iterator), `Fed` (what a path feeds a hasher), `Decode` (OS strings read as texts) and `JsonPath` (the JSON string of a path) of `specs/`.
 #![tactic(auto)]
 
 mod component;

@@ -85,7 +85,7 @@ impl ByteSink for VecSink {
 
     #[inline]
     fn write(&mut self, bytes: &[u8]) -> Result<usize, IoFault> {
-        match self.filling.push_behind(&[], bytes, &mut Meter::new()) {
+        match self.filling.push_slice(bytes, &mut Meter::new()) {
             Ok(()) => Ok(bytes.len()),
             Err(AllocError) => {
                 self.failures = self.failures.saturating_add(1);

@@ -10,6 +10,9 @@
 //!   [`Length`] that may be one byte, lent by another value, or a range of an owner's list.
 //! - [`equal`] and [`order`] are `==` and `cmp` of bytes, [`make_ascii_lowercase`] and [`make_ascii_uppercase`] move ASCII letters in
 //!   place: each by blocks of up to 64 bytes.
+//! - [`ByteSource`] and [`ByteSink`] are what bytes are read from and written to, seen as the bytes still to come, or written, and a count of
+//!   failures: [`SliceSource`] and [`VecSink`] in memory, [`FromRead`] and [`ToWrite`] over readers and writers of the standard library. An
+//!   [`IoFault`] says that a call failed, and moved nothing.
 //!
 //! A call that copies has a form with the suffix `_metered` and a last argument `&mut Meter`; the plain call is that form with a fresh
 //! meter. A call that takes memory on some backend is passed the allocator first, and a refused one changes nothing. The calls of a
@@ -17,7 +20,8 @@
 //!
 //! The words of the contracts stand in `specs/`: `Held` (what a contract sees of an owner and of an allocated handle), `Meter` (what is
 //! copied, and what growth is paid by), `Window` (a part of a list), `Appended` (facts by the answer of an append), `Allocated` (what
-//! holds of a handle's range), `Block`, `Borrowed` and `Inline`, and `Alike` (where two lists have the same bytes).
+//! holds of a handle's range), `Block`, `Borrowed`, `Inline`, `Alike` (where two lists have the same bytes), `Transfer` (what a read or
+//! a write does to the count of failures), `Sink` and `Sources`.
 #![tactic(auto)]
 
 mod allocated;

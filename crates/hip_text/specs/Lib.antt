@@ -1,4 +1,4 @@
-pub mod Borsh
+pub mod BorshText
 pub mod Boundary
 pub mod Change
 pub mod Decode
@@ -14,3 +14,6 @@ pub use Rattle.hip_bytes.specs.Kinds
 pub use Rattle.hip_bytes.specs.Made
 pub use Rattle.hip_bytes.specs.Range
 pub use Rattle.hip_bytes.specs.Meter
+pub use Rattle.hip_bytes.specs.Borsh
+pub use Rattle.hip_bytes.specs.Json
+pub use Rattle.hip_bytes.specs.Transfer

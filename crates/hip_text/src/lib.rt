@@ -5,7 +5,7 @@
 //! - [`SliceError`] says why a range is none of a text, [`SliceRefusal`] why a call gave no slice.
 //!
 //! The words of the contracts are those of hip_bytes, and `Boundary` (where a text may be cut), `Slice` and `SliceError` (ranges of a
-//! text and their faults) and `Borsh` (a text's form that is read) of `specs/`.
+//! text and their faults) and `BorshText` (a text's form that is read) of `specs/`.
 #![tactic(auto)]
 
 mod faults;

@@ -22,3 +22,10 @@ pub use Rattle.hip_bytes.specs.Window
 pub use Rattle.hip_text.specs.Boundary
 pub use Rattle.hip_text.specs.Decode
 pub use Rattle.hip_names.specs.Components
+pub use Rattle.hip_bytes.specs.Borsh
+pub use Rattle.hip_bytes.specs.Json
+pub use Rattle.hip_bytes.specs.Sink
+pub use Rattle.hip_bytes.specs.Sources
+pub use Rattle.hip_bytes.specs.Transfer
+pub use Rattle.hip_text.specs.BorshText
+pub use Rattle.hip_names.specs.JsonPath

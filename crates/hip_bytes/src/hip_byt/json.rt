@@ -101,9 +101,9 @@ fn test(items: &[Value]) -> Result<(), JsonFault>
     ensures items { OnOk result ((bytes : List ℕ) × AreBytes (items_of (map view items.now)) bytes × (length bytes ≡ length items.now)) }
     ensures err { IfErr result (TellsFirstOther (items_of (map view items.now))) }
 {
-    for at in 0..items.len() {
-        let Some(_byte) = byte_in(&items[at]) else {
-            return Err(JsonFault::NotJsonBytes(Some(at)));
+    for i in 0..items.len() {
+        let Some(_byte) = byte_in(&items[i]) else {
+            return Err(JsonFault::NotJsonBytes(Some(i)));
         };
     }
     Ok(())

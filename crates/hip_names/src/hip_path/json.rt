@@ -1,7 +1,7 @@
 //! JSON.
 ghost use Rattle.serde_json.specs.View.{view};
 ghost use Rattle.hip_bytes.specs.Json.{JsonReadsString};
-ghost use Rattle.hip_names.specs.Json.{JsonPathAnswers};
+ghost use Rattle.hip_names.specs.JsonPath.{JsonPathAnswers};
 
 use super::HipPath;
 use hip_bytes::{Backend, JsonFault};

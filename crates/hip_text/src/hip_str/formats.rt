@@ -4,7 +4,7 @@ ghost use Rattle.serde_json.specs.Data.{string};
 ghost use Rattle.serde_json.specs.View.{view};
 ghost use Rattle.hip_bytes.specs.Borsh.{BorshWrites, CountsReads, CountsWrites};
 ghost use Rattle.hip_bytes.specs.Json.{JsonReadsString};
-ghost use Rattle.hip_text.specs.Borsh.{BorshReadsText};
+ghost use Rattle.hip_text.specs.BorshText.{BorshReadsText};
 
 use super::HipStr;
 use hip_bytes::{Backend, BorshFault, ByteSink, ByteSource, HipByt, JsonFault};

@@ -1,0 +1,173 @@
+//! Forms that are written and read, cut short, or that lie about their length.
+use hip_bytes::{BorshFault, FromRead, HipByt, Kind, SliceSource, ToWrite, VecSink};
+use hip_text::{Backend, HipStr, Rc, Unique};
+use std::alloc::Global;
+use std::process::Abort;
+use std::test::Fail;
+
+/// A text and its form, after the specification of Borsh: the length as four bytes, the least first, and then the bytes. The second and the
+/// third are those of hipstr's own tests, which compare them with the crate borsh.
+const FORMS: &[(&str, &[u8], Kind)] = &[
+    ("", b"\x00\x00\x00\x00", Kind::Inline),
+    ("123", b"\x03\x00\x00\x00\x31\x32\x33", Kind::Inline),
+    ("abc", b"\x03\x00\x00\x00\x61\x62\x63", Kind::Inline),
+    ("é", b"\x02\x00\x00\x00\xC3\xA9", Kind::Inline),
+    (
+        "aaaaaaaaaaaaaaaaaaaaaaa",
+        b"\x17\x00\x00\x00aaaaaaaaaaaaaaaaaaaaaaa",
+        Kind::Inline,
+    ),
+    (
+        "aaaaaaaaaaaaaaaaaaaaaaaa",
+        b"\x18\x00\x00\x00aaaaaaaaaaaaaaaaaaaaaaaa",
+        Kind::Allocated,
+    ),
+    (
+        "aaaaaaaaaaaaaaaaaaaaaaaaaaaaaaaaaaaaaaaaaa",
+        b"\x2A\x00\x00\x00aaaaaaaaaaaaaaaaaaaaaaaaaaaaaaaaaaaaaaaaaa",
+        Kind::Allocated,
+    ),
+];
+
+/// The form of bytes that are lent.
+fn form_of<B: Backend>(alloc: Global, bytes: &[u8]) -> Option<Vec<u8>> {
+    let mut sink = VecSink::new(alloc);
+    HipByt::<B>::borrowed(bytes).serialize(&mut sink).ok()?;
+    Some(sink.into_vec())
+}
+
+/// The same of a text, through a writer of the standard library.
+fn form_of_text<B: Backend>(alloc: Global, text: &str) -> Option<Vec<u8>> {
+    let mut vec = Vec::new(alloc);
+    HipStr::<B>::borrowed(text)
+        .serialize(&mut ToWrite::new(&mut vec))
+        .ok()?;
+    Some(vec)
+}
+
+fn written<B: Backend>(rt: &impl Abort, alloc: Global) {
+    for (text, form, _kind) in FORMS {
+        let bytes = form_of::<B>(alloc, text.as_bytes());
+        let texts = form_of_text::<B>(alloc, text);
+        assert_eq!(rt;
+            (bytes.as_deref(), texts.as_deref()),
+            (Some(*form), Some(*form))
+        );
+    }
+}
+
+#[test]
+fn written_on_either(rt: HostRuntime) {
+    written::<Rc>(&rt, rt.alloc());
+    written::<Unique>(&rt, rt.alloc());
+}
+
+/// Forms are read as bytes, from a slice with more behind them, which is left.
+fn read<B: Backend>(rt: &impl Abort, alloc: Global) -> Result<(), Fail> {
+    for (text, form, kind) in FORMS {
+        let mut bytes = Vec::from_slice(alloc, form)?;
+        bytes.push(b'z')?;
+        let mut source = SliceSource::new(bytes.as_slice());
+        let read = HipByt::<B>::deserialize_reader(alloc, &mut source).or(Err("not read"))?;
+        assert_eq!(rt;
+            (read.as_slice(), read.kind(), source.rest()),
+            (text.as_bytes(), *kind, &b"z"[..])
+        );
+    }
+    Ok(())
+}
+
+#[test]
+fn read_on_either(rt: HostRuntime) -> Result<(), Fail> {
+    read::<Rc>(&rt, rt.alloc())?;
+    read::<Unique>(&rt, rt.alloc())
+}
+
+/// The same as texts, through a reader of the standard library.
+fn texts<B: Backend>(rt: &impl Abort, alloc: Global) -> Result<(), Fail> {
+    for (text, form, kind) in FORMS {
+        let mut source = FromRead::new(*form);
+        let read = HipStr::<B>::deserialize_reader(alloc, &mut source).or(Err("not read"))?;
+        assert_eq!(rt; (read.as_str(), read.kind()), (*text, *kind));
+    }
+    Ok(())
+}
+
+#[test]
+fn texts_on_either(rt: HostRuntime) -> Result<(), Fail> {
+    texts::<Rc>(&rt, rt.alloc())?;
+    texts::<Unique>(&rt, rt.alloc())
+}
+
+/// What is answered, and how many bytes are left.
+fn read_bytes(alloc: Global, bytes: &[u8]) -> (Option<BorshFault>, usize) {
+    let mut source = SliceSource::new(bytes);
+    let read = HipByt::<Rc>::deserialize_reader(alloc, &mut source);
+    (read.err(), source.rest().len())
+}
+
+fn read_text(alloc: Global, bytes: &[u8]) -> (Option<BorshFault>, usize) {
+    let mut source = SliceSource::new(bytes);
+    let read = HipStr::<Rc>::deserialize_reader(alloc, &mut source);
+    (read.err(), source.rest().len())
+}
+
+/// Each form cut short at each length is truncated, and all of it is taken.
+#[test]
+fn cut_short(rt: HostRuntime) {
+    for (_text, form, _kind) in FORMS {
+        for len in 0..form.len() {
+            let answers = (
+                read_bytes(rt.alloc(), &form[..len]),
+                read_text(rt.alloc(), &form[..len]),
+            );
+            let wanted = (Some(BorshFault::Truncated), 0);
+            assert_eq!(&rt; answers, (wanted, wanted), "at {len}");
+        }
+    }
+}
+
+/// Bytes, and what is answered where they are read as bytes and as a text.
+const HOSTILE: &[(&[u8], Option<BorshFault>, Option<BorshFault>)] = &[
+    (
+        b"\xFF\xFF\xFF\xFFa",
+        Some(BorshFault::Truncated),
+        Some(BorshFault::Truncated),
+    ),
+    (b"\x05\x00\x00\x00abc\xFFc", None, Some(BorshFault::NotUtf8)),
+    (
+        b"\x03\x00\x00\x00\xED\xA0\x80",
+        None,
+        Some(BorshFault::NotUtf8),
+    ),
+    (b"\x02\x00\x00\x00\xC0\x80", None, Some(BorshFault::NotUtf8)),
+    (b"\x01\x00\x00\x00\xC3", None, Some(BorshFault::NotUtf8)),
+    (
+        b"\x04\x00\x00\x00\xF0\x9F\x98",
+        Some(BorshFault::Truncated),
+        Some(BorshFault::Truncated),
+    ),
+];
+
+#[test]
+fn hostile(rt: HostRuntime) {
+    for (bytes, as_bytes, as_text) in HOSTILE {
+        let answers = (read_bytes(rt.alloc(), bytes), read_text(rt.alloc(), bytes));
+        assert_eq!(&rt; answers, ((*as_bytes, 0), (*as_text, 0)));
+    }
+}
+
+/// Two values in one sink are read in their order.
+#[test]
+fn one_behind_another(rt: HostRuntime) -> Result<(), Fail> {
+    let mut sink = VecSink::new(rt.alloc());
+    let first = HipByt::<Rc>::borrowed(b"\xFF").serialize(&mut sink);
+    let second = HipStr::<Rc>::borrowed("é").serialize(&mut sink);
+    assert_eq!(&rt; (first, second), (Ok(()), Ok(())));
+    let vec = sink.into_vec();
+    let mut source = SliceSource::new(vec.as_slice());
+    let first = HipByt::<Rc>::deserialize_reader(rt.alloc(), &mut source).or(Err("no first"))?;
+    let second = HipStr::<Rc>::deserialize_reader(rt.alloc(), &mut source).or(Err("no second"))?;
+    assert_eq!(&rt; (first.as_slice(), second.as_str()), (&b"\xFF"[..], "é"));
+    Ok(())
+}

@@ -1,0 +1,253 @@
+//! Values that are made, read and refused.
+use hip_bytes::{HipByt, JsonFault, Kind};
+use hip_names::{HipOsStr, HipPath};
+use hip_text::{Backend, HipStr, Rc, Unique};
+use serde_json::Value;
+use std::alloc::Global;
+use std::process::Abort;
+use std::test::Fail;
+
+const LETTERS: &str = "abcdefghijklmnopqrstuvwxyz";
+
+/// A JSON text as a value.
+fn value(alloc: Global, text: &str) -> Result<Value, Fail> {
+    Ok(Value::from_str(alloc, text).or(Err("no JSON"))?)
+}
+
+/// Bytes, and the texts of their values as a byte string and as an OS string.
+const MADE: &[(&[u8], &str, &str)] = &[
+    (b"", "[]", "{\"Unix\":[]}"),
+    (b"ab", "[97,98]", "{\"Unix\":[97,98]}"),
+    (b"\x01\x02\x03", "[1,2,3]", "{\"Unix\":[1,2,3]}"),
+    (b"\x00\xFF", "[0,255]", "{\"Unix\":[0,255]}"),
+];
+
+/// The text of a value.
+fn shown(alloc: Global, value: Value) -> Result<String, Fail> {
+    Ok(value.to_string(alloc)?)
+}
+
+fn made<B: Backend>(rt: &impl Abort, alloc: Global) -> Result<(), Fail> {
+    for (bytes, array, object) in MADE {
+        let array_of = shown(alloc, HipByt::<B>::borrowed(bytes).to_json(alloc)?)?;
+        let name = HipOsStr::from(HipByt::<B>::borrowed(bytes));
+        let object_of = shown(alloc, name.to_json(alloc)?)?;
+        assert_eq!(rt; (array_of.as_str(), object_of.as_str()), (*array, *object));
+    }
+    Ok(())
+}
+
+#[test]
+fn made_on_either(rt: HostRuntime) -> Result<(), Fail> {
+    made::<Rc>(&rt, rt.alloc())?;
+    made::<Unique>(&rt, rt.alloc())
+}
+
+/// Texts, and the texts of their values.
+const STRINGS: &[(&str, &str, Kind)] = &[
+    ("", "\"\"", Kind::Inline),
+    ("a", "\"a\"", Kind::Inline),
+    ("abc", "\"abc\"", Kind::Inline),
+    (LETTERS, "\"abcdefghijklmnopqrstuvwxyz\"", Kind::Allocated),
+];
+
+fn texts<B: Backend>(rt: &impl Abort, alloc: Global) -> Result<(), Fail> {
+    for (text, json, kind) in STRINGS {
+        let read = HipStr::<B>::from_json(alloc, &value(alloc, json)?).or(Err("not read"))?;
+        let made = shown(alloc, HipStr::<B>::borrowed(text).to_json(alloc)?)?;
+        assert_eq!(rt;
+            (made.as_str(), read.as_str(), read.kind()),
+            (*json, *text, *kind)
+        );
+    }
+    Ok(())
+}
+
+fn paths<B: Backend>(rt: &impl Abort, alloc: Global) -> Result<(), Fail> {
+    for (text, json, _kind) in STRINGS {
+        let read = HipPath::<B>::from_json(alloc, &value(alloc, json)?).or(Err("not read"))?;
+        let made = HipPath::<B>::borrowed(text)
+            .to_json(alloc)
+            .or(Err("not made"))?;
+        let made = shown(alloc, made)?;
+        assert_eq!(rt;
+            (made.as_str(), read.as_path(), read.is_borrowed()),
+            (*json, text.as_bytes(), false)
+        );
+    }
+    Ok(())
+}
+
+#[test]
+fn paths_on_either(rt: HostRuntime) -> Result<(), Fail> {
+    paths::<Rc>(&rt, rt.alloc())?;
+    paths::<Unique>(&rt, rt.alloc())
+}
+
+#[test]
+fn texts_on_either(rt: HostRuntime) -> Result<(), Fail> {
+    texts::<Rc>(&rt, rt.alloc())?;
+    texts::<Unique>(&rt, rt.alloc())
+}
+
+#[test]
+fn path_that_is_no_text(rt: HostRuntime) {
+    let path = HipPath::from(HipOsStr::from(HipByt::<Rc>::borrowed(b"a\xFF")));
+    assert_eq!(&rt; path.to_json(rt.alloc()).err(), Some(JsonFault::NotUtf8));
+}
+
+/// JSON texts that are read as bytes, and where these lie.
+const BYTES: &[(&str, &[u8], Kind)] = &[
+    ("[]", b"", Kind::Inline),
+    ("\"\"", b"", Kind::Inline),
+    ("[1,2,3]", b"\x01\x02\x03", Kind::Inline),
+    ("\"\\u0001\\u0002\\u0003\"", b"\x01\x02\x03", Kind::Inline),
+    ("\"a\"", b"a", Kind::Inline),
+    ("[97]", b"a", Kind::Inline),
+    ("[0,255]", b"\x00\xFF", Kind::Inline),
+    ("\"\\u0000é\"", b"\x00\xC3\xA9", Kind::Inline),
+    (
+        "\"abcdefghijklmnopqrstuvwxyz\"",
+        b"abcdefghijklmnopqrstuvwxyz",
+        Kind::Allocated,
+    ),
+    (
+        "[1,2,3,4,5,6,7,8,9,10,11,12,13,14,15,16,17,18,19,20,21,22,23,24]",
+        b"\x01\x02\x03\x04\x05\x06\x07\x08\x09\x0A\x0B\x0C\x0D\x0E\x0F\x10\x11\x12\x13\x14\x15\x16\x17\x18",
+        Kind::Allocated,
+    ),
+];
+
+fn bytes<B: Backend>(rt: &impl Abort, alloc: Global) -> Result<(), Fail> {
+    for (json, bytes, kind) in BYTES {
+        let read = HipByt::<B>::from_json(alloc, &value(alloc, json)?).or(Err("not read"))?;
+        assert_eq!(rt; (read.as_slice(), read.kind()), (*bytes, *kind), "{json}");
+    }
+    Ok(())
+}
+
+#[test]
+fn bytes_on_either(rt: HostRuntime) -> Result<(), Fail> {
+    bytes::<Rc>(&rt, rt.alloc())?;
+    bytes::<Unique>(&rt, rt.alloc())
+}
+
+/// JSON texts that are no bytes, and the item that is told.
+const NO_BYTES: &[(&str, Option<usize>)] = &[
+    ("true", None),
+    ("null", None),
+    ("1", None),
+    ("1.5", None),
+    ("{}", None),
+    ("{\"Unix\":[97]}", None),
+    ("[1,256]", Some(1)),
+    ("[1.0]", Some(0)),
+    ("[1e0]", Some(0)),
+    ("[-1]", Some(0)),
+    ("[18446744073709551616]", Some(0)),
+    ("[\"a\"]", Some(0)),
+    ("[null]", Some(0)),
+    ("[true]", Some(0)),
+    ("[[1]]", Some(0)),
+    ("[{}]", Some(0)),
+    ("[1,2,3.5,-1]", Some(2)),
+    (
+        "[1,2,3,4,5,6,7,8,9,10,11,12,13,14,15,16,17,18,19,20,21,22,23,24,256,-1]",
+        Some(24),
+    ),
+];
+
+#[test]
+fn no_bytes(rt: HostRuntime) -> Result<(), Fail> {
+    for (json, at) in NO_BYTES {
+        let read = HipByt::<Rc>::from_json(rt.alloc(), &value(rt.alloc(), json)?);
+        assert_eq!(&rt; read.err(), Some(JsonFault::NotJsonBytes(*at)), "{json}");
+    }
+    Ok(())
+}
+
+/// JSON texts that are read as OS strings.
+const NAMES: &[(&str, &[u8])] = &[
+    ("{\"Unix\":[]}", b""),
+    ("{\"Unix\":[97,98]}", b"ab"),
+    ("{\"Unix\":[0,255]}", b"\x00\xFF"),
+];
+
+#[test]
+fn names(rt: HostRuntime) -> Result<(), Fail> {
+    for (json, bytes) in NAMES {
+        let read = HipOsStr::<Rc>::from_json(rt.alloc(), &value(rt.alloc(), json)?).or(Err(
+            "not read",
+        ))?;
+        assert_eq!(&rt;
+            (read.as_os_str(), read.is_borrowed()),
+            (*bytes, false),
+            "{json}"
+        );
+    }
+    Ok(())
+}
+
+/// JSON texts that are no OS string.
+const NO_NAMES: &[(&str, JsonFault)] = &[
+    ("{\"Unix\":\"ab\"}", JsonFault::NotJsonBytes(None)),
+    ("{\"Unix\":null}", JsonFault::NotJsonBytes(None)),
+    ("{\"Unix\":1.5}", JsonFault::NotJsonBytes(None)),
+    ("{\"Unix\":{\"Unix\":[97]}}", JsonFault::NotJsonBytes(None)),
+    ("{\"Unix\":[1,256]}", JsonFault::NotJsonBytes(Some(1))),
+    ("{\"Unix\":[[97]]}", JsonFault::NotJsonBytes(Some(0))),
+    ("{\"Unix\":[97],\"x\":1}", JsonFault::NotJsonUnix),
+    ("{\"A\":1,\"Unix\":[97]}", JsonFault::NotJsonUnix),
+    ("{}", JsonFault::NotJsonUnix),
+    ("{\"unix\":[97]}", JsonFault::NotJsonUnix),
+    ("{\"Windows\":[97]}", JsonFault::NotJsonUnix),
+    ("[97]", JsonFault::NotJsonUnix),
+    ("\"Unix\"", JsonFault::NotJsonUnix),
+    ("null", JsonFault::NotJsonUnix),
+    ("0", JsonFault::NotJsonUnix),
+];
+
+#[test]
+fn no_names(rt: HostRuntime) -> Result<(), Fail> {
+    for (json, fault) in NO_NAMES {
+        let read = HipOsStr::<Rc>::from_json(rt.alloc(), &value(rt.alloc(), json)?);
+        assert_eq!(&rt; read.err(), Some(*fault), "{json}");
+    }
+    Ok(())
+}
+
+/// JSON texts that are no string.
+const NO_STRINGS: &[&str] = &["0", "3", "null", "1.5", "[\"a\"]", "{}", "true"];
+
+#[test]
+fn no_strings(rt: HostRuntime) -> Result<(), Fail> {
+    for json in NO_STRINGS {
+        let value = value(rt.alloc(), json)?;
+        let text = HipStr::<Rc>::from_json(rt.alloc(), &value).err();
+        let path = HipPath::<Rc>::from_json(rt.alloc(), &value).err();
+        let wanted = Some(JsonFault::NotJsonString);
+        assert_eq!(&rt; (text, path), (wanted, wanted), "{json}");
+    }
+    Ok(())
+}
+
+/// Faults and their texts.
+const FAULTS: &[(JsonFault, &str)] = &[
+    (JsonFault::NotJsonBytes(None), "not a JSON array of bytes"),
+    (
+        JsonFault::NotJsonBytes(Some(12)),
+        "not a byte at 12 of a JSON array",
+    ),
+    (
+        JsonFault::NotJsonUnix,
+        "not a JSON object with the one key Unix",
+    ),
+];
+
+#[test]
+fn fault_texts(rt: HostRuntime) -> Result<(), Fail> {
+    for (fault, text) in FAULTS {
+        assert_eq!(&rt; format!(in rt.alloc(); "{fault}")?.as_str(), *text);
+    }
+    Ok(())
+}

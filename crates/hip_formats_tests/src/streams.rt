@@ -1,0 +1,105 @@
+//! Sources and sinks that are slow, that fail, or that take nothing.
+use crate::trickle::{Drain, Spring};
+use hip_bytes::{BorshFault, ByteSink, ByteSource, HipByt};
+use hip_text::{HipStr, Rc};
+use std::alloc::Global;
+use std::process::Abort;
+use std::test::Fail;
+
+const FORM: &[u8] = b"\x03\x00\x00\x00abc";
+
+/// A form of 10,000 `a`, and a `z` behind it, one byte a read and as many as there is room for.
+#[test]
+fn slow_source(rt: HostRuntime) -> Result<(), Fail> {
+    for most in [1, usize::MAX] {
+        let mut bytes = vec![in rt.alloc(); 0x10, 0x27, 0, 0]?;
+        bytes.resize(10_004, b'a')?;
+        bytes.push(b'z')?;
+        let mut spring = Spring::new(bytes.as_slice(), most, 0);
+        let read = HipByt::<Rc>::deserialize_reader(rt.alloc(), &mut spring).or(Err("not read"))?;
+        assert_eq!(&rt;
+            (read.as_slice(), spring.rest),
+            (&bytes[4..10_004], &b"z"[..])
+        );
+    }
+    Ok(())
+}
+
+/// A length of four gigabytes and 10,000 bytes: all are taken.
+#[test]
+fn far_too_short(rt: HostRuntime) -> Result<(), Fail> {
+    let mut bytes = vec![in rt.alloc(); 0xFF; 4]?;
+    bytes.resize(10_004, b'a')?;
+    let mut spring = Spring::new(bytes.as_slice(), usize::MAX, 0);
+    let read = HipByt::<Rc>::deserialize_reader(rt.alloc(), &mut spring);
+    assert_eq!(&rt;
+        (read.err(), spring.rest.len(), spring.failures()),
+        (Some(BorshFault::Truncated), 0, 0)
+    );
+    Ok(())
+}
+
+/// What is answered, how many bytes are left, and how many reads failed, where one byte a call comes from a source that fails at one call.
+fn read_bytes(alloc: Global, failing: usize) -> (Option<BorshFault>, usize, u64) {
+    let mut spring = Spring::new(FORM, 1, failing);
+    let fault = HipByt::<Rc>::deserialize_reader(alloc, &mut spring).err();
+    (fault, spring.rest.len(), spring.failures)
+}
+
+fn read_text(alloc: Global, failing: usize) -> (Option<BorshFault>, usize, u64) {
+    let mut spring = Spring::new(FORM, 1, failing);
+    let fault = HipStr::<Rc>::deserialize_reader(alloc, &mut spring).err();
+    (fault, spring.rest.len(), spring.failures)
+}
+
+/// As many bytes were taken as calls went well.
+fn is_read(rt: &impl Abort, alloc: Global, failing: usize) {
+    let wanted = if 0 < failing && failing <= FORM.len() {
+        (Some(BorshFault::Io), FORM.len() + 1 - failing, 1)
+    } else {
+        (None, 0, 0)
+    };
+    let seen = (read_bytes(alloc, failing), read_text(alloc, failing));
+    assert_eq!(rt; seen, (wanted, wanted), "at call {failing}");
+}
+
+#[test]
+fn failing_source(rt: HostRuntime) {
+    for failing in 0..FORM.len() + 2 {
+        is_read(&rt, rt.alloc(), failing);
+    }
+}
+
+/// Writes a form, one byte a call, to a sink that fails at one call.
+fn is_written(rt: &impl Abort, alloc: Global, failing: usize) {
+    let mut drain = Drain::new(Vec::new(alloc), 1, failing);
+    let written = HipByt::<Rc>::borrowed(b"abc").serialize(&mut drain);
+    let wanted = if 0 < failing && failing <= FORM.len() {
+        (Err(BorshFault::Io), &FORM[..failing - 1], 1)
+    } else {
+        (Ok(()), FORM, 0)
+    };
+    assert_eq!(rt;
+        (written, drain.taken.as_slice(), drain.failures()),
+        wanted,
+        "at call {failing}"
+    );
+}
+
+#[test]
+fn failing_sink(rt: HostRuntime) {
+    for failing in 0..FORM.len() + 2 {
+        is_written(&rt, rt.alloc(), failing);
+    }
+}
+
+/// A sink that takes no byte, and of which no write fails.
+#[test]
+fn full_sink(rt: HostRuntime) {
+    let mut drain = Drain::new(Vec::new(rt.alloc()), 0, 0);
+    let written = HipStr::<Rc>::borrowed("abc").serialize(&mut drain);
+    assert_eq!(&rt;
+        (written, drain.taken.len(), drain.calls, drain.failures),
+        (Err(BorshFault::Io), 0, 1, 0)
+    );
+}
