@@ -74,7 +74,7 @@ fn theirs(walk: Walk, text: &str, by: By) -> u64 {
         (Walk::TrimStart, By::Set(p)) => text.trim_start_matches(p.as_slice()).len() as u64 + 1,
         (Walk::TrimEnd, By::Char(p)) => text.trim_end_matches(p).len() as u64 + 1,
         (Walk::TrimEnd, By::Set(p)) => text.trim_end_matches(|c| c == p[0] || c == p[1]).len() as u64 + 1,
-        (Walk::Lines, By::Nothing) => text.split_inclusive('\n').map(|line| line.lines().next().unwrap_or("")).map(|line| line.len() as u64 + 1).sum(),
+        (Walk::Lines, By::Nothing) => drained(text.lines()),
         (Walk::Words, By::Nothing) => drained(text.split_whitespace()),
         (Walk::AsciiWords, By::Nothing) => drained(text.split_ascii_whitespace()),
         (Walk::AsciiWordsBack, By::Nothing) => drained(text.split_ascii_whitespace().rev()),

@@ -1,12 +1,15 @@
 -- The bytes of a character of two bytes or more, and its number, which they spell.
-use Rattle.std.proofs.Common.{◌≡◌, ℕ, ◌+◌, ◌-◌, ◌*◌, ◌/◌, ◌%◌, ◌<◌, ◌≤◌, ◌⊎◌, inl, inr, List, [], ◌∷◌, ◌++◌, Some, ⊎_elim, length, drop, sym, ap, ◌∙◌, arith, add-zero, le-ltb, lt-ltb, get_or-drop}
+use Rattle.std.proofs.Common.{◌≡◌, ℕ, zero, suc, ◌+◌, ◌-◌, ◌*◌, ◌/◌, ◌%◌, ◌<◌, ◌≤◌, ◌⊎◌, inl, inr, List, [], ◌∷◌, ◌++◌, Some, ⊎_elim, length, drop, sym, ap, subst, ◌∙◌, arith, add-zero, le-ltb, lt-ltb, get_or-drop}
 use Rattle.std.specs.Prelude.{slice_index}
-use Rattle.std.proofs.lemmas.Bool.{cases_lt}
-use Rattle.std.proofs.lemmas.Str.{length-encode}
+use Rattle.std.proofs.lemmas.Bool.{cases_lt, cases_Bool, false≢true}
+use Rattle.std.proofs.lemmas.Str.{length-encode, IsCharBoundary-start}
+use Rattle.std.proofs.lemmas.Option.{some_pair_parts}
 use Rattle.std.specs.Char.{encode_utf8, len_utf8}
 use Rattle.std.specs.Str.{IsUtf8, IsCharBoundary}
 use Rattle.hip_match.specs.Characters.{char_at}
-use Rattle.hip_match.specs.CharLaws.{StartsChar, starts_char}
+use Rattle.hip_match.specs.CharLaws.{StartsChar, starts_char, is_boundary-true, is_boundary-is, char_at-ascii, char_at-between}
+use Rattle.hip_match.specs.Occurrence.{is_boundary}
+use Rattle.hip_match.specs.Ready.{IsPreviousBoundary}
 
 encode_1 : (c : ℕ) → c < 128 → encode_utf8 c ≡ c ∷ []
 unfolding encode_utf8
@@ -100,3 +103,91 @@ module _ (t : List ℕ) (i : ℕ) (utf8 : IsUtf8 t) (cut : IsCharBoundary t i) (
   is_four high =
       ⊎_elim (λ h. absurd (omega (arith, h.1, h.2)))
       (λ r. ⊎_elim (λ h. absurd (omega (arith, h.1, h.2))) (λ h. is 4 _ h.0 (omega (arith, h.1, h.2, h.3, h.4))) r) bytes
+
+-- ---- from the back
+
+-- the last boundary before `to` starts the character that ends there
+module _ (t : List ℕ) (to : ℕ) (utf8 : IsUtf8 t) (cut : IsCharBoundary t to) (some : 0 < to) (wide : 128 ≤ slice_index t (to - 1)) where
+  found : (n : ℕ) → n < to → ((k : ℕ) → n < k → k < to → ¬ IsCharBoundary t k) → (i : ℕ) × IsPreviousBoundary t to i
+  found zero lt none = (0, record { before = lt; boundary = IsCharBoundary-start t utf8; none = none })
+  found (suc n) lt none =
+      ⊎_elim (λ yes. (suc n, record { before = lt; boundary = is_boundary-is t (suc n) yes; none = none }))
+      (λ no. found n (omega arith) (λ k lo hi at. ⊎_elim
+      (λ (past : suc n < k). none k past hi at)
+      (λ (le : k ≤ suc n).
+      let same : k ≡ suc n = omega arith in
+      false≢true (sym no ∙ ap (is_boundary t) (sym same) ∙ is_boundary-true t k at))
+      (cases_lt (suc n) k)))
+      (cases_Bool (is_boundary t (suc n)))
+
+  prev : (i : ℕ) × IsPreviousBoundary t to i
+  prev = found (to - 1) (omega arith) (λ k lo hi. absurd (omega arith))
+
+  abbrev at : ℕ
+  at = prev.0
+
+  within : at < length t
+  within = let before = prev.1.before in omega (arith, cut.0)
+
+  ends : (c k : ℕ) → char_at t at ≡ Some (c, k) → k ≡ to
+  ends c k is = (some_pair_parts _ _ _ _ (sym is ∙ char_at-between t at to utf8 prev.1.boundary cut prev.1.before prev.1.none c k is)).1
+
+  wide_at : 128 ≤ slice_index t at
+  wide_at =
+      ⊎_elim (λ (low : slice_index t at < 128).
+      let end : at + 1 ≡ to = ends _ _ (char_at-ascii t at utf8 prev.1.boundary within low) in
+      let same : at ≡ to - 1 = omega arith in
+      absurd (omega (arith, low, wide, ap (slice_index t) same)))
+      (λ (high : 128 ≤ slice_index t at). high)
+      (cases_lt (slice_index t at) 128)
+
+  stop : (width : ℕ) → len_utf8 (here t at utf8 prev.1.boundary within wide_at).0 ≡ width → at + width ≡ to
+  stop width is =
+      let char = here t at utf8 prev.1.boundary within wide_at in
+      ap (λ k. at + k) (sym is) ∙ ends char.0 _ char.1.at
+
+  -- it is two, three or four bytes before, and the bytes between don't start a character
+  abbrev Width : Type 0
+  Width =
+      ((at + 2 ≡ to) × (192 ≤ slice_index t at))
+      ⊎ (((at + 3 ≡ to) × (192 ≤ slice_index t at) × (slice_index t (at + 1) < 192))
+      ⊎ ((at + 4 ≡ to) × (slice_index t (at + 1) < 192) × (slice_index t (at + 2) < 192)))
+
+  width : Width
+  width =
+      ⊎_elim (λ h. inl (stop 2 h.0, omega (arith, h.2)))
+      (λ r. inr (⊎_elim (λ h. inl (stop 3 h.0, omega (arith, h.2), omega (arith, h.3))) (λ h. inr (stop 4 h.0, omega (arith, h.2), omega (arith, h.3))) r))
+      (bytes t at utf8 prev.1.boundary within wide_at)
+
+  is_at : (i : ℕ) → at ≡ i → IsPreviousBoundary t to i × (128 ≤ slice_index t i)
+  is_at i same = let P : ℕ → Type 0 = λ j. IsPreviousBoundary t to j × (128 ≤ slice_index t j) in subst P same (prev.1, wide_at)
+
+  read : (j k : ℕ) → j ≡ k → slice_index t j ≡ slice_index t k
+  read j k same = ap (slice_index t) same
+
+  pub room_2 : 2 ≤ to
+  room_2 = ⊎_elim (λ h. omega (arith, h.0)) (λ r. ⊎_elim (λ h. omega (arith, h.0)) (λ h. omega (arith, h.0)) r) width
+
+  pub starts_2 : 192 ≤ slice_index t (to - 2) → IsPreviousBoundary t to (to - 2) × (128 ≤ slice_index t (to - 2))
+  starts_2 lead =
+      ⊎_elim (λ h. let e = h.0 in is_at (to - 2) (omega arith))
+      (λ r. ⊎_elim (λ h. let e = h.0 in absurd (omega (arith, h.2, read (at + 1) (to - 2) (omega arith)))) (λ h. let e = h.0 in absurd (omega (arith, h.2, read (at + 2) (to - 2) (omega arith)))) r)
+      width
+
+  pub room_3 : slice_index t (to - 2) < 192 → 3 ≤ to
+  room_3 low =
+      ⊎_elim (λ h. let e = h.0 in absurd (omega (arith, h.1, read at (to - 2) (omega arith))))
+      (λ r. ⊎_elim (λ h. omega (arith, h.0)) (λ h. omega (arith, h.0)) r)
+      width
+
+  pub starts_3 : slice_index t (to - 2) < 192 → 192 ≤ slice_index t (to - 3) → IsPreviousBoundary t to (to - 3) × (128 ≤ slice_index t (to - 3))
+  starts_3 low lead =
+      ⊎_elim (λ h. let e = h.0 in absurd (omega (arith, h.1, read at (to - 2) (omega arith))))
+      (λ r. ⊎_elim (λ h. let e = h.0 in is_at (to - 3) (omega arith)) (λ h. let e = h.0 in absurd (omega (arith, h.1, read (at + 1) (to - 3) (omega arith)))) r)
+      width
+
+  pub starts_4 : slice_index t (to - 2) < 192 → slice_index t (to - 3) < 192 → (4 ≤ to) × IsPreviousBoundary t to (to - 4) × (128 ≤ slice_index t (to - 4))
+  starts_4 low lower =
+      ⊎_elim (λ h. let e = h.0 in absurd (omega (arith, h.1, read at (to - 2) (omega arith))))
+      (λ r. ⊎_elim (λ h. let e = h.0 in absurd (omega (arith, h.1, read at (to - 3) (omega arith)))) (λ h. let e = h.0 in let it = is_at (to - 4) (omega arith) in (omega arith, it.0, it.1)) r)
+      width

@@ -1,10 +1,9 @@
 //! The characters of a text, by position, and sets of characters.
-ghost use Rattle.std.specs.Prelude.{◌≡◌, ◌<◌, ◌≤◌, ℕ, Bool, Some, MatchOption, length, slice_index};
+ghost use Rattle.std.specs.Prelude.{◌≡◌, ◌-◌, ◌<◌, ◌≤◌, ℕ, Bool, Some, MatchOption, length, slice_index};
 ghost use Rattle.std.specs.Str.{IsCharBoundary};
 ghost use Rattle.hip_match.specs.Occurrence.{IsNextMatch, IsLastMatch, start_of};
 ghost use Rattle.hip_match.specs.Characters.{char_at, char_ends, IsCharBefore};
-
-use crate::boundaries::boundary_before;
+ghost use Rattle.hip_match.specs.Ready.{IsPreviousBoundary};
 
 // The number of the character of two to four bytes that starts at `at`, and where it ends.
 #[inline]
@@ -69,6 +68,25 @@ pub(crate) fn char_from(text: &str, at: usize) -> Option<(char, usize)>
     Some(char_within(text, at))
 }
 
+// Where the character of two to four bytes starts that ends at `to`. Its first byte is the last that isn't below 0xC0.
+#[inline]
+fn wide_start(text: &str, to: usize) -> usize
+    requires some { 0 < to }
+    requires boundary { IsCharBoundary text.now to }
+    requires wide { 128 ≤ slice_index text.now (to - 1) }
+    ensures boundary { IsPreviousBoundary text.now to result }
+    ensures wide { 128 ≤ slice_index text.now result }
+{
+    let bytes = text.as_bytes();
+    if bytes[to - 2] >= 0xC0 {
+        return to - 2;
+    }
+    if bytes[to - 3] >= 0xC0 {
+        return to - 3;
+    }
+    to - 4
+}
+
 // The character that ends at `to`, and where it starts.
 #[inline]
 pub(crate) fn char_before(text: &str, to: usize) -> Option<(char, usize)>
@@ -82,8 +100,8 @@ pub(crate) fn char_before(text: &str, to: usize) -> Option<(char, usize)>
     if last < 0x80 {
         return Some((last as char, to - 1));
     }
-    let at = boundary_before(text, to);
-    let (c, _) = char_from(text, at)?;
+    let at = wide_start(text, to);
+    let (c, _) = wide_char_from(text, at);
     Some((c, at))
 }
 

@@ -21,7 +21,9 @@ fn drained<R: Ranges + Drop>(mut ranges: R) -> u64
 {
     let mut sum = 0u64;
     while let Some((start, end)) = ranges.next() {
-        sum = sum.wrapping_add((end as u64).wrapping_sub(start as u64)).wrapping_add(1);
+        sum = sum
+            .wrapping_add((end as u64).wrapping_sub(start as u64))
+            .wrapping_add(1);
     }
     sum
 }
@@ -33,13 +35,17 @@ fn drained_back<R: RangesBack + Drop>(mut ranges: R) -> u64
 {
     let mut sum = 0u64;
     while let Some((start, end)) = ranges.next_back() {
-        sum = sum.wrapping_add((end as u64).wrapping_sub(start as u64)).wrapping_add(1);
+        sum = sum
+            .wrapping_add((end as u64).wrapping_sub(start as u64))
+            .wrapping_add(1);
     }
     sum
 }
 
 fn length(range: (usize, usize)) -> u64 {
-    (range.1 as u64).wrapping_sub(range.0 as u64).wrapping_add(1)
+    (range.1 as u64)
+        .wrapping_sub(range.0 as u64)
+        .wrapping_add(1)
 }
 
 /// A walk by a pattern, from the numbers that the driver passes.

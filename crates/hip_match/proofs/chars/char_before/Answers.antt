@@ -1,7 +1,6 @@
 use Rattle.std.proofs.Common.{◌≡◌, ◌<◌, ◌+◌, ◌-◌, Some, length, slice_index, ap, sym, ◌∙◌, arith}
 use Rattle.std.proofs.lemmas.Str.{IsCharBoundary-before_ascii}
 use Rattle.hip_match.specs.CharLaws.{char_at-ascii, char_at-between}
-use Rattle.hip_match.proofs.SetLemmas.{some_char}
 use Rattle.hip_match.proofs.chars.char_before.Goals as goal
 
 pub returns-then-last-lt128 : goal.returns-then-last-lt128
@@ -20,11 +19,9 @@ returns-then-last-lt128 c =
 
 pub returns : goal.returns
 returns c =
-    let prev = c.boundary_before-at.ensures in
-    let h = c.in_ok-c in
-    record { before = prev.before; boundary = prev.boundary; is = char_at-between c.args.text.now _ c.args.to c.utf8.text prev.boundary c.requires prev.before prev.none _ h.field-0-1 (sym c.in_ok-c.ensures) }
-
-pub returns-in_err-c : goal.returns-in_err-c
-returns-in_err-c c =
-    let prev = c.boundary_before-at.ensures in
-    absurd (some_char c.args.text.now _ c.utf8.text prev.boundary (omega (arith, prev.before, c.requires.0)) (sym c.in_err-c.ensures))
+    let prev = c.wide_start-at.ensures.boundary in
+    record {
+      before = prev.before;
+      boundary = prev.boundary;
+      is = char_at-between c.args.text.now _ c.args.to c.utf8.text prev.boundary c.requires prev.before prev.none _ _ c.wide_char_from-c.ensures;
+    }
