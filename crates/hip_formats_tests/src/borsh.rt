@@ -5,8 +5,8 @@ use std::alloc::Global;
 use std::process::Abort;
 use std::test::Fail;
 
-/// A text and its form, after the specification of Borsh: the length as four bytes, the least first, and then the bytes. The second and the
-/// third are those of hipstr's own tests, which compare them with the crate borsh.
+/// A text and its form, after the specification of Borsh: the length as four bytes, the least first, and then the bytes. That of `123` is in
+/// hipstr's own tests, which compare it with the crate borsh.
 const FORMS: &[(&str, &[u8], Kind)] = &[
     ("", b"\x00\x00\x00\x00", Kind::Inline),
     ("123", b"\x03\x00\x00\x00\x31\x32\x33", Kind::Inline),
