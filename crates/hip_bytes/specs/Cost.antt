@@ -48,7 +48,7 @@ write_cost shares Borrowed len = times_copied shares len
 write_cost true Allocated len = len
 write_cost false Allocated len = 0
 
--- what a handle's owner has been paid for growth less than it may copy: the potential of amortised counting
+-- the same of a handle: bytes that are inline or borrowed have nothing that grows
 abbrev pub pot_of : Kind → ℕ → ℕ → ℕ
 pot_of Inline len capacity = 0
 pot_of Borrowed len capacity = 0

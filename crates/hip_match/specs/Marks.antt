@@ -1,4 +1,4 @@
--- Where ASCII white space stands in a block of 64 places of a text, as the bits of a number.
+-- Where ASCII white space stands in a block of 64 places of a text, as the bits of a number. Only private functions cite it.
 use Rattle.std.specs.Prelude.{◌≡◌, ℕ, ◌+◌, ◌*◌, ◌<◌, ◌≤◌, Bool, true, false, List, length, slice_index, if◌then◌else◌}
 use Rattle.std.specs.Char.{is_ascii_whitespace}
 use Rattle.std.specs.Int.{bit_at}

@@ -1,5 +1,5 @@
 -- What a vector that is computed lane by lane is, and what storing it does to a list.
-use Rattle.std.proofs.Common.{◌≡◌, ℕ, ◌+◌, ◌<◌, ◌≤◌, eqb, Bool, true, cond, List, [], ◌∷◌, ◌++◌, map, take, drop, length, Fits, w8, refl, sym, ap, ap₂, ◌∙◌, arith}
+use Rattle.std.proofs.Common.{◌≡◌, ℕ, ◌+◌, ◌≤◌, eqb, Bool, true, cond, List, [], ◌∷◌, ◌++◌, map, take, drop, length, Fits, w8, refl, sym, ap, ap₂, ◌∙◌, arith}
 use Rattle.std.proofs.lemmas.Bool.{agree_below, agree_below_at, eqb-true}
 use Rattle.std.proofs.lemmas.Simd.{map-map, length-chunk, put_chunk_is, take_more_put_chunk}
 use Rattle.std.proofs.lemmas.List.{length-map, length-append, length-take-le, append_assoc, drop-drop, drop_at}

@@ -34,7 +34,8 @@ times_copied false n = n + n
 pub times_copied-examples : (times_copied true 24 ≡ 24) × (times_copied false 24 ≡ 48)
 times_copied-examples = (refl, refl)
 
--- twice a length less the capacity, nothing where that is negative: what growth may still copy has been paid for by appends
+-- what appends have paid in advance for the next growth, which moves all bytes once: twice the length less the capacity, nothing where
+-- that is negative
 abbrev pub pot : ℕ → ℕ → ℕ
 pot len capacity = 2 * len - capacity
 

@@ -1,8 +1,8 @@
 //! Comparisons of bytes, many at a time.
 //!
-//! Up to 128 bytes two blocks of the same width cover both byte strings, the second ending where they end; beyond that the standard
-//! library compares.
-ghost use Rattle.std.specs.Prelude.{◌≡◌, ◌↔◌, ◌+◌, ◌*◌, ◌<◌, ◌≤◌, nat_eq, length, IsTrue};
+//! Up to 128 bytes two blocks of the same width cover both byte strings, the second ending where they end; beyond that blocks of 128 and
+//! of 64 are taken one after another.
+ghost use Rattle.std.specs.Prelude.{◌≡◌, ◌↔◌, ◌+◌, ◌*◌, ◌<◌, ◌≤◌, nat_eq, length, IsTrue, min};
 ghost use Rattle.std.specs.Cmp.Lexicographic.{pointwise, slice_cmp};
 ghost use Rattle.std.specs.Ordering.{nat_cmp};
 ghost use Rattle.hip_raw.specs.Alike.{Alike, IsAlikeRun};
@@ -50,8 +50,18 @@ pub fn equal(a: &[u8], b: &[u8]) -> bool
         16..=31 => equal_by_ends::<16>(a, b),
         32..=64 => equal_by_ends::<32>(a, b),
         65..=128 => equal_by_ends::<64>(a, b),
-        _ => a == b,
+        _ => equal_by_blocks(a, b),
     }
+}
+
+// The same for many bytes. It isn't inlined, so that short ones are compared with no register saved.
+#[inline(never)]
+fn equal_by_blocks(a: &[u8], b: &[u8]) -> bool
+    requires level { length a.now ≡ length b.now }
+    requires covered { 64 ≤ length a.now }
+    ensures { IsTrue result ↔ (a.now ≡ b.now) }
+{
+    alike_by_blocks(a, b, a.len()) == a.len()
 }
 
 // How many of the N bytes from `i` on are the same, from the first. With two lanes `trailing_zeros` of a mask, compared with 2, was
@@ -103,6 +113,27 @@ fn alike_by_one(a: &[u8], b: &[u8], n: usize) -> usize
     n
 }
 
+// The same, block by block, where there are at least 64 bytes.
+#[inline(always)]
+fn alike_by_blocks(a: &[u8], b: &[u8], n: usize) -> usize
+    requires within { (n ≤ length a.now) × (n ≤ length b.now) }
+    requires covered { 64 ≤ n }
+    ensures { IsAlikeRun a.now b.now 0 n result }
+{
+    let mut at = 0;
+    while 128 <= n - at && (alike_at::<64>(a, b, at) & alike_at::<64>(a, b, at + 64)) {
+        at += 128;
+    }
+    let last = n - 64;
+    while at < last {
+        if !alike_at::<64>(a, b, at) {
+            return at + alike_run::<64>(a, b, at);
+        }
+        at += 64;
+    }
+    last + alike_run::<64>(a, b, last)
+}
+
 // How many of the first `n` bytes are the same, up to 128.
 #[inline(always)]
 fn alike(a: &[u8], b: &[u8], n: usize) -> usize
@@ -119,6 +150,29 @@ fn alike(a: &[u8], b: &[u8], n: usize) -> usize
     }
 }
 
+// How the bytes stand to each other, where the first `both` of the shorter one's were compared and `at` of them are the same.
+#[inline(always)]
+fn order_at(a: &[u8], b: &[u8], both: usize, at: usize) -> Ordering
+    requires shorter { both ≡ min (length a.now) (length b.now) }
+    requires run { IsAlikeRun a.now b.now 0 both at }
+    ensures { result ≡ slice_cmp nat_cmp a.now b.now }
+{
+    if at < both {
+        return a[at].cmp(&b[at]);
+    }
+    a.len().cmp(&b.len())
+}
+
+// The order of many bytes. It isn't inlined, as above.
+#[inline(never)]
+fn order_by_blocks(a: &[u8], b: &[u8], both: usize) -> Ordering
+    requires shorter { both ≡ min (length a.now) (length b.now) }
+    requires covered { 64 ≤ both }
+    ensures { result ≡ slice_cmp nat_cmp a.now b.now }
+{
+    order_at(a, b, both, alike_by_blocks(a, b, both))
+}
+
 /// How the bytes stand to each other, in the order of their numbers.
 #[inline(always)]
 pub fn order(a: &[u8], b: &[u8]) -> Ordering
@@ -126,11 +180,7 @@ pub fn order(a: &[u8], b: &[u8]) -> Ordering
 {
     let both = a.len().min(b.len());
     if both > 128 {
-        return a.cmp(b);
+        return order_by_blocks(a, b, both);
     }
-    let at = alike(a, b, both);
-    if at < both {
-        return a[at].cmp(&b[at]);
-    }
-    a.len().cmp(&b.len())
+    order_at(a, b, both, alike(a, b, both))
 }

@@ -1,7 +1,7 @@
 //! Lengths that take few bytes.
 ghost use Rattle.std.specs.Prelude.{◌≡◌, ◌≤◌, ℕ};
 
-/// How many bytes lie in a handle of the layers above.
+/// How many bytes at most lie in a handle of the layers above.
 pub const INLINE_CAPACITY: usize = 23;
 
 /// A length of at most `N`.
