@@ -1,10 +1,10 @@
 -- Where memchr finds the bytes of a text, the text occurs.
-use Rattle.std.proofs.Common.{◌≡◌, ℕ, ◌+◌, ◌-◌, ◌<◌, ◌≤◌, false, List, Option, Some, None, length, take, drop, slice_index, sym, ap, subst, ◌∙◌, arith, ⊎_elim, length-drop, length-take-le, get_or-drop, get_or-take, take_all}
+use Rattle.std.proofs.Common.{◌≡◌, ℕ, ◌+◌, ◌-◌, ◌<◌, ◌≤◌, false, inl, inr, List, Option, Some, None, length, take, drop, slice_index, sym, ap, subst, ◌∙◌, arith, ⊎_elim, length-drop, length-take-le, get_or-drop, get_or-take, take_all}
 use Rattle.std.specs.Prelude.{◌==◌}
 use Rattle.std.proofs.lemmas.Bool.{cases_lt, eqb-true, eq-eqb, false≢true}
 use Rattle.std.proofs.lemmas.List.{nil_from_length}
 use Rattle.std.specs.Str.{IsUtf8, IsCharBoundary}
-use Rattle.memchr.specs.Find.{OccursAt, FindsNeedle, FindsLastNeedle, IsFirstByte, IsLastByte, Passes, is_byte}
+use Rattle.memchr.specs.Find.{OccursAt, FindsNeedle, FindsLastNeedle, IsFirstByte, IsLastByte, NoneAfter, Passes, is_byte}
 use Rattle.memchr.proofs.lemmas.MatchLemmas.{OccursAt-part, OccursAt-from_part}
 use Rattle.hip_match.specs.Occurrence.{StartsFirst, EndsLast, start_of}
 use Rattle.hip_match.specs.Texts.{text_ends}
@@ -68,6 +68,46 @@ module _ (t p : List ℕ) where
   pub OccursAt-in_take : (to k : ℕ) → to ≤ length t → k + length p ≤ to → OccursAt t p k → OccursAt (take to t) p k
   OccursAt-in_take to k le fits h =
       record { fits = omega (arith, length-take-le to t le); reads = λ j lt. get_or-take to t (k + j) 0 (omega arith) ∙ h.reads j lt }
+
+  -- where p does not stand at the last place of its last byte, it stands before that
+  pub FindsLastNeedle-front : (at : ℕ) (r : Option ℕ) → 0 < length p → NoneAfter (Passes (is_byte (slice_index p (length p - 1))) t) 0 (length t) at
+      → (length p - 1 ≤ at → ¬ OccursAt (take (length t - (at - (length p - 1))) (drop (at - (length p - 1)) t)) p 0) → FindsLastNeedle (take at t) p r → FindsLastNeedle t p r
+  FindsLastNeedle-front at r some last apart found = by-place r found where
+    le : at ≤ length t
+    le = let high : at < length t = last.high in omega arith
+
+    ends : (k : ℕ) → OccursAt t p k → k + length p ≤ at
+    ends k h =
+        let back = length p - 1 in
+        let fits : k + length p ≤ length t = h.fits in
+        let passes : Passes (is_byte (slice_index p back)) t (k + back) = eq-eqb _ _ (h.reads back (omega arith)) in
+        elim (cases_lt (k + back) at) [
+          | inl before ↦ omega arith
+          | inr behind ↦ elim (cases_lt at (k + back)) [
+            | inl past ↦ absurd (last.after (k + back) (omega arith) (omega arith) passes)
+            | inr not_past ↦
+                let start = at - back in
+                let here : k ≡ start = omega arith in
+                let none : k - start ≡ 0 = omega arith in
+                let whole = take_all (length t - start) (drop start t) (omega (arith, length-drop start t)) in
+                absurd (apart (omega arith) (subst (λ xs. OccursAt xs p 0) (sym whole) (subst (λ j. OccursAt (drop start t) p j) none (OccursAt-in_drop start k (omega (arith, here)) h))))
+          ]
+        ]
+
+    by-place : (r : Option ℕ) → FindsLastNeedle (take at t) p r → FindsLastNeedle t p r
+    by-place None none = λ k lo hi h.
+        let within = ends k h in
+        none k lo (omega (arith, length-take-le at t le)) (OccursAt-in_take at k le within h)
+    by-place (Some k) found =
+        let out = OccursAt-take at k le found.1 in
+        let fits : k + length p ≤ length t = out.0.fits in (
+          record {
+            low = found.0.low;
+            high = omega arith;
+            after = λ j lo hi h. let within = ends j h in found.0.after j lo (omega (arith, length-take-le at t le)) (OccursAt-in_take at j le within h);
+          },
+          out.0,
+        )
 
   pub text_ends-occurs : (a b : ℕ) → text_ends p t a ≡ Some b → OccursAt t p a × (b ≡ a + length p)
   text_ends-occurs a b is =

@@ -136,6 +136,21 @@ fn last_near_place(finder: &Option<FinderRev<'_>>, hay: &[u8], needle: &[u8]) ->
     last_place_by(finder, hay, needle)
 }
 
+// The same of one that often stands where its last byte does the last time but one.
+#[inline]
+fn last_second_place(finder: &Option<FinderRev<'_>>, hay: &[u8], needle: &[u8]) -> Option<usize>
+    requires some { 0 < length needle.now }
+    requires prepared { IfSome finder.now (λ f. f ≡ needle.now) }
+    ensures { FindsLastNeedle hay.now needle.now result }
+{
+    let back = needle.len() - 1;
+    let at = memrchr(needle[back], hay)?;
+    if at >= back && is_prefix(&hay[at - back..], needle) {
+        return Some(at - back);
+    }
+    last_near_place(finder, &hay[..at], needle)
+}
+
 // The last place of `hay` where the bytes of `needle` stand.
 #[inline]
 fn last_place(finder: &Option<FinderRev<'_>>, hay: &[u8], needle: &[u8]) -> Option<usize>
@@ -146,7 +161,7 @@ fn last_place(finder: &Option<FinderRev<'_>>, hay: &[u8], needle: &[u8]) -> Opti
         return memrchr(needle[0], hay);
     }
     if needle.len() >= 2 && needle.len() <= 4 {
-        return last_near_place(finder, hay, needle);
+        return last_second_place(finder, hay, needle);
     }
     last_place_by(finder, hay, needle)
 }

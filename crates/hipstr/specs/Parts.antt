@@ -3,7 +3,7 @@ use Rattle.std.specs.Prelude.{◌≡◌, ℕ, ◌+◌, Bool, true, List, [], ◌
 use Rattle.hip_bytes.specs.Handle.{Handle}
 use Rattle.hip_bytes.specs.Made.{CutAnswers}
 use Rattle.hip_bytes.specs.Meter.{RisesAtMost}
-use Rattle.hip_cuts.specs.Piece.{IsPartAt, part_cost}
+use Rattle.hip_cuts.specs.Piece.{IsPartAt, part_cost, parts_cost}
 use Rattle.hip_match.specs.Draw.{draw}
 use Rattle.hip_match.specs.declared.draw.End.{End}
 use Rattle.hipstr.specs.Cut.{SomeNeedsMemory}
@@ -16,9 +16,14 @@ HoldParts source (range ∷ ranges) [] = ⊥
 HoldParts source (range ∷ ranges) (slot ∷ slots) = (slot.is_text ≡ true) × IsPartAt source range slot.handle × HoldParts source ranges slots
 
 -- what a call that makes parts in empty slots answers: their number, or that one is refused, and then the slots are as they were
-abbrev pub MakesParts : {E : Type 0} → Handle → List (ℕ × ℕ) → List SlotState → Result ℕ E → List SlotState → Type 0
-MakesParts source ranges old (Ok count) new = (count ≡ length ranges) × HoldParts source ranges new
-MakesParts source ranges old (Err error) new = SomeNeedsMemory source.kind ranges × (new ≡ old)
+abbrev pub PartsAnswer : {E : Type 0} → Handle → List (ℕ × ℕ) → List SlotState → Result ℕ E → List SlotState → Type 0
+PartsAnswer source ranges old (Ok count) new = (count ≡ length ranges) × HoldParts source ranges new
+PartsAnswer source ranges old (Err error) new = SomeNeedsMemory source.kind ranges × (new ≡ old)
+
+-- the same within the cost of these parts
+pub record MakesParts {E : Type 0} (shares : Bool) (source : Handle) (ranges : List (ℕ × ℕ)) (old : List SlotState) (result : Result ℕ E) (new : List SlotState) (before after : ℕ) : Type 0 where
+  pub made : PartsAnswer source ranges old result new
+  pub counted : RisesAtMost before after (parts_cost shares source ranges)
 
 -- what draws one: the part at the range that this end draws of the ranges that were left, within that part's cost
 abbrev pub DrawsPart : {E : Type 0} → Bool → End → Handle → List (ℕ × ℕ) → List (ℕ × ℕ) → Option (Result Handle E) → ℕ → ℕ → Type 0

@@ -1,9 +1,7 @@
 //! Pieces that a script draws, made in slots that are empty.
 ghost use Rattle.std.specs.Prelude.{◌≡◌, ◌≤◌, ◌<◌, ◌&&◌, true, false, length, map, replicate, slice_set};
-ghost use Rattle.hip_bytes.specs.Meter.{RisesAtMost};
 ghost use Rattle.hip_match.specs.Draw.{draw};
 ghost use Rattle.hip_match.specs.declared.draw.End.{End};
-ghost use Rattle.hip_cuts.specs.Piece.{parts_cost};
 ghost use Rattle.hipstr.specs.Cut.{has_back, has_one_end, pieces_of};
 ghost use Rattle.hipstr.specs.Parts.{DrawsPart, MakesParts};
 ghost use Rattle.hipstr.specs.Slot.{state_of, empty_slot};
@@ -29,8 +27,7 @@ pub(super) fn make_parts<'b, B: Backend>(
     requires ends { (has_one_end how && has_back script.now) ≡ false }
     requires empty { map state_of spare.old ≡ replicate (length spare.old) empty_slot }
     requires room { length script.now ≤ length spare.old }
-    ensures made { MakesParts text.now (draw (pieces_of how.entry text.now.items) script.now) (map state_of spare.old) result (map state_of spare.new) }
-    ensures counted { RisesAtMost meter.old meter.new (parts_cost B.SHARES text.now (draw (pieces_of how.entry text.now.items) script.now)) }
+    ensures { MakesParts B.SHARES text.now (draw (pieces_of how.entry text.now.items) script.now) (map state_of spare.old) result (map state_of spare.new) meter.old meter.new }
 {
     match how {
         How::Split(pattern) => match pattern {
@@ -94,8 +91,7 @@ fn make_both<'h, 'b, B: Backend, I: Unnumbered + RangesBack + Drop>(
     requires ready { ⟦<Pieces<'h, HipStr<'b, B>, I> as Walk>⟧.ready walk }
     requires empty { map state_of spare.old ≡ replicate (length spare.old) empty_slot }
     requires room { length script.now ≤ length spare.old }
-    ensures made { MakesParts (⟦<Pieces<'h, HipStr<'b, B>, I> as Walk>⟧.source walk.entry) (draw (⟦<Pieces<'h, HipStr<'b, B>, I> as Walk>⟧.rest walk.entry) script.now) (map state_of spare.old) result (map state_of spare.new) }
-    ensures counted { RisesAtMost meter.old meter.new (parts_cost B.SHARES (⟦<Pieces<'h, HipStr<'b, B>, I> as Walk>⟧.source walk.entry) (draw (⟦<Pieces<'h, HipStr<'b, B>, I> as Walk>⟧.rest walk.entry) script.now)) }
+    ensures { MakesParts B.SHARES (⟦<Pieces<'h, HipStr<'b, B>, I> as Walk>⟧.source walk.entry) (draw (⟦<Pieces<'h, HipStr<'b, B>, I> as Walk>⟧.rest walk.entry) script.now) (map state_of spare.old) result (map state_of spare.new) meter.old meter.new }
 {
     for i in 0..script.len() {
         match end_part(&mut walk, script[i], meter) {
@@ -121,8 +117,7 @@ fn make_front<'h, 'b, B: Backend, I: Unnumbered + Drop>(
     requires front { has_back script.now ≡ false }
     requires empty { map state_of spare.old ≡ replicate (length spare.old) empty_slot }
     requires room { length script.now ≤ length spare.old }
-    ensures made { MakesParts (⟦<Pieces<'h, HipStr<'b, B>, I> as Walk>⟧.source walk.entry) (draw (⟦<Pieces<'h, HipStr<'b, B>, I> as Walk>⟧.rest walk.entry) script.now) (map state_of spare.old) result (map state_of spare.new) }
-    ensures counted { RisesAtMost meter.old meter.new (parts_cost B.SHARES (⟦<Pieces<'h, HipStr<'b, B>, I> as Walk>⟧.source walk.entry) (draw (⟦<Pieces<'h, HipStr<'b, B>, I> as Walk>⟧.rest walk.entry) script.now)) }
+    ensures { MakesParts B.SHARES (⟦<Pieces<'h, HipStr<'b, B>, I> as Walk>⟧.source walk.entry) (draw (⟦<Pieces<'h, HipStr<'b, B>, I> as Walk>⟧.rest walk.entry) script.now) (map state_of spare.old) result (map state_of spare.new) meter.old meter.new }
 {
     for i in 0..script.len() {
         match front_part(&mut walk, script[i], meter) {

@@ -30,30 +30,16 @@ loop-i-preserved g c =
       text = c.end_part.ensures.ready.1;
     }
 
-pub returns-in-Some-Err-clause-made : goal.returns-in-Some-Err-clause-made
-returns-in-Some-Err-clause-made g c =
+pub returns-in-Some-Err : goal.returns-in-Some-Err
+returns-in-Some-Err g c =
     let state = state_of {B = g.row.B.Denot} {S = g.row.B-Sole.Denot} {P = g.row.B-Start.Denot} in
     let refused = is-refused c.in-Some-Err.field-0 _ g.B.Backend.SHARES c.args.walk.source.now c.loop-i.walk.source.now (draw (g.I.Ranges.rest c.args.walk.ranges) c.args.script.now) (g.I.Ranges.rest c.loop-i.walk.ranges) (g.I.Ranges.rest c.end_part.new.walk.ranges)
     c.args.script.now c.loop-i.i _ (map state c.loop-i.spare) c.args.meter.now c.loop-i.meter c.end_part.new.meter
     c.loop-i.invariant.so_far c.loop-i.invariant.source c.loop-i-test.true c.in-Some-Err.ensures.drawn c.in-Some-Err.field-0-is in
-    (refused.needs, c.empty_all.ensures ∙ ap (λ n. replicate n empty_slot) (let same : length c.loop-i.spare ≡ length c.args.spare.now = omega (arith, c.loop-i.auto.spare) in same) ∙ sym c.requires.empty)
+    record { made = (refused.needs, c.empty_all.ensures ∙ ap (λ n. replicate n empty_slot) (let same : length c.loop-i.spare ≡ length c.args.spare.now = omega (arith, c.loop-i.auto.spare) in same) ∙ sym c.requires.empty); counted = refused.rises }
 
-pub returns-in-Some-Err-clause-counted : goal.returns-in-Some-Err-clause-counted
-returns-in-Some-Err-clause-counted g c =
-    let state = state_of {B = g.row.B.Denot} {S = g.row.B-Sole.Denot} {P = g.row.B-Start.Denot} in
-    let refused = is-refused c.in-Some-Err.field-0 _ g.B.Backend.SHARES c.args.walk.source.now c.loop-i.walk.source.now (draw (g.I.Ranges.rest c.args.walk.ranges) c.args.script.now) (g.I.Ranges.rest c.loop-i.walk.ranges) (g.I.Ranges.rest c.end_part.new.walk.ranges)
-    c.args.script.now c.loop-i.i _ (map state c.loop-i.spare) c.args.meter.now c.loop-i.meter c.end_part.new.meter
-    c.loop-i.invariant.so_far c.loop-i.invariant.source c.loop-i-test.true c.in-Some-Err.ensures.drawn c.in-Some-Err.field-0-is in
-    refused.rises
-
-pub returns-in-None-clause-made : goal.returns-in-None-clause-made
-returns-in-None-clause-made g c =
+pub returns-in-None : goal.returns-in-None
+returns-in-None g c =
     let all = has-ended g.B.Backend.SHARES c.args.walk.source.now (draw (g.I.Ranges.rest c.args.walk.ranges) c.args.script.now) (g.I.Ranges.rest c.loop-i.walk.ranges) c.args.script.now c.loop-i.i
     (map (state_of {B = g.row.B.Denot} {S = g.row.B-Sole.Denot} {P = g.row.B-Start.Denot}) c.loop-i.spare) c.args.meter.now c.loop-i.meter c.end_part.new.meter c.loop-i.invariant.so_far c.in-None.ensures.drawn.0 c.in-None.ensures.drawn.1 in
-    all.made
-
-pub returns-in-None-clause-counted : goal.returns-in-None-clause-counted
-returns-in-None-clause-counted g c =
-    let all = has-ended g.B.Backend.SHARES c.args.walk.source.now (draw (g.I.Ranges.rest c.args.walk.ranges) c.args.script.now) (g.I.Ranges.rest c.loop-i.walk.ranges) c.args.script.now c.loop-i.i
-    (map (state_of {B = g.row.B.Denot} {S = g.row.B-Sole.Denot} {P = g.row.B-Start.Denot}) c.loop-i.spare) c.args.meter.now c.loop-i.meter c.end_part.new.meter c.loop-i.invariant.so_far c.in-None.ensures.drawn.0 c.in-None.ensures.drawn.1 in
-    all.rises
+    record { made = all.made; counted = all.rises }
