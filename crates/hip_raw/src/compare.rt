@@ -17,10 +17,9 @@ fn alike_at<const N: usize>(a: &[u8], b: &[u8], i: usize) -> bool
     requires within { (i + N ≤ length a.now) × (i + N ≤ length b.now) }
     ensures { IsTrue result ↔ Alike a.now b.now i (i + N) }
 {
-    Simd::<u8, N>::from_slice(&a[i..])
+    !Simd::<u8, N>::from_slice(&a[i..])
         .simd_ne(Simd::from_slice(&b[i..]))
-        .to_bitmask()
-        == 0
+        .any()
 }
 
 // Whether all bytes are, where two blocks of N cover them.

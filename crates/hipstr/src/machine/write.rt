@@ -1,9 +1,13 @@
 //! Commands that write over a slot's items.
-ghost use Rattle.std.specs.Prelude.{◌≡◌, ◌+◌, ◌++◌, ◌⊎◌, length, max, OnOk, OnErr};
+ghost use Rattle.std.specs.Prelude.{◌≡◌, ◌+◌, ◌++◌, ◌⊎◌, length, map, max, OnOk, OnErr};
+ghost use Rattle.std.specs.Char.{to_ascii_uppercase, to_ascii_lowercase};
 ghost use Rattle.std.specs.String.{string_bytes};
+ghost use Rattle.hip_bytes.specs.Change.{WriteAnswers};
+ghost use Rattle.hip_bytes.specs.Cost.{write_cost};
 ghost use Rattle.hip_bytes.specs.Meter.{RisesAtMost};
 ghost use Rattle.hipstr.specs.declared.command.Command.{Command};
 ghost use Rattle.hipstr.specs.Reason.{answer_of};
+ghost use Rattle.hipstr.specs.Slot.{state_of};
 ghost use Rattle.hipstr.specs.Step.{Step, cost_of};
 
 use crate::command::{Answer, Reason};
@@ -12,6 +16,31 @@ use crate::text::text_of;
 use hip_bytes::{Backend, Meter, RefMut, Source};
 use hip_text::TextSource;
 use std::alloc::{AllocError, Global};
+
+// The letters of bytes or of a text moved to one case.
+impl<'b, B: Backend> Slot<'b, B> {
+    fn make_upper(&mut self, alloc: Global, meter: &mut Meter) -> Result<(), AllocError>
+        ensures write { WriteAnswers B.SHARES (state_of self.old).handle (map to_ascii_uppercase (state_of self.old).handle.items) result (state_of self.new).handle }
+        ensures flag { (state_of self.new).is_text ≡ (state_of self.old).is_text }
+        ensures counted { RisesAtMost meter.old meter.new (write_cost B.SHARES (state_of self.old).handle.kind (length (state_of self.old).handle.items)) }
+    {
+        match self {
+            Slot::Bytes(bytes) => bytes.make_ascii_uppercase_metered(alloc, meter),
+            Slot::Text(text) => text.make_ascii_uppercase_metered(alloc, meter),
+        }
+    }
+
+    fn make_lower(&mut self, alloc: Global, meter: &mut Meter) -> Result<(), AllocError>
+        ensures write { WriteAnswers B.SHARES (state_of self.old).handle (map to_ascii_lowercase (state_of self.old).handle.items) result (state_of self.new).handle }
+        ensures flag { (state_of self.new).is_text ≡ (state_of self.old).is_text }
+        ensures counted { RisesAtMost meter.old meter.new (write_cost B.SHARES (state_of self.old).handle.kind (length (state_of self.old).handle.items)) }
+    {
+        match self {
+            Slot::Bytes(bytes) => bytes.make_ascii_lowercase_metered(alloc, meter),
+            Slot::Text(text) => text.make_ascii_lowercase_metered(alloc, meter),
+        }
+    }
+}
 
 impl<'b, B: Backend> Pool<'b, B> {
     #[tactic(auto, using(crate::proofs::Places::put_back))]
@@ -28,10 +57,7 @@ impl<'b, B: Backend> Pool<'b, B> {
             return Err(Reason::NoSlot);
         }
         let mut slot = self.take(t);
-        let outcome = match &mut slot {
-            Slot::Bytes(bytes) => bytes.make_ascii_uppercase_metered(alloc, meter),
-            Slot::Text(text) => text.make_ascii_uppercase_metered(alloc, meter),
-        };
+        let outcome = slot.make_upper(alloc, meter);
         self.put(t, slot);
         outcome?;
         Ok(Answer::Done)
@@ -51,10 +77,7 @@ impl<'b, B: Backend> Pool<'b, B> {
             return Err(Reason::NoSlot);
         }
         let mut slot = self.take(t);
-        let outcome = match &mut slot {
-            Slot::Bytes(bytes) => bytes.make_ascii_lowercase_metered(alloc, meter),
-            Slot::Text(text) => text.make_ascii_lowercase_metered(alloc, meter),
-        };
+        let outcome = slot.make_lower(alloc, meter);
         self.put(t, slot);
         outcome?;
         Ok(Answer::Done)
