@@ -30,6 +30,7 @@ mod ascii_case;
 mod backend;
 mod block;
 mod borrowed;
+mod buffer;
 mod byte_sink;
 mod byte_source;
 mod compare;
