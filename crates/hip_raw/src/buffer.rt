@@ -197,6 +197,8 @@ impl Buffer {
         requires full { self.old.capacity < keep + length addition.now }
         ensures items { OnDone result (self.new.items ≡ take keep self.old.items ++ addition.now) }
         ensures capacity { OnDone result (self.new.capacity ≡ 2 * (keep + length addition.now)) }
+        ensures potential { OnDone result (meter.new + pot (length self.new.items) self.new.capacity
+            ≤ meter.old + pot keep self.old.capacity + 3 * length addition.now) }
         ensures small { self.new.capacity < 2 ^ 63 }
         ensures counted { RisesAtMost meter.old meter.new (length addition.now + keep) }
         ensures unshared { OnShared result ⊥ }
