@@ -1,8 +1,8 @@
 -- The values of the first places of a block.
-use Rattle.std.proofs.Common.{◌≡◌, ◌≤◌, ◌+◌, ◌-◌, ℕ, zero, suc, List, [], ◌∷◌, ◌++◌, Option, Some, map, length, take, drop, replicate, refl, sym, ap, ap₂, ◌∙◌, arith}
+use Rattle.std.proofs.Common.{◌≡◌, ◌≤◌, ◌+◌, ◌-◌, ◌*◌, ℕ, zero, suc, List, [], ◌∷◌, ◌++◌, Option, Some, map, length, take, drop, replicate, refl, sym, ap, ap₂, ◌∙◌, arith}
 use Rattle.std.specs.List.{refill, length_refill}
-use Rattle.std.proofs.Math.Seq.{take-append_seam}
-use Rattle.std.proofs.lemmas.List.{length-append, length-drop, length-map, map-append, take-map, take-take}
+use Rattle.std.proofs.Math.Seq.{take-append-add, take-append_seam}
+use Rattle.std.proofs.lemmas.List.{length-append, length-drop, length-map, map-append, take-map, take-replicate, take-take, append_assoc, replicate-append-replicate}
 use lib.Seq.{length-take-le}
 use Rattle.hip_raw.specs.Places.{somes, front}
 
@@ -13,6 +13,27 @@ somes-map (x ∷ xs) = ap (λ ys. x ∷ ys) (somes-map xs)
 pub map-replicate : (n x : ℕ) → replicate n (Some x) ≡ map Some (replicate n x)
 map-replicate zero x = refl
 map-replicate (suc n) x = ap (λ cs. Some x ∷ cs) (map-replicate n x)
+
+-- fewer of the zeros behind some places
+pub zeros_cut : (from k m : ℕ) (cs ds : List (Option ℕ)) → k ≤ m → from ≤ length ds → take (from + m) cs ≡ take from ds ++ replicate m (Some 0)
+    → take (from + k) cs ≡ take from ds ++ replicate k (Some 0)
+zeros_cut from k m cs ds le within e =
+    let zero : Option ℕ = Some 0 in
+    let long : length (take from ds) ≡ from = length-take-le from ds within in
+    sym (take-take (from + k) (from + m) cs (omega arith)) ∙ ap (take (from + k)) e ∙ ap (λ j. take (j + k) (take from ds ++ replicate m zero)) (sym long)
+    ∙ take-append-add (take from ds) (replicate m zero) k ∙ ap (λ l. take from ds ++ l) (take-replicate k m zero le)
+
+-- as many as two runs of zeros that overlap, behind some places
+pub zeros_joined : (from count width : ℕ) (cs ds es : List (Option ℕ)) → width ≤ count → count ≤ 2 * width → from ≤ length ds
+    → take (from + width) cs ≡ take from ds ++ replicate width (Some 0) → take (from + (count - width) + width) es ≡ take (from + (count - width)) cs ++ replicate width (Some 0)
+    → take (from + count) es ≡ take from ds ++ replicate count (Some 0)
+zeros_joined from count width cs ds es least most within one two =
+    let zero : Option ℕ = Some 0 in
+    let k = count - width in
+    let end : from + k + width ≡ from + count = omega arith in
+    let all : k + width ≡ count = omega arith in
+    ap (λ j. take j es) (sym end) ∙ two ∙ ap (λ l. l ++ replicate width zero) (zeros_cut from k width cs ds (omega arith) within one)
+    ∙ append_assoc (take from ds) (replicate k zero) (replicate width zero) ∙ ap (λ l. take from ds ++ l) (replicate-append-replicate k width zero ∙ ap (λ j. replicate j zero) all)
 
 module _ (n : ℕ) (cs : List (Option ℕ)) where
   pub front_long : n ≤ length cs → take n cs ≡ map Some (front n cs) → length (front n cs) ≡ n
@@ -38,7 +59,8 @@ module _ (n : ℕ) (cs : List (Option ℕ)) where
   lent_places ws le long =
       omega (arith, length-append (map Some (refill n (front n cs) ws)) (drop (0 + n) cs), length-map (refill n (front n cs) ws) Some, length_refill n (front n cs) ws (sym long), length-drop (0 + n) cs)
 
-  -- after zeros were written behind the first of them
-  pub zeros_behind : (from : ℕ) (ds : List (Option ℕ)) → take n cs ≡ take from ds ++ replicate (n - from) (Some 0) → take from ds ≡ map Some (front from ds)
-      → take n cs ≡ map Some (front from ds ++ replicate (n - from) 0)
-  zeros_behind from ds e filled = e ∙ ap₂ (λ xs ys. xs ++ ys) filled (map-replicate (n - from) 0) ∙ sym (map-append Some (front from ds) (replicate (n - from) 0))
+-- the first places, and zeros behind them
+pub zeros_behind : (n keep count : ℕ) (cs ds : List (Option ℕ)) → keep ≤ n → take n ds ≡ map Some (front n ds) → take (keep + count) cs ≡ take keep ds ++ replicate count (Some 0)
+    → take (keep + count) cs ≡ map Some (take keep (front n ds) ++ replicate count 0)
+zeros_behind n keep count cs ds le filled e =
+    e ∙ ap₂ (λ xs ys. xs ++ ys) (cut n ds keep le filled) (map-replicate count 0) ∙ sym (map-append Some (take keep (front n ds)) (replicate count 0))

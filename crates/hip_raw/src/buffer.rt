@@ -35,18 +35,54 @@ impl Model for Buffer {
     ghost invariant = { λ b. IsBuffer b };
 }
 
-// Sets the places from `from` up to `end` to zero.
+// Sets `count` places from `from` on to zero. Where `count` is a constant that is a single store, or a few.
 #[inline(always)]
-fn fill_zeros(cells: &mut Cells<u8>, base: Base<u8>, from: usize, end: usize)
+fn fill_zeros(cells: &mut Cells<u8>, base: Base<u8>, from: usize, count: usize)
     requires base { base.ptr ≡ cells.old.at }
-    requires forward { from ≤ end }
-    requires within { end ≤ length cells.old.slots }
+    requires within { from + count ≤ length cells.old.slots }
+    requires small { length cells.old.slots < 2 ^ 63 }
     ensures at { cells.new.at ≡ cells.old.at }
     ensures places { length cells.new.slots ≡ length cells.old.slots }
-    ensures filled { take end cells.new.slots ≡ take from cells.old.slots ++ replicate (end - from) (Some 0) }
+    ensures filled { take (from + count) cells.new.slots ≡ take from cells.old.slots ++ replicate count (Some 0) }
 {
-    for i in from..end {
-        cells.write(base, i, 0);
+    for i in 0..count {
+        cells.write(base, from + i, 0);
+    }
+}
+
+// The same by two stores of `width`, which may overlap.
+#[inline(always)]
+fn fill_ends(cells: &mut Cells<u8>, base: Base<u8>, from: usize, count: usize, width: usize)
+    requires base { base.ptr ≡ cells.old.at }
+    requires within { from + count ≤ length cells.old.slots }
+    requires small { length cells.old.slots < 2 ^ 63 }
+    requires reach { (width ≤ count) × (count ≤ 2 * width) }
+    ensures at { cells.new.at ≡ cells.old.at }
+    ensures places { length cells.new.slots ≡ length cells.old.slots }
+    ensures filled { take (from + count) cells.new.slots ≡ take from cells.old.slots ++ replicate count (Some 0) }
+{
+    fill_zeros(cells, base, from, width);
+    fill_zeros(cells, base, from + (count - width), width);
+}
+
+// The same by the widest stores, which for a few places cost less than a call of the C library.
+#[inline(always)]
+fn fill_range(cells: &mut Cells<u8>, base: Base<u8>, from: usize, count: usize)
+    requires base { base.ptr ≡ cells.old.at }
+    requires within { from + count ≤ length cells.old.slots }
+    requires small { length cells.old.slots < 2 ^ 63 }
+    ensures at { cells.new.at ≡ cells.old.at }
+    ensures places { length cells.new.slots ≡ length cells.old.slots }
+    ensures filled { take (from + count) cells.new.slots ≡ take from cells.old.slots ++ replicate count (Some 0) }
+{
+    match count {
+        0 => (),
+        1 => fill_zeros(cells, base, from, 1),
+        2..=3 => fill_ends(cells, base, from, count, 2),
+        4..=7 => fill_ends(cells, base, from, count, 4),
+        8..=15 => fill_ends(cells, base, from, count, 8),
+        16..=31 => fill_ends(cells, base, from, count, 16),
+        _ => fill_zeros(cells, base, from, count),
     }
 }
 
@@ -116,22 +152,21 @@ impl Buffer {
         }
     }
 
-    // Adds zeros up to the length `len`.
+    // Cuts to `keep` bytes and adds `count` zeros.
     #[inline(always)]
-    fn add_zeros(&mut self, len: usize)
-        requires longer { length self.old.items ≤ len }
-        requires fits { len ≤ self.old.capacity }
-        ensures items { self.new.items ≡ self.old.items ++ replicate (len - length self.old.items) 0 }
+    fn add_zeros(&mut self, keep: usize, count: usize)
+        requires there { keep ≤ length self.old.items }
+        requires fits { keep + count ≤ self.old.capacity }
+        ensures items { self.new.items ≡ take keep self.old.items ++ replicate count 0 }
         ensures capacity { self.new.capacity ≡ self.old.capacity }
     {
         let base = self.base;
-        let from = self.len;
         let cells = &mut self.cells;
-        fill_zeros(cells, base, from, len);
-        self.len = len;
+        fill_range(cells, base, keep, count);
+        self.len = keep + count;
     }
 
-    // Cuts to `keep` bytes and puts the addition behind them, for which there is room.
+    // Cuts to `keep` bytes and puts the addition behind them, for which there is room. The places that it takes are set to zero first.
     #[inline(always)]
     pub(crate) fn put(&mut self, keep: usize, addition: &[u8], meter: &mut Meter)
         requires there { keep ≤ length self.old.items }
@@ -140,14 +175,7 @@ impl Buffer {
         ensures capacity { self.new.capacity ≡ self.old.capacity }
         ensures counted { RisesAtMost meter.old meter.new (length addition.now) }
     {
-        let room = self.size - keep;
-        prove!(addition.len() <= room);
-        let end = keep + addition.len();
-        if self.len < end {
-            self.add_zeros(end);
-        } else {
-            self.truncate(end);
-        }
+        self.add_zeros(keep, addition.len());
         fill_at(self.as_mut_slice(), keep, addition, meter);
     }
 
@@ -196,9 +224,9 @@ impl Buffer {
         requires there { keep ≤ length self.old.items }
         requires full { self.old.capacity < keep + length addition.now }
         ensures items { OnDone result (self.new.items ≡ take keep self.old.items ++ addition.now) }
-        ensures capacity { OnDone result (self.new.capacity ≡ 2 * (keep + length addition.now)) }
         ensures potential { OnDone result (meter.new + pot (length self.new.items) self.new.capacity
             ≤ meter.old + pot keep self.old.capacity + 3 * length addition.now) }
+        ensures capacity { OnDone result (self.new.capacity ≡ 2 * (keep + length addition.now)) }
         ensures small { self.new.capacity < 2 ^ 63 }
         ensures counted { RisesAtMost meter.old meter.new (length addition.now + keep) }
         ensures unshared { OnShared result ⊥ }
