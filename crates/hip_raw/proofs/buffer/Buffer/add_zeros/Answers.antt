@@ -1,6 +1,5 @@
-use Rattle.std.proofs.Common.{◌≤◌, ◌≡◌, ◌+◌, ◌-◌, ◌++◌, ◌∙◌, length, replicate, take, sym, ap, arith}
+use Rattle.std.proofs.Common.{◌≤◌, ◌++◌, ◌∙◌, length, replicate, take, ap, arith}
 use Rattle.hip_raw.specs.Held.{held_items}
-use Rattle.hip_raw.specs.Places.{front}
 use Rattle.hip_raw.proofs.Fronts.{filled_is, front_is, front_long, zeros_behind}
 use Rattle.hip_raw.proofs.buffer.Buffer.add_zeros.Goals as goal
 
