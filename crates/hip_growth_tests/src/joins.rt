@@ -36,10 +36,18 @@ fn once<B: Backend>(rt: &impl Abort, alloc: Global) -> Result<(), Fail> {
     Ok(())
 }
 
+/// What is gathered in a vector is copied to an owner that can't be shared.
+fn by_way_of_a_vector<B: Backend>(once: u128, twice: u128) -> u128 {
+    if B::SHARES { once } else { twice }
+}
+
 fn twice<B: Backend>(rt: &impl Abort, alloc: Global) -> Result<(), Fail> {
     let mut meter = Meter::new();
     let twice = HipByt::<B>::borrowed(LETTERS).repeat_metered(alloc, 2, &mut meter)?;
-    assert_eq!(rt; (twice.len(), meter.copied()), (52, 52));
+    assert_eq!(rt;
+        (twice.len(), meter.copied()),
+        (52, by_way_of_a_vector::<B>(52, 104))
+    );
     Ok(())
 }
 
@@ -82,14 +90,20 @@ fn long_joins<B: Backend>(rt: &impl Abort, alloc: Global) -> Result<(), Fail> {
 fn counted_joins<B: Backend>(rt: &impl Abort, alloc: Global) -> Result<(), Fail> {
     let mut meter = Meter::new();
     let counted = HipByt::<B>::join_slices_metered(alloc, &LINES, b", ", &mut meter)?;
-    assert_eq!(rt; (counted.len(), meter.copied()), (54, 54));
+    assert_eq!(rt;
+        (counted.len(), meter.copied()),
+        (54, by_way_of_a_vector::<B>(54, 108))
+    );
     Ok(())
 }
 
 fn counted_pieces<B: Backend>(rt: &impl Abort, alloc: Global) -> Result<(), Fail> {
     let mut meter = Meter::new();
     let counted = HipByt::<B>::join_metered(alloc, LINES, b", ", &mut meter)?;
-    assert_eq!(rt; (counted.len(), meter.copied()), (54, 54));
+    assert_eq!(rt;
+        (counted.len(), meter.copied()),
+        (54, by_way_of_a_vector::<B>(54, 108))
+    );
     Ok(())
 }
 

@@ -5,6 +5,7 @@
 //! - `spaces`: the same bytes, by each maker.
 //! - `writes`: bytes that are lent for writing, and ASCII case.
 //! - `guards`: bytes that are lent out as a vector.
+//! - `owned_room`: what `Unique` copies as it grows, and its capacity.
 //! - `joins`: repetitions, joins and room that is given back.
 //! - `comparisons`: order, equality and maps.
 //!
@@ -19,6 +20,8 @@ mod conversions;
 mod guards;
 #[cfg(test)]
 mod joins;
+#[cfg(test)]
+mod owned_room;
 #[cfg(test)]
 mod spaces;
 #[cfg(test)]

@@ -1,4 +1,7 @@
 mod CellsMemory
+mod Fronts
+mod PlacesMemory
+mod PlacesSharing
 pub mod Alike
 pub mod Decided
 pub mod Lanes

@@ -3,10 +3,15 @@ pub mod Allocated
 pub mod Appended
 pub mod Block
 pub mod Borrowed
+pub mod Buffer
+pub mod BufferLends
 pub mod Cells
 pub mod Held
 pub mod Inline
+pub mod Lends
 pub mod Meter
+pub mod Ownership
+pub mod Places
 pub mod Sink
 pub mod Sources
 pub mod Transfer

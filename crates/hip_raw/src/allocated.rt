@@ -10,7 +10,7 @@ use crate::appended::Appended;
 use crate::ascii_case::{make_ascii_lowercase, make_ascii_uppercase};
 use crate::backend::Backend;
 use crate::block::Block;
-use crate::meter::{Meter, copy_counted, copy_with_capacity};
+use crate::meter::{Meter, copy_with_capacity};
 use crate::room::{Room, cut, write_range};
 use crate::start::Start;
 use std::alloc::{AllocError, Global};
@@ -104,10 +104,37 @@ impl<B: Backend> Allocated<B> {
         ensures counted { RisesAtMost meter.old meter.new
             (times_copied B.SHARES (length bytes.now)) }
     {
-        let vec = copy_counted(alloc, bytes, meter)?;
-        match Self::new_metered(alloc, vec, meter) {
-            Ok(made) => Ok(made),
-            Err(_) => Err(AllocError),
+        Self::with_room_metered(alloc, bytes, bytes.len(), meter)
+    }
+
+    // The same, with room for so many. An owner that can't be shared is made empty and then filled, which copies the bytes once.
+    #[inline]
+    fn with_room_metered(
+        alloc: Global,
+        bytes: &[u8],
+        room: usize,
+        meter: &mut Meter,
+    ) -> Result<Self, AllocError>
+        requires { length bytes.now ≤ room }
+        ensures items { IfOk result (λ made. made.items ≡ bytes.now) }
+        ensures room { IfOk result (λ made. room ≤ made.capacity) }
+        ensures fits { IfOk result (λ made. length made.items ≤ made.capacity) }
+        ensures counted { RisesAtMost meter.old meter.new
+            (times_copied B.SHARES (length bytes.now)) }
+    {
+        if B::SHARES {
+            let vec = copy_with_capacity(alloc, bytes, room, meter)?;
+            return match Self::new_metered(alloc, vec, meter) {
+                Ok(made) => Ok(made),
+                Err(_) => Err(AllocError),
+            };
+        }
+        let Ok(mut made) = Self::new_metered(alloc, Vec::with_capacity(alloc, room)?, meter) else {
+            return Err(AllocError);
+        };
+        match made.push_slice_metered(alloc, bytes, meter) {
+            Appended::Done => Ok(made),
+            Appended::Shared | Appended::Memory => Err(AllocError),
         }
     }
 
@@ -395,15 +422,10 @@ impl<B: Backend> Allocated<B> {
         if self.capacity() <= room {
             return Ok(());
         }
-        let vec = copy_with_capacity(alloc, self.as_slice(), room, meter)?;
-        match Self::new_metered(alloc, vec, meter) {
-            Ok(made) => {
-                if made.capacity() < self.capacity() {
-                    *self = made;
-                }
-                Ok(())
-            }
-            Err(_) => Err(AllocError),
+        let made = Self::with_room_metered(alloc, self.as_slice(), room, meter)?;
+        if made.capacity() < self.capacity() {
+            *self = made;
         }
+        Ok(())
     }
 }

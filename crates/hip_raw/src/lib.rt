@@ -4,7 +4,7 @@
 //!   [`extend_counted`] appends to a vector, [`copy_counted`] and [`copy_with_capacity`] make one, and a [`Filling`] gathers many
 //!   parts.
 //! - [`Backend`] is what an owner promises, to this crate and to any other implementor: [`Rc`], which many handles share, and
-//!   [`Unique`], which has one. A sole owner lends a [`Room`], an append answers [`Appended`], and a vector that was taken out
+//!   [`Unique`], which has one, over a buffer of its own in raw memory. A sole owner lends a [`Room`], an append answers [`Appended`], and a vector that was taken out
 //!   leaves a [`Block`]. Where a handle begins in its owner's list is a [`Start`], which takes no bytes where it is always the [`Front`].
 //! - [`Inline`], [`Borrowed`] and [`Allocated`] are the three representations of a byte string: in the handle itself, with a
 //!   [`Length`] that may be one byte, lent by another value, or a range of an owner's list.
@@ -20,8 +20,9 @@
 //!
 //! The words of the contracts stand in `specs/`: `Held` (what a contract sees of an owner and of an allocated handle), `Meter` (what is
 //! copied, and what growth is paid by), `Window` (a part of a list), `Appended` (facts by the answer of an append), `Allocated` (what
-//! holds of a handle's range), `Block`, `Borrowed`, `Inline`, `Alike` (where two lists have the same bytes), `Transfer` (what a read or
-//! a write does to the count of failures), `Sink` and `Sources`.
+//! holds of a handle's range), `Buffer` and `Places` (what holds of a buffer, and of its row of places), `Block`, `Borrowed`, `Inline`,
+//! `Alike` (where two lists have the same bytes), `Transfer` (what a read or a write does to the count of failures), `Sink` and
+//! `Sources`.
 #![tactic(auto)]
 
 mod allocated;
@@ -30,6 +31,7 @@ mod ascii_case;
 mod backend;
 mod block;
 mod borrowed;
+mod buffer;
 mod byte_sink;
 mod byte_source;
 mod compare;

@@ -1,26 +1,26 @@
 //! Owners with one handle each.
-ghost use Rattle.std.specs.Prelude.{false, vec_capacity, refl};
+ghost use Rattle.std.specs.Prelude.{false, refl};
 
-use crate::appended::{Appended, append_to};
+use crate::appended::Appended;
 use crate::backend::Backend;
+use crate::buffer::Buffer;
 use crate::meter::{Meter, copy_counted};
 use crate::start::Front;
 use std::alloc::{AllocError, Global};
 use std::marker::Model;
 
-/// An owner with one handle, which is always written in place: a plain vector.
+/// An owner with one handle, which is always written in place: a buffer of its own.
 #[derive(Drop)]
 pub struct Unique {
-    vec: Vec<u8>,
+    buffer: Buffer,
 }
 
 impl Model for Unique {
-    ghost use Rattle.std.specs.Prelude.{vec_capacity};
     ghost use Rattle.hip_raw.specs.Held.{Held};
 
     ghost Value = { Held };
 
-    ghost view = { λ owner. record { items = owner.vec.items; capacity = vec_capacity owner.vec } };
+    ghost view = { λ owner. owner.buffer };
 }
 
 impl Backend for Unique {
@@ -32,31 +32,39 @@ impl Backend for Unique {
 
     const SHARES: bool = false;
 
-    type Sole = Vec<u8>;
+    type Sole = Buffer;
 
     type Start = Front;
 
-    ghost with_sole = { λ owner sole. record { items = sole.items; capacity = vec_capacity sole } };
+    ghost with_sole = { λ owner sole. sole };
 
     #[inline]
-    fn own(_alloc: Global, vec: Vec<u8>, _meter: &mut Meter) -> Result<Self, Vec<u8>> {
-        Ok(Unique { vec })
+    fn own(alloc: Global, vec: Vec<u8>, meter: &mut Meter) -> Result<Self, Vec<u8>> {
+        match Buffer::with_capacity(alloc, vec.capacity()) {
+            Ok(mut buffer) => {
+                buffer.put(0, vec.as_slice(), meter);
+                Ok(Unique { buffer })
+            }
+            Err(AllocError) => Err(vec),
+        }
     }
 
     #[inline]
-    fn try_into_vec(self, _alloc: Global, _meter: &mut Meter) -> Result<Vec<u8>, Self> {
-        let Unique { vec } = self;
-        Ok(vec)
+    fn try_into_vec(self, alloc: Global, meter: &mut Meter) -> Result<Vec<u8>, Self> {
+        match copy_counted(alloc, self.buffer.as_slice(), meter) {
+            Ok(vec) => Ok(vec),
+            Err(AllocError) => Err(self),
+        }
     }
 
     #[inline]
     fn as_slice(&self) -> &[u8] {
-        self.vec.as_slice()
+        self.buffer.as_slice()
     }
 
     #[inline]
     fn capacity(&self) -> usize {
-        self.vec.capacity()
+        self.buffer.capacity()
     }
 
     #[inline]
@@ -67,24 +75,27 @@ impl Backend for Unique {
         len: usize,
         meter: &mut Meter,
     ) -> Result<(Self, usize), AllocError> {
-        let vec = copy_counted(alloc, &self.vec.as_slice()[start..start + len], meter)?;
-        Ok((Unique { vec }, 0))
+        let mut buffer = Buffer::with_capacity(alloc, len)?;
+        buffer.put(0, &self.buffer.as_slice()[start..start + len], meter);
+        Ok((Unique { buffer }, 0))
     }
 
     #[inline]
-    fn writable(&mut self) -> Option<&mut Vec<u8>> {
-        Some(&mut self.vec)
+    fn writable(&mut self) -> Option<&mut Buffer> {
+        // The call tells the proof the buffer's bound.
+        let _small = self.buffer.capacity();
+        Some(&mut self.buffer)
     }
 
     #[inline(always)]
     fn append(
         &mut self,
-        _alloc: Global,
+        alloc: Global,
         keep: usize,
         addition: &[u8],
         meter: &mut Meter,
     ) -> Appended {
-        append_to(&mut self.vec, keep, addition, meter)
+        self.buffer.append(alloc, keep, addition, meter)
     }
 
     ghost sole_items = { λ owner sole. refl };

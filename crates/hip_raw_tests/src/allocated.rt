@@ -116,38 +116,54 @@ fn cuts_and_shrinks<B: Backend>(
     Ok(())
 }
 
-fn is_written_in_place<B: Backend>(rt: &impl Abort, alloc: Global) -> Result<(), Fail> {
-    let mut meter = Meter::new();
-    let mut bytes = Allocated::<B>::new_metered(alloc, roomy(alloc)?, &mut meter)?;
-    has(rt, &bytes, STARS);
-    assert!(rt; bytes.capacity() >= 200);
+/// `taken` bytes are copied where a vector is taken over, and `handed` where one of 5 bytes is handed out.
+fn is_written_in_place<B: Backend>(
+    rt: &impl Abort,
+    alloc: Global,
+    taken: u128,
+    handed: u128,
+) -> Result<(), Fail> {
+    let mut bytes = takes_over::<B>(rt, alloc, taken)?;
     writes_ends(rt, &mut bytes);
     changes_case(rt, &mut bytes);
     writes_lent(rt, &mut bytes);
-    cuts_and_shrinks(rt, alloc, &mut bytes, &mut meter)?;
-    hands_out(rt, alloc, bytes, b"ACxyz", meter)
+    cuts_and_shrinks(rt, alloc, &mut bytes, &mut Meter::new())?;
+    hands_out(rt, alloc, bytes, b"ACxyz", handed)
 }
 
-/// Asserts that the only range of an owner hands out its vector, which copies nothing: the meter stays at 8.
+fn takes_over<B: Backend>(
+    rt: &impl Abort,
+    alloc: Global,
+    taken: u128,
+) -> Result<Allocated<B>, Fail> {
+    let mut meter = Meter::new();
+    let bytes = Allocated::<B>::new_metered(alloc, roomy(alloc)?, &mut meter)?;
+    has(rt, &bytes, STARS);
+    assert_eq!(rt; (bytes.capacity() >= 200, meter.copied()), (true, taken));
+    Ok(bytes)
+}
+
+/// Asserts that the only range of an owner hands out its vector, which copies so many bytes.
 fn hands_out<B: Backend>(
     rt: &impl Abort,
     alloc: Global,
     bytes: Allocated<B>,
     items: &[u8],
-    mut meter: Meter,
+    handed: u128,
 ) -> Result<(), Fail> {
+    let mut meter = Meter::new();
     let vec = bytes
         .try_into_vec_metered(alloc, &mut meter)
         .ok()
         .ok_or("it has one handle")?;
-    assert_eq!(rt; (vec.as_slice(), meter.copied()), (items, 8));
+    assert_eq!(rt; (vec.as_slice(), meter.copied()), (items, handed));
     Ok(())
 }
 
 #[test]
 fn a_sole_owner_is_written_in_place(rt: HostRuntime) -> Result<(), Fail> {
-    is_written_in_place::<Rc>(&rt, rt.alloc())?;
-    is_written_in_place::<Unique>(&rt, rt.alloc())
+    is_written_in_place::<Rc>(&rt, rt.alloc(), 0, 0)?;
+    is_written_in_place::<Unique>(&rt, rt.alloc(), 42, 5)
 }
 
 /// Asserts that no byte is written, since another range shares the owner.

@@ -4,7 +4,7 @@ use std::alloc::Global;
 use std::process::Abort;
 use std::test::Fail;
 
-/// An owner of the byte 1, and one that is its part.
+/// An owner of the byte 1, and one that is its part. `copied` bytes are copied for both.
 fn parted<B: Backend>(
     rt: &impl Abort,
     alloc: Global,
@@ -47,7 +47,7 @@ fn writes<B: Backend>(owner: &mut B, byte: u8) {
 fn unique_owners(rt: HostRuntime) -> Result<(), Fail> {
     let alloc = rt.alloc();
     let mut meter = Meter::new();
-    let (mut first, mut second) = parted::<Unique>(&rt, alloc, &mut meter, 1)?;
+    let (mut first, mut second) = parted::<Unique>(&rt, alloc, &mut meter, 2)?;
     assert!(rt; first.writable().is_some());
     writes(&mut second, 2);
     assert_eq!(rt; second.as_slice(), [2].as_slice());
