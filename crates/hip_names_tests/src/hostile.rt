@@ -6,10 +6,10 @@ use std::process::Abort;
 use std::test::Fail;
 
 /// A path, what `Path::components` gives of it in Rust, and how `Path::cmp` puts it to the path of the row below (the last one's to that
-/// of the first). A component is `R` for the root, `C` for `.`, `P` for `..` or `N` and a name, with a `|` behind it.
+/// of the first of all). A component is `R` for the root, `C` for `.`, `P` for `..` or `N` and a name, with a `|` behind it.
 type Hostile = (&'static [u8], &'static [u8], Ordering);
 
-const HOSTILE: &[Hostile] = &[
+const FIRST: &[Hostile] = &[
     (b"", b"", Ordering::Less),
     (b".", b"C|", Ordering::Less),
     (b"..", b"P|", Ordering::Less),
@@ -34,6 +34,9 @@ const HOSTILE: &[Hostile] = &[
     (b"/./.", b"R|", Ordering::Less),
     (b"/../..", b"R|P|P|", Ordering::Greater),
     (b"//.", b"R|", Ordering::Less),
+];
+
+const SECOND: &[Hostile] = &[
     (b"//..", b"R|P|", Ordering::Less),
     (b".a", b"N.a|", Ordering::Greater),
     (b"..a", b"N..a|", Ordering::Greater),
@@ -58,6 +61,9 @@ const HOSTILE: &[Hostile] = &[
     (b".//a", b"C|Na|", Ordering::Less),
     (b"../a", b"P|Na|", Ordering::Less),
     (b"a/b", b"Na|Nb|", Ordering::Equal),
+];
+
+const THIRD: &[Hostile] = &[
     (b"a//b", b"Na|Nb|", Ordering::Equal),
     (b"a/./b", b"Na|Nb|", Ordering::Equal),
     (b"a/.//b", b"Na|Nb|", Ordering::Equal),
@@ -82,6 +88,9 @@ const HOSTILE: &[Hostile] = &[
     (b"C:/a", b"NC:|Na|", Ordering::Greater),
     (b"-", b"N-|", Ordering::Less),
     (b"~", b"N~|", Ordering::Greater),
+];
+
+const FOURTH: &[Hostile] = &[
     (b"!/a", b"N!|Na|", Ordering::Less),
     (b"+/a", b"N+|Na|", Ordering::Less),
     (b"a!/b", b"Na!|Nb|", Ordering::Greater),
@@ -156,41 +165,70 @@ fn is_taken_apart<B: Backend>(rt: &impl Abort, alloc: Global, row: Hostile) -> R
     Ok(())
 }
 
+/// How two paths stand to each other, each way round, and whether they are equal.
+fn compared<B: Backend>(left: &HipPath<B>, right: &HipPath<B>) -> (Ordering, Ordering, bool) {
+    (left.cmp(right), right.cmp(left), left == right)
+}
+
 fn is_ordered<B: Backend>(rt: &impl Abort, row: Hostile, next: Hostile) {
-    let (left, right) = (path_of::<B>(row.0), path_of::<B>(next.0));
+    let (order, turned, are_equal) = compared(&path_of::<B>(row.0), &path_of::<B>(next.0));
+    let wanted = row.2;
     assert_eq!(rt;
-        (left.cmp(&right), path_cmp(row.0, next.0), left == right),
-        (row.2, row.2, row.2.is_eq()),
-        "{left:?} {right:?}"
+        (order, path_cmp(row.0, next.0), turned, are_equal),
+        (wanted, wanted, wanted.reverse(), wanted.is_eq()),
+        "{:?} {:?}",
+        row.0,
+        next.0
     );
 }
 
-fn is_turned<B: Backend>(rt: &impl Abort, row: Hostile, next: Hostile) {
-    let (left, right) = (path_of::<B>(row.0), path_of::<B>(next.0));
-    assert_eq!(rt; right.cmp(&left), row.2.reverse(), "{left:?} {right:?}");
-}
-
-fn on<B: Backend>(rt: &impl Abort, alloc: Global, rows: &[Hostile]) -> Result<(), Fail> {
+/// Asserts this of each row, of which the last is put to the first of those behind them.
+fn are_read<B: Backend>(
+    rt: &impl Abort,
+    alloc: Global,
+    rows: &[Hostile],
+    behind: &[Hostile],
+) -> Result<(), Fail> {
     for (i, row) in rows.iter().enumerate() {
-        let next = rows.get(i + 1).or(rows.first()).unwrap_or(row);
+        let next = rows.get(i + 1).or(behind.first()).unwrap_or(row);
         is_taken_apart::<B>(rt, alloc, *row)?;
         is_ordered::<B>(rt, *row, *next);
-        is_turned::<B>(rt, *row, *next);
     }
     Ok(())
 }
 
-/// The table, of which those who go through it know nothing.
-fn rows() -> &'static [Hostile] {
-    HOSTILE
+// A function in which a table stands costs the square of its rows, so each part of it has one, of which those who go through it know
+// nothing.
+
+fn first() -> &'static [Hostile] {
+    FIRST
+}
+
+fn second() -> &'static [Hostile] {
+    SECOND
+}
+
+fn third() -> &'static [Hostile] {
+    THIRD
+}
+
+fn fourth() -> &'static [Hostile] {
+    FOURTH
+}
+
+fn on<B: Backend>(rt: &impl Abort, alloc: Global) -> Result<(), Fail> {
+    are_read::<B>(rt, alloc, first(), second())?;
+    are_read::<B>(rt, alloc, second(), third())?;
+    are_read::<B>(rt, alloc, third(), fourth())?;
+    are_read::<B>(rt, alloc, fourth(), first())
 }
 
 #[test]
 fn on_rc(rt: HostRuntime) -> Result<(), Fail> {
-    on::<Rc>(&rt, rt.alloc(), rows())
+    on::<Rc>(&rt, rt.alloc())
 }
 
 #[test]
 fn on_unique(rt: HostRuntime) -> Result<(), Fail> {
-    on::<Unique>(&rt, rt.alloc(), rows())
+    on::<Unique>(&rt, rt.alloc())
 }

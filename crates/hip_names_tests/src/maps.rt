@@ -1,23 +1,39 @@
 //! Keys of maps and sets: paths by their components, OS strings by their bytes.
+//!
+//! What these keys promise of their hash and their order is much, and each function that calls a map of them costs half a minute of
+//! proof. So the calls of maps stand in functions that are generic in the key, and know nothing of it but its bounds.
 use hip_names::{Backend, HipOsStr, HipPath, Rc, Unique};
 use std::alloc::Global;
 use std::collections::{BTreeMap, HashMap, HashSet};
+use std::hash::Hash;
 use std::process::Abort;
 use std::test::Fail;
 
-/// The age under a path, by its hash.
-fn age<B: Backend>(ages: &HashMap<HipPath<B>, i32>, path: &'static str) -> Option<i32> {
-    ages.get(&HipPath::borrowed(path)).copied()
+/// What a map says of a key, by its hash, once it has 7 under another.
+fn found<K: Hash + Eq + Drop>(alloc: Global, key: K, sought: &K) -> Result<Option<i32>, Fail> {
+    let mut ages = HashMap::new(alloc);
+    ages.insert(key, 7)?;
+    Ok(ages.get(sought).copied())
 }
 
 /// The same, by its order.
-fn ordered_age<B: Backend>(ages: &BTreeMap<HipPath<B>, i32>, path: &'static str) -> Option<i32> {
-    ages.get(&HipPath::borrowed(path)).copied()
+fn found_in_order<K: Ord + Drop>(alloc: Global, key: K, sought: &K) -> Result<Option<i32>, Fail> {
+    let mut ages = BTreeMap::new(alloc);
+    ages.insert(key, 7)?;
+    Ok(ages.get(sought).copied())
 }
 
-/// The age under an OS string, by its hash.
-fn age_of_name<B: Backend>(ages: &HashMap<HipOsStr<B>, i32>, name: &'static str) -> Option<i32> {
-    ages.get(&HipOsStr::borrowed(name)).copied()
+/// Whether a set has a key, once it has two.
+fn is_in_set<K: Hash + Eq + Drop>(
+    alloc: Global,
+    first: K,
+    second: K,
+    sought: &K,
+) -> Result<bool, Fail> {
+    let mut set = HashSet::new(alloc);
+    set.insert(first)?;
+    set.insert(second)?;
+    Ok(set.contains(sought))
 }
 
 /// `a/./b` is found by each path with its components, and by no other.
@@ -29,59 +45,60 @@ const FOUND: &[(&str, Option<i32>)] = &[
     ("/a/b", None),
 ];
 
+fn key<B: Backend>() -> HipPath<'static, B> {
+    HipPath::borrowed("a/./b")
+}
+
 fn paths<B: Backend>(rt: &impl Abort, alloc: Global) -> Result<(), Fail> {
-    let mut ages = HashMap::new(alloc);
-    ages.insert(HipPath::<B>::borrowed("a/./b"), 7)?;
     for (path, wanted) in FOUND {
-        assert_eq!(rt; age(&ages, path), *wanted);
+        let age = found(alloc, key::<B>(), &HipPath::borrowed(path))?;
+        assert_eq!(rt; age, *wanted, "{path}");
     }
     Ok(())
 }
 
 fn ordered_paths<B: Backend>(rt: &impl Abort, alloc: Global) -> Result<(), Fail> {
-    let mut ages = BTreeMap::new(alloc);
-    ages.insert(HipPath::<B>::borrowed("a/./b"), 7)?;
     for (path, wanted) in FOUND {
-        assert_eq!(rt; ordered_age(&ages, path), *wanted);
+        let age = found_in_order(alloc, key::<B>(), &HipPath::borrowed(path))?;
+        assert_eq!(rt; age, *wanted, "{path}");
     }
     Ok(())
 }
 
 fn os_strings<B: Backend>(rt: &impl Abort, alloc: Global) -> Result<(), Fail> {
-    let mut ages = HashMap::new(alloc);
-    ages.insert(HipOsStr::<B>::borrowed("a/./b"), 7)?;
-    assert_eq!(rt;
-        (age_of_name(&ages, "a//b"), age_of_name(&ages, "a/./b")),
-        (None, Some(7))
-    );
+    for (name, wanted) in [("a//b", None), ("a/./b", Some(7))] {
+        let key = HipOsStr::<B>::borrowed("a/./b");
+        let age = found(alloc, key, &HipOsStr::borrowed(name))?;
+        assert_eq!(rt; age, wanted, "{name}");
+    }
     Ok(())
+}
+
+/// A copy of a text.
+fn name_of<B: Backend>(alloc: Global, text: &str) -> Result<HipOsStr<'static, B>, Fail> {
+    Ok(HipOsStr::from_str(alloc, text)?)
 }
 
 fn set_of_os_strings<B: Backend>(rt: &impl Abort, alloc: Global) -> Result<(), Fail> {
-    let mut set = HashSet::new(alloc);
-    set.insert(HipOsStr::<B>::from_str(alloc, "a")?)?;
-    set.insert(HipOsStr::<B>::from_str(alloc, "b")?)?;
-    assert_eq!(rt;
-        (
-            set.contains(&HipOsStr::borrowed("a")),
-            set.contains(&HipOsStr::borrowed("c"))
-        ),
-        (true, false)
-    );
+    for (name, wanted) in [("a", true), ("c", false)] {
+        let (first, second) = (name_of::<B>(alloc, "a")?, name_of::<B>(alloc, "b")?);
+        let is_there = is_in_set(alloc, first, second, &HipOsStr::borrowed(name))?;
+        assert_eq!(rt; is_there, wanted, "{name}");
+    }
     Ok(())
 }
 
+/// The same, as a path.
+fn path_of<B: Backend>(alloc: Global, text: &str) -> Result<HipPath<'static, B>, Fail> {
+    Ok(HipPath::from_str(alloc, text)?)
+}
+
 fn set_of_paths<B: Backend>(rt: &impl Abort, alloc: Global) -> Result<(), Fail> {
-    let mut set = HashSet::new(alloc);
-    set.insert(HipPath::<B>::from_str(alloc, "a")?)?;
-    set.insert(HipPath::<B>::from_str(alloc, "b")?)?;
-    assert_eq!(rt;
-        (
-            set.contains(&HipPath::borrowed("a")),
-            set.contains(&HipPath::borrowed("c"))
-        ),
-        (true, false)
-    );
+    for (path, wanted) in [("a", true), ("c", false)] {
+        let (first, second) = (path_of::<B>(alloc, "a")?, path_of::<B>(alloc, "b")?);
+        let is_there = is_in_set(alloc, first, second, &HipPath::borrowed(path))?;
+        assert_eq!(rt; is_there, wanted, "{path}");
+    }
     Ok(())
 }
 

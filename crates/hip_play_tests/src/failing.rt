@@ -103,16 +103,18 @@ fn failure_in_mid_stream(rt: HostRuntime) -> Result<(), Fail> {
 }
 
 /// A fault, its text, and the exit status.
-const FAULTS: &[(PlayFault, &str, u8)] = &[
-    (PlayFault::NotACommand(12), "line 12: not a command", 2),
-    (PlayFault::ReadFailed, "read failed", 1),
-    (PlayFault::WriteFailed, "write failed", 1),
-    (PlayFault::Memory, "out of memory", 1),
-];
+fn faults() -> &'static [(PlayFault, &'static str, u8)] {
+    &[
+        (PlayFault::NotACommand(12), "line 12: not a command", 2),
+        (PlayFault::ReadFailed, "read failed", 1),
+        (PlayFault::WriteFailed, "write failed", 1),
+        (PlayFault::Memory, "out of memory", 1),
+    ]
+}
 
 #[test]
 fn fault_lines(rt: HostRuntime) -> Result<(), Fail> {
-    for (fault, line, status) in FAULTS {
+    for (fault, line, status) in faults() {
         let text = format!(in rt.alloc(); "{fault}")?;
         assert_eq!(rt; (text.as_str(), fault.status()), (*line, *status));
     }
