@@ -4,8 +4,9 @@
 //!   [`extend_counted`] appends to a vector, [`copy_counted`] and [`copy_with_capacity`] make one, and a [`Filling`] gathers many
 //!   parts.
 //! - [`Backend`] is what an owner promises, to this crate and to any other implementor: [`Rc`], which many handles share, and
-//!   [`Unique`], which has one, over a buffer of its own in raw memory. A sole owner lends a [`Room`], an append answers [`Appended`], and a vector that was taken out
-//!   leaves a [`Block`]. Where a handle begins in its owner's list is a [`Start`], which takes no bytes where it is always the [`Front`].
+//!   [`Unique`], which has one, over a buffer of its own in raw memory. A sole owner lends a [`Room`], an append answers [`Appended`], and
+//!   a vector that was taken out leaves a [`Block`]. Where a handle begins in its owner's list is a [`Start`], which takes no bytes where
+//!   it is always the [`Front`].
 //! - [`Inline`], [`Borrowed`] and [`Allocated`] are the three representations of a byte string: in the handle itself, with a
 //!   [`Length`] that may be one byte, lent by another value, or a range of an owner's list.
 //! - [`equal`] and [`order`] are `==` and `cmp` of bytes, [`make_ascii_lowercase`] and [`make_ascii_uppercase`] move ASCII letters in
