@@ -7,27 +7,31 @@ use std::test::Fail;
 
 /// A text and its form, after the specification of Borsh: the length as four bytes, the least first, and then the bytes. That of `123` is in
 /// hipstr's own tests, which compare it with the crate borsh.
-const FORMS: &[(&str, &[u8], Kind)] = &[
-    ("", b"\x00\x00\x00\x00", Kind::Inline),
-    ("123", b"\x03\x00\x00\x00\x31\x32\x33", Kind::Inline),
-    ("abc", b"\x03\x00\x00\x00\x61\x62\x63", Kind::Inline),
-    ("é", b"\x02\x00\x00\x00\xC3\xA9", Kind::Inline),
-    (
-        "aaaaaaaaaaaaaaaaaaaaaaa",
-        b"\x17\x00\x00\x00aaaaaaaaaaaaaaaaaaaaaaa",
-        Kind::Inline,
-    ),
-    (
-        "aaaaaaaaaaaaaaaaaaaaaaaa",
-        b"\x18\x00\x00\x00aaaaaaaaaaaaaaaaaaaaaaaa",
-        Kind::Allocated,
-    ),
-    (
-        "aaaaaaaaaaaaaaaaaaaaaaaaaaaaaaaaaaaaaaaaaa",
-        b"\x2A\x00\x00\x00aaaaaaaaaaaaaaaaaaaaaaaaaaaaaaaaaaaaaaaaaa",
-        Kind::Allocated,
-    ),
-];
+type Form = (&'static str, &'static [u8], Kind);
+
+fn forms() -> &'static [Form] {
+    &[
+        ("", b"\x00\x00\x00\x00", Kind::Inline),
+        ("123", b"\x03\x00\x00\x00\x31\x32\x33", Kind::Inline),
+        ("abc", b"\x03\x00\x00\x00\x61\x62\x63", Kind::Inline),
+        ("é", b"\x02\x00\x00\x00\xC3\xA9", Kind::Inline),
+        (
+            "aaaaaaaaaaaaaaaaaaaaaaa",
+            b"\x17\x00\x00\x00aaaaaaaaaaaaaaaaaaaaaaa",
+            Kind::Inline,
+        ),
+        (
+            "aaaaaaaaaaaaaaaaaaaaaaaa",
+            b"\x18\x00\x00\x00aaaaaaaaaaaaaaaaaaaaaaaa",
+            Kind::Allocated,
+        ),
+        (
+            "aaaaaaaaaaaaaaaaaaaaaaaaaaaaaaaaaaaaaaaaaa",
+            b"\x2A\x00\x00\x00aaaaaaaaaaaaaaaaaaaaaaaaaaaaaaaaaaaaaaaaaa",
+            Kind::Allocated,
+        ),
+    ]
+}
 
 /// The form of bytes that are lent.
 fn form_of<B: Backend>(alloc: Global, bytes: &[u8]) -> Option<Vec<u8>> {
@@ -46,7 +50,7 @@ fn form_of_text<B: Backend>(alloc: Global, text: &str) -> Option<Vec<u8>> {
 }
 
 fn written<B: Backend>(rt: &impl Abort, alloc: Global) {
-    for (text, form, _kind) in FORMS {
+    for (text, form, _kind) in forms() {
         let bytes = form_of::<B>(alloc, text.as_bytes());
         let texts = form_of_text::<B>(alloc, text);
         assert_eq!(rt;
@@ -62,17 +66,24 @@ fn written_on_either(rt: HostRuntime) {
     written::<Unique>(&rt, rt.alloc());
 }
 
-/// Forms are read as bytes, from a slice with more behind them, which is left.
+/// A form is read as bytes, from a slice with more behind it, which is left.
+fn is_read<B: Backend>(rt: &impl Abort, alloc: Global, row: Form) -> Result<(), Fail> {
+    let (text, form, kind) = row;
+    let mut bytes = Vec::from_slice(alloc, form)?;
+    bytes.push(b'z')?;
+    let mut source = SliceSource::new(bytes.as_slice());
+    let read = HipByt::<B>::deserialize_reader(alloc, &mut source).or(Err("not read"))?;
+    let is_left = source.rest() == b"z".as_slice();
+    assert_eq!(rt;
+        (read.eq_slice(text.as_bytes()), read.kind(), is_left),
+        (true, kind, true)
+    );
+    Ok(())
+}
+
 fn read<B: Backend>(rt: &impl Abort, alloc: Global) -> Result<(), Fail> {
-    for (text, form, kind) in FORMS {
-        let mut bytes = Vec::from_slice(alloc, form)?;
-        bytes.push(b'z')?;
-        let mut source = SliceSource::new(bytes.as_slice());
-        let read = HipByt::<B>::deserialize_reader(alloc, &mut source).or(Err("not read"))?;
-        assert_eq!(rt;
-            (read.as_slice(), read.kind(), source.rest()),
-            (text.as_bytes(), *kind, &b"z"[..])
-        );
+    for row in forms() {
+        is_read::<B>(rt, alloc, *row)?;
     }
     Ok(())
 }
@@ -85,7 +96,7 @@ fn read_on_either(rt: HostRuntime) -> Result<(), Fail> {
 
 /// The same as texts, through a reader of the standard library.
 fn texts<B: Backend>(rt: &impl Abort, alloc: Global) -> Result<(), Fail> {
-    for (text, form, kind) in FORMS {
+    for (text, form, kind) in forms() {
         let mut source = FromRead::new(*form);
         let read = HipStr::<B>::deserialize_reader(alloc, &mut source).or(Err("not read"))?;
         assert_eq!(rt; (read.as_str(), read.kind()), (*text, *kind));
@@ -115,7 +126,7 @@ fn read_text(alloc: Global, bytes: &[u8]) -> (Option<BorshFault>, usize) {
 /// Each form cut short at each length is truncated, and all of it is taken.
 #[test]
 fn cut_short(rt: HostRuntime) {
-    for (_text, form, _kind) in FORMS {
+    for (_text, form, _kind) in forms() {
         for len in 0..form.len() {
             let answers = (
                 read_bytes(rt.alloc(), &form[..len]),
@@ -128,44 +139,50 @@ fn cut_short(rt: HostRuntime) {
 }
 
 /// Bytes, and what is answered where they are read as bytes and as a text.
-const HOSTILE: &[(&[u8], Option<BorshFault>, Option<BorshFault>)] = &[
-    (
-        b"\xFF\xFF\xFF\xFFa",
-        Some(BorshFault::Truncated),
-        Some(BorshFault::Truncated),
-    ),
-    (b"\x05\x00\x00\x00abc\xFFc", None, Some(BorshFault::NotUtf8)),
-    (
-        b"\x03\x00\x00\x00\xED\xA0\x80",
-        None,
-        Some(BorshFault::NotUtf8),
-    ),
-    (b"\x02\x00\x00\x00\xC0\x80", None, Some(BorshFault::NotUtf8)),
-    (b"\x01\x00\x00\x00\xC3", None, Some(BorshFault::NotUtf8)),
-    (
-        b"\x04\x00\x00\x00\xF0\x9F\x98",
-        Some(BorshFault::Truncated),
-        Some(BorshFault::Truncated),
-    ),
-];
+fn hostile_forms() -> &'static [(&'static [u8], Option<BorshFault>, Option<BorshFault>)] {
+    &[
+        (
+            b"\xFF\xFF\xFF\xFFa",
+            Some(BorshFault::Truncated),
+            Some(BorshFault::Truncated),
+        ),
+        (b"\x05\x00\x00\x00abc\xFFc", None, Some(BorshFault::NotUtf8)),
+        (
+            b"\x03\x00\x00\x00\xED\xA0\x80",
+            None,
+            Some(BorshFault::NotUtf8),
+        ),
+        (b"\x02\x00\x00\x00\xC0\x80", None, Some(BorshFault::NotUtf8)),
+        (b"\x01\x00\x00\x00\xC3", None, Some(BorshFault::NotUtf8)),
+        (
+            b"\x04\x00\x00\x00\xF0\x9F\x98",
+            Some(BorshFault::Truncated),
+            Some(BorshFault::Truncated),
+        ),
+    ]
+}
 
 #[test]
 fn hostile(rt: HostRuntime) {
-    for (bytes, as_bytes, as_text) in HOSTILE {
+    for (bytes, as_bytes, as_text) in hostile_forms() {
         let answers = (read_bytes(rt.alloc(), bytes), read_text(rt.alloc(), bytes));
         assert_eq!(&rt; answers, ((*as_bytes, 0), (*as_text, 0)));
     }
 }
 
+/// The forms of a byte string and of a text, one behind the other.
+fn two_forms(alloc: Global) -> Option<Vec<u8>> {
+    let mut sink = VecSink::new(alloc);
+    HipByt::<Rc>::borrowed(b"\xFF").serialize(&mut sink).ok()?;
+    HipStr::<Rc>::borrowed("é").serialize(&mut sink).ok()?;
+    Some(sink.into_vec())
+}
+
 /// Two values in one sink are read in their order.
 #[test]
 fn one_behind_another(rt: HostRuntime) -> Result<(), Fail> {
-    let mut sink = VecSink::new(rt.alloc());
-    let first = HipByt::<Rc>::borrowed(b"\xFF").serialize(&mut sink);
-    let second = HipStr::<Rc>::borrowed("é").serialize(&mut sink);
-    assert_eq!(&rt; (first, second), (Ok(()), Ok(())));
-    let vec = sink.into_vec();
-    let mut source = SliceSource::new(vec.as_slice());
+    let forms = two_forms(rt.alloc()).ok_or("not written")?;
+    let mut source = SliceSource::new(forms.as_slice());
     let first = HipByt::<Rc>::deserialize_reader(rt.alloc(), &mut source).or(Err("no first"))?;
     let second = HipStr::<Rc>::deserialize_reader(rt.alloc(), &mut source).or(Err("no second"))?;
     assert_eq!(&rt; (first.as_slice(), second.as_str()), (&b"\xFF"[..], "é"));

@@ -15,12 +15,14 @@ fn value(alloc: Global, text: &str) -> Result<Value, Fail> {
 }
 
 /// Bytes, and the texts of their values as a byte string and as an OS string.
-const MADE: &[(&[u8], &str, &str)] = &[
-    (b"", "[]", "{\"Unix\":[]}"),
-    (b"ab", "[97,98]", "{\"Unix\":[97,98]}"),
-    (b"\x01\x02\x03", "[1,2,3]", "{\"Unix\":[1,2,3]}"),
-    (b"\x00\xFF", "[0,255]", "{\"Unix\":[0,255]}"),
-];
+fn made_values() -> &'static [(&'static [u8], &'static str, &'static str)] {
+    &[
+        (b"", "[]", "{\"Unix\":[]}"),
+        (b"ab", "[97,98]", "{\"Unix\":[97,98]}"),
+        (b"\x01\x02\x03", "[1,2,3]", "{\"Unix\":[1,2,3]}"),
+        (b"\x00\xFF", "[0,255]", "{\"Unix\":[0,255]}"),
+    ]
+}
 
 /// The text of a value.
 fn shown(alloc: Global, value: Value) -> Result<String, Fail> {
@@ -28,7 +30,7 @@ fn shown(alloc: Global, value: Value) -> Result<String, Fail> {
 }
 
 fn made<B: Backend>(rt: &impl Abort, alloc: Global) -> Result<(), Fail> {
-    for (bytes, array, object) in MADE {
+    for (bytes, array, object) in made_values() {
         let array_of = shown(alloc, HipByt::<B>::borrowed(bytes).to_json(alloc)?)?;
         let name = HipOsStr::from(HipByt::<B>::borrowed(bytes));
         let object_of = shown(alloc, name.to_json(alloc)?)?;
@@ -44,15 +46,17 @@ fn made_on_either(rt: HostRuntime) -> Result<(), Fail> {
 }
 
 /// Texts, and the texts of their values.
-const STRINGS: &[(&str, &str, Kind)] = &[
-    ("", "\"\"", Kind::Inline),
-    ("a", "\"a\"", Kind::Inline),
-    ("abc", "\"abc\"", Kind::Inline),
-    (LETTERS, "\"abcdefghijklmnopqrstuvwxyz\"", Kind::Allocated),
-];
+fn strings() -> &'static [(&'static str, &'static str, Kind)] {
+    &[
+        ("", "\"\"", Kind::Inline),
+        ("a", "\"a\"", Kind::Inline),
+        ("abc", "\"abc\"", Kind::Inline),
+        (LETTERS, "\"abcdefghijklmnopqrstuvwxyz\"", Kind::Allocated),
+    ]
+}
 
 fn texts<B: Backend>(rt: &impl Abort, alloc: Global) -> Result<(), Fail> {
-    for (text, json, kind) in STRINGS {
+    for (text, json, kind) in strings() {
         let read = HipStr::<B>::from_json(alloc, &value(alloc, json)?).or(Err("not read"))?;
         let made = shown(alloc, HipStr::<B>::borrowed(text).to_json(alloc)?)?;
         assert_eq!(rt;
@@ -64,7 +68,7 @@ fn texts<B: Backend>(rt: &impl Abort, alloc: Global) -> Result<(), Fail> {
 }
 
 fn paths<B: Backend>(rt: &impl Abort, alloc: Global) -> Result<(), Fail> {
-    for (text, json, _kind) in STRINGS {
+    for (text, json, _kind) in strings() {
         let read = HipPath::<B>::from_json(alloc, &value(alloc, json)?).or(Err("not read"))?;
         let made = HipPath::<B>::borrowed(text)
             .to_json(alloc)
@@ -97,29 +101,31 @@ fn path_that_is_no_text(rt: HostRuntime) {
 }
 
 /// JSON texts that are read as bytes, and where these lie.
-const BYTES: &[(&str, &[u8], Kind)] = &[
-    ("[]", b"", Kind::Inline),
-    ("\"\"", b"", Kind::Inline),
-    ("[1,2,3]", b"\x01\x02\x03", Kind::Inline),
-    ("\"\\u0001\\u0002\\u0003\"", b"\x01\x02\x03", Kind::Inline),
-    ("\"a\"", b"a", Kind::Inline),
-    ("[97]", b"a", Kind::Inline),
-    ("[0,255]", b"\x00\xFF", Kind::Inline),
-    ("\"\\u0000é\"", b"\x00\xC3\xA9", Kind::Inline),
-    (
-        "\"abcdefghijklmnopqrstuvwxyz\"",
-        b"abcdefghijklmnopqrstuvwxyz",
-        Kind::Allocated,
-    ),
-    (
-        "[1,2,3,4,5,6,7,8,9,10,11,12,13,14,15,16,17,18,19,20,21,22,23,24]",
-        b"\x01\x02\x03\x04\x05\x06\x07\x08\x09\x0A\x0B\x0C\x0D\x0E\x0F\x10\x11\x12\x13\x14\x15\x16\x17\x18",
-        Kind::Allocated,
-    ),
-];
+fn byte_rows() -> &'static [(&'static str, &'static [u8], Kind)] {
+    &[
+        ("[]", b"", Kind::Inline),
+        ("\"\"", b"", Kind::Inline),
+        ("[1,2,3]", b"\x01\x02\x03", Kind::Inline),
+        ("\"\\u0001\\u0002\\u0003\"", b"\x01\x02\x03", Kind::Inline),
+        ("\"a\"", b"a", Kind::Inline),
+        ("[97]", b"a", Kind::Inline),
+        ("[0,255]", b"\x00\xFF", Kind::Inline),
+        ("\"\\u0000é\"", b"\x00\xC3\xA9", Kind::Inline),
+        (
+            "\"abcdefghijklmnopqrstuvwxyz\"",
+            b"abcdefghijklmnopqrstuvwxyz",
+            Kind::Allocated,
+        ),
+        (
+            "[1,2,3,4,5,6,7,8,9,10,11,12,13,14,15,16,17,18,19,20,21,22,23,24]",
+            b"\x01\x02\x03\x04\x05\x06\x07\x08\x09\x0A\x0B\x0C\x0D\x0E\x0F\x10\x11\x12\x13\x14\x15\x16\x17\x18",
+            Kind::Allocated,
+        ),
+    ]
+}
 
 fn bytes<B: Backend>(rt: &impl Abort, alloc: Global) -> Result<(), Fail> {
-    for (json, bytes, kind) in BYTES {
+    for (json, bytes, kind) in byte_rows() {
         let read = HipByt::<B>::from_json(alloc, &value(alloc, json)?).or(Err("not read"))?;
         assert_eq!(rt; (read.as_slice(), read.kind()), (*bytes, *kind), "{json}");
     }
@@ -133,33 +139,35 @@ fn bytes_on_either(rt: HostRuntime) -> Result<(), Fail> {
 }
 
 /// JSON texts that are no bytes, and the item that is told.
-const NO_BYTES: &[(&str, Option<usize>)] = &[
-    ("true", None),
-    ("null", None),
-    ("1", None),
-    ("1.5", None),
-    ("{}", None),
-    ("{\"Unix\":[97]}", None),
-    ("[1,256]", Some(1)),
-    ("[1.0]", Some(0)),
-    ("[1e0]", Some(0)),
-    ("[-1]", Some(0)),
-    ("[18446744073709551616]", Some(0)),
-    ("[\"a\"]", Some(0)),
-    ("[null]", Some(0)),
-    ("[true]", Some(0)),
-    ("[[1]]", Some(0)),
-    ("[{}]", Some(0)),
-    ("[1,2,3.5,-1]", Some(2)),
-    (
-        "[1,2,3,4,5,6,7,8,9,10,11,12,13,14,15,16,17,18,19,20,21,22,23,24,256,-1]",
-        Some(24),
-    ),
-];
+fn no_byte_rows() -> &'static [(&'static str, Option<usize>)] {
+    &[
+        ("true", None),
+        ("null", None),
+        ("1", None),
+        ("1.5", None),
+        ("{}", None),
+        ("{\"Unix\":[97]}", None),
+        ("[1,256]", Some(1)),
+        ("[1.0]", Some(0)),
+        ("[1e0]", Some(0)),
+        ("[-1]", Some(0)),
+        ("[18446744073709551616]", Some(0)),
+        ("[\"a\"]", Some(0)),
+        ("[null]", Some(0)),
+        ("[true]", Some(0)),
+        ("[[1]]", Some(0)),
+        ("[{}]", Some(0)),
+        ("[1,2,3.5,-1]", Some(2)),
+        (
+            "[1,2,3,4,5,6,7,8,9,10,11,12,13,14,15,16,17,18,19,20,21,22,23,24,256,-1]",
+            Some(24),
+        ),
+    ]
+}
 
 #[test]
 fn no_bytes(rt: HostRuntime) -> Result<(), Fail> {
-    for (json, at) in NO_BYTES {
+    for (json, at) in no_byte_rows() {
         let read = HipByt::<Rc>::from_json(rt.alloc(), &value(rt.alloc(), json)?);
         assert_eq!(&rt; read.err(), Some(JsonFault::NotJsonBytes(*at)), "{json}");
     }
@@ -167,15 +175,17 @@ fn no_bytes(rt: HostRuntime) -> Result<(), Fail> {
 }
 
 /// JSON texts that are read as OS strings.
-const NAMES: &[(&str, &[u8])] = &[
-    ("{\"Unix\":[]}", b""),
-    ("{\"Unix\":[97,98]}", b"ab"),
-    ("{\"Unix\":[0,255]}", b"\x00\xFF"),
-];
+fn name_rows() -> &'static [(&'static str, &'static [u8])] {
+    &[
+        ("{\"Unix\":[]}", b""),
+        ("{\"Unix\":[97,98]}", b"ab"),
+        ("{\"Unix\":[0,255]}", b"\x00\xFF"),
+    ]
+}
 
 #[test]
 fn names(rt: HostRuntime) -> Result<(), Fail> {
-    for (json, bytes) in NAMES {
+    for (json, bytes) in name_rows() {
         let read = HipOsStr::<Rc>::from_json(rt.alloc(), &value(rt.alloc(), json)?).or(Err(
             "not read",
         ))?;
@@ -189,27 +199,29 @@ fn names(rt: HostRuntime) -> Result<(), Fail> {
 }
 
 /// JSON texts that are no OS string.
-const NO_NAMES: &[(&str, JsonFault)] = &[
-    ("{\"Unix\":\"ab\"}", JsonFault::NotJsonBytes(None)),
-    ("{\"Unix\":null}", JsonFault::NotJsonBytes(None)),
-    ("{\"Unix\":1.5}", JsonFault::NotJsonBytes(None)),
-    ("{\"Unix\":{\"Unix\":[97]}}", JsonFault::NotJsonBytes(None)),
-    ("{\"Unix\":[1,256]}", JsonFault::NotJsonBytes(Some(1))),
-    ("{\"Unix\":[[97]]}", JsonFault::NotJsonBytes(Some(0))),
-    ("{\"Unix\":[97],\"x\":1}", JsonFault::NotJsonUnix),
-    ("{\"A\":1,\"Unix\":[97]}", JsonFault::NotJsonUnix),
-    ("{}", JsonFault::NotJsonUnix),
-    ("{\"unix\":[97]}", JsonFault::NotJsonUnix),
-    ("{\"Windows\":[97]}", JsonFault::NotJsonUnix),
-    ("[97]", JsonFault::NotJsonUnix),
-    ("\"Unix\"", JsonFault::NotJsonUnix),
-    ("null", JsonFault::NotJsonUnix),
-    ("0", JsonFault::NotJsonUnix),
-];
+fn no_name_rows() -> &'static [(&'static str, JsonFault)] {
+    &[
+        ("{\"Unix\":\"ab\"}", JsonFault::NotJsonBytes(None)),
+        ("{\"Unix\":null}", JsonFault::NotJsonBytes(None)),
+        ("{\"Unix\":1.5}", JsonFault::NotJsonBytes(None)),
+        ("{\"Unix\":{\"Unix\":[97]}}", JsonFault::NotJsonBytes(None)),
+        ("{\"Unix\":[1,256]}", JsonFault::NotJsonBytes(Some(1))),
+        ("{\"Unix\":[[97]]}", JsonFault::NotJsonBytes(Some(0))),
+        ("{\"Unix\":[97],\"x\":1}", JsonFault::NotJsonUnix),
+        ("{\"A\":1,\"Unix\":[97]}", JsonFault::NotJsonUnix),
+        ("{}", JsonFault::NotJsonUnix),
+        ("{\"unix\":[97]}", JsonFault::NotJsonUnix),
+        ("{\"Windows\":[97]}", JsonFault::NotJsonUnix),
+        ("[97]", JsonFault::NotJsonUnix),
+        ("\"Unix\"", JsonFault::NotJsonUnix),
+        ("null", JsonFault::NotJsonUnix),
+        ("0", JsonFault::NotJsonUnix),
+    ]
+}
 
 #[test]
 fn no_names(rt: HostRuntime) -> Result<(), Fail> {
-    for (json, fault) in NO_NAMES {
+    for (json, fault) in no_name_rows() {
         let read = HipOsStr::<Rc>::from_json(rt.alloc(), &value(rt.alloc(), json)?);
         assert_eq!(&rt; read.err(), Some(*fault), "{json}");
     }
@@ -217,11 +229,13 @@ fn no_names(rt: HostRuntime) -> Result<(), Fail> {
 }
 
 /// JSON texts that are no string.
-const NO_STRINGS: &[&str] = &["0", "3", "null", "1.5", "[\"a\"]", "{}", "true"];
+fn no_string_rows() -> &'static [&'static str] {
+    &["0", "3", "null", "1.5", "[\"a\"]", "{}", "true"]
+}
 
 #[test]
 fn no_strings(rt: HostRuntime) -> Result<(), Fail> {
-    for json in NO_STRINGS {
+    for json in no_string_rows() {
         let value = value(rt.alloc(), json)?;
         let text = HipStr::<Rc>::from_json(rt.alloc(), &value).err();
         let path = HipPath::<Rc>::from_json(rt.alloc(), &value).err();
@@ -232,21 +246,23 @@ fn no_strings(rt: HostRuntime) -> Result<(), Fail> {
 }
 
 /// Faults and their texts.
-const FAULTS: &[(JsonFault, &str)] = &[
-    (JsonFault::NotJsonBytes(None), "not a JSON array of bytes"),
-    (
-        JsonFault::NotJsonBytes(Some(12)),
-        "not a byte at 12 of a JSON array",
-    ),
-    (
-        JsonFault::NotJsonUnix,
-        "not a JSON object with the one key Unix",
-    ),
-];
+fn faults() -> &'static [(JsonFault, &'static str)] {
+    &[
+        (JsonFault::NotJsonBytes(None), "not a JSON array of bytes"),
+        (
+            JsonFault::NotJsonBytes(Some(12)),
+            "not a byte at 12 of a JSON array",
+        ),
+        (
+            JsonFault::NotJsonUnix,
+            "not a JSON object with the one key Unix",
+        ),
+    ]
+}
 
 #[test]
 fn fault_texts(rt: HostRuntime) -> Result<(), Fail> {
-    for (fault, text) in FAULTS {
+    for (fault, text) in faults() {
         assert_eq!(&rt; format!(in rt.alloc(); "{fault}")?.as_str(), *text);
     }
     Ok(())

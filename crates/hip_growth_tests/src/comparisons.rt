@@ -4,6 +4,7 @@ use hipstr::{Backend, Rc, Unique};
 use std::alloc::Global;
 use std::cmp::Ordering;
 use std::collections::{BTreeMap, HashMap};
+use std::hash::Hash;
 use std::process::Abort;
 use std::test::Fail;
 
@@ -51,27 +52,40 @@ fn debug<B: Backend>(rt: &impl Abort, alloc: Global) -> Result<(), Fail> {
     Ok(())
 }
 
-/// An age under three letters, by their hash.
-fn hashed<'b, B: Backend>(alloc: Global) -> Result<HashMap<HipByt<'b, B>, i32>, Fail> {
+// What a byte string promises of its hash and its order is much, and each function that calls a map of them costs half a minute of
+// proof. So the calls of maps stand in functions that are generic in the key, and know nothing of it but its bounds.
+
+/// What a map says of two keys, by their hashes, once it has 7 under another.
+fn found<K: Hash + Eq + Drop>(
+    alloc: Global,
+    key: K,
+    same: &K,
+    other: &K,
+) -> Result<(Option<i32>, Option<i32>), Fail> {
     let mut ages = HashMap::new(alloc);
-    ages.insert(HipByt::inline(b"abc"), 7)?;
-    Ok(ages)
+    ages.insert(key, 7)?;
+    Ok((ages.get(same).copied(), ages.get(other).copied()))
 }
 
-/// The same, by their order.
-fn ordered<'b, B: Backend>(alloc: Global) -> Result<BTreeMap<HipByt<'b, B>, i32>, Fail> {
+/// What a map says of a key, by its order, once it has 7 under another.
+fn found_in_order<K: Ord + Drop>(alloc: Global, key: K, sought: &K) -> Result<Option<i32>, Fail> {
     let mut ages = BTreeMap::new(alloc);
-    ages.insert(HipByt::inline(b"abc"), 7)?;
-    Ok(ages)
+    ages.insert(key, 7)?;
+    Ok(ages.get(sought).copied())
 }
 
-fn found_by_hash<B: Backend>(rt: &impl Abort, ages: &HashMap<HipByt<B>, i32>) {
-    let (same, other) = (HipByt::borrowed(b"abc"), HipByt::borrowed(b"abd"));
-    assert_eq!(rt; (ages.get(&same), ages.get(&other)), (Some(&7), None));
+fn found_by_hash<B: Backend>(rt: &impl Abort, alloc: Global) -> Result<(), Fail> {
+    let (same, other) = (HipByt::<B>::borrowed(b"abc"), HipByt::borrowed(b"abd"));
+    let ages = found(alloc, HipByt::inline(b"abc"), &same, &other)?;
+    assert_eq!(rt; ages, (Some(7), None));
+    Ok(())
 }
 
-fn found_by_order<B: Backend>(rt: &impl Abort, ages: &BTreeMap<HipByt<B>, i32>) {
-    assert_eq!(rt; ages.get(&HipByt::borrowed(b"abc")), Some(&7));
+fn found_by_order<B: Backend>(rt: &impl Abort, alloc: Global) -> Result<(), Fail> {
+    let same = HipByt::<B>::borrowed(b"abc");
+    let age = found_in_order(alloc, HipByt::inline(b"abc"), &same)?;
+    assert_eq!(rt; age, Some(7));
+    Ok(())
 }
 
 fn on<B: Backend>(rt: &impl Abort, alloc: Global) -> Result<(), Fail> {
@@ -79,9 +93,8 @@ fn on<B: Backend>(rt: &impl Abort, alloc: Global) -> Result<(), Fail> {
     order_of_slices::<B>(rt);
     other_backend::<B>(rt, alloc)?;
     debug::<B>(rt, alloc)?;
-    found_by_hash(rt, &hashed::<B>(alloc)?);
-    found_by_order(rt, &ordered::<B>(alloc)?);
-    Ok(())
+    found_by_hash::<B>(rt, alloc)?;
+    found_by_order::<B>(rt, alloc)
 }
 
 #[test]
