@@ -12,7 +12,8 @@ use std::test::Fail;
 /// A command, and what it answers.
 type Row = (Command<'static>, Answer);
 
-/// Commands on a pool, and what slots hold after them, and whether each is borrowed.
+/// Commands on a pool, and what slots hold after them, and whether each is borrowed. A function in which such a table stands costs the
+/// square of what it borrows, so each has one that hands it out.
 #[derive(Clone, Copy)]
 struct Session {
     slots: usize,
@@ -64,6 +65,10 @@ const CUTS: Session = Session {
     left: &[(0, b"abc", true), (1, b"John!", false), (2, b"John", false)],
 };
 
+fn cuts() -> Session {
+    CUTS
+}
+
 /// No write through one handle shows in another.
 const WRITES: Session = Session {
     slots: 3,
@@ -93,6 +98,10 @@ const WRITES: Session = Session {
         (2, b"aaaaaaaaaaaaaaaaaaaaaaaaaaac", false),
     ],
 };
+
+fn writes() -> Session {
+    WRITES
+}
 
 /// Trims, strips and parts of texts, with each refusal.
 const TEXTS: Session = Session {
@@ -154,6 +163,10 @@ const TEXTS: Session = Session {
     ],
 };
 
+fn texts() -> Session {
+    TEXTS
+}
+
 /// Pieces by scripts, with each refusal in its order; targets past the last piece stay as they are.
 const PIECES: Session = Session {
     slots: 8,
@@ -204,6 +217,10 @@ const PIECES: Session = Session {
         (7, b"d", false),
     ],
 };
+
+fn pieces() -> Session {
+    PIECES
+}
 
 const TURNS: &[End] = &[End::Front, End::Back, End::Back, End::Front, End::Front];
 
@@ -285,10 +302,18 @@ const PUSHED: &[Row] = &[
     (Command::Set(0, 0, 98), Answer::Done),
 ];
 
+fn pushed() -> &'static [Row] {
+    PUSHED
+}
+
 const SHRUNK: &[Row] = &[
     (Command::Shrink(0, 0), Answer::Done),
     (Command::Len(0), Answer::Number(60)),
 ];
+
+fn shrunk() -> &'static [Row] {
+    SHRUNK
+}
 
 fn capacity_of<B: Backend>(alloc: Global, pool: &mut Pool<B>) -> Result<usize, Fail> {
     let answers = run(alloc, pool, &[Command::Capacity(0)], &mut Meter::new())?;
@@ -303,9 +328,9 @@ fn capacity_of<B: Backend>(alloc: Global, pool: &mut Pool<B>) -> Result<usize, F
 fn in_place<B: Backend>(rt: &impl Abort, alloc: Global) -> Result<(), Fail> {
     let mut pool = Pool::<B>::new(alloc, 1)?;
     let mut meter = Meter::new();
-    answers(rt, alloc, &mut pool, PUSHED, &mut meter)?;
+    answers(rt, alloc, &mut pool, pushed(), &mut meter)?;
     assert_eq!(rt; meter.copied(), 60);
-    answers(rt, alloc, &mut pool, SHRUNK, &mut meter)?;
+    answers(rt, alloc, &mut pool, shrunk(), &mut meter)?;
     assert!(rt; capacity_of(alloc, &mut pool)? < 200);
     Ok(())
 }
@@ -324,10 +349,10 @@ fn pools<B: Backend>(rt: &impl Abort, alloc: Global) -> Result<(), Fail> {
 /// All of it, on a backend.
 pub(crate) fn on<B: Backend>(rt: &impl Abort, alloc: Global) -> Result<(), Fail> {
     pools::<B>(rt, alloc)?;
-    plays::<B>(rt, alloc, CUTS)?;
-    plays::<B>(rt, alloc, WRITES)?;
-    plays::<B>(rt, alloc, TEXTS)?;
-    plays::<B>(rt, alloc, PIECES)?;
+    plays::<B>(rt, alloc, cuts())?;
+    plays::<B>(rt, alloc, writes())?;
+    plays::<B>(rt, alloc, texts())?;
+    plays::<B>(rt, alloc, pieces())?;
     takes_all_apart::<B>(rt, alloc)?;
     costs::<B>(rt, alloc)?;
     in_place::<B>(rt, alloc)
@@ -352,6 +377,10 @@ const PUSHED_SLICE: Session = Session {
     left: &[(0, b"", false), (1, b"abcdefghijklmnopqrstuvwx!", false)],
 };
 
+fn pushed_slice() -> Session {
+    PUSHED_SLICE
+}
+
 /// Pieces of a borrowed text, from both ends.
 const BORROWED_PIECES: Session = Session {
     slots: 6,
@@ -372,13 +401,17 @@ const BORROWED_PIECES: Session = Session {
     ],
 };
 
+fn borrowed_pieces() -> Session {
+    BORROWED_PIECES
+}
+
 /// A machine that refuses whatever may be refused for memory is proved, and fails here.
 #[test]
 fn everything_refused(rt: HostRuntime) -> Result<(), Fail> {
-    plays::<Rc>(&rt, rt.alloc(), PUSHED_SLICE)?;
-    plays::<Unique>(&rt, rt.alloc(), PUSHED_SLICE)?;
-    plays::<Rc>(&rt, rt.alloc(), BORROWED_PIECES)?;
-    plays::<Unique>(&rt, rt.alloc(), BORROWED_PIECES)
+    plays::<Rc>(&rt, rt.alloc(), pushed_slice())?;
+    plays::<Unique>(&rt, rt.alloc(), pushed_slice())?;
+    plays::<Rc>(&rt, rt.alloc(), borrowed_pieces())?;
+    plays::<Unique>(&rt, rt.alloc(), borrowed_pieces())
 }
 
 #[test]

@@ -6,20 +6,22 @@ use crate::walks::Walk::{
 use crate::walks::{Drawn, Walk, draws, walk_by_script};
 use hip_match::lines::Lines;
 
-const BY_ONE: &[Drawn] = &[
-    Drawn(Split, "a,b,c,d", ',', "FBBF", &["a", "d", "c", "b"]),
-    Drawn(SplitTerminator, "A..B..", '.', "BBFF", &["", "B", "A", ""]),
-    Drawn(SplitTerminator, "..", '.', "BB", &["", ""]),
-    Drawn(SplitTerminator, "a,b,", ',', "FB", &["a", "b"]),
-    Drawn(SplitInclusive, "a,b,", ',', "BB", &["b,", "a,"]),
-    Drawn(RSplit, "a,b,c", ',', "FBF", &["c", "a", "b"]),
-    Drawn(RSplitTerminator, "a,b,", ',', "FB", &["b", "a"]),
-    Drawn(Split, "é,ü,", ',', "BFB", &["", "é", "ü"]),
-];
+fn by_one_rows() -> &'static [Drawn] {
+    &[
+        Drawn(Split, "a,b,c,d", ',', "FBBF", &["a", "d", "c", "b"]),
+        Drawn(SplitTerminator, "A..B..", '.', "BBFF", &["", "B", "A", ""]),
+        Drawn(SplitTerminator, "..", '.', "BB", &["", ""]),
+        Drawn(SplitTerminator, "a,b,", ',', "FB", &["a", "b"]),
+        Drawn(SplitInclusive, "a,b,", ',', "BB", &["b,", "a,"]),
+        Drawn(RSplit, "a,b,c", ',', "FBF", &["c", "a", "b"]),
+        Drawn(RSplitTerminator, "a,b,", ',', "FB", &["b", "a"]),
+        Drawn(Split, "é,ü,", ',', "BFB", &["", "é", "ü"]),
+    ]
+}
 
 #[test]
 fn by_a_character(rt: HostRuntime) {
-    for Drawn(kind, text, pattern, script, want) in BY_ONE {
+    for Drawn(kind, text, pattern, script, want) in by_one_rows() {
         walk_by_script(&rt, *kind, text, *pattern, script, want);
     }
 }
@@ -28,17 +30,19 @@ fn by_a_character(rt: HostRuntime) {
 #[derive(Clone, Copy)]
 struct Digits(Walk, &'static str, &'static [&'static str]);
 
-const DIGITS: &[Digits] = &[
-    Digits(MatchIndices, "FBF", &["1", "3", "2"]),
-    Digits(RMatchIndices, "FBF", &["3", "1", "2"]),
-    Digits(Matches, "BFF", &["3", "1", "2"]),
-    Digits(RMatches, "BFF", &["1", "3", "2"]),
-];
+fn digit_rows() -> &'static [Digits] {
+    &[
+        Digits(MatchIndices, "FBF", &["1", "3", "2"]),
+        Digits(RMatchIndices, "FBF", &["3", "1", "2"]),
+        Digits(Matches, "BFF", &["3", "1", "2"]),
+        Digits(RMatches, "BFF", &["1", "3", "2"]),
+    ]
+}
 
 #[test]
 fn by_digits(rt: HostRuntime) {
     let digits = ['1', '2', '3'];
-    for Digits(kind, script, want) in DIGITS {
+    for Digits(kind, script, want) in digit_rows() {
         walk_by_script(&rt, *kind, "a1b2c3", &digits, script, want);
         walk_by_script(&rt, *kind, "a1b2c3", digits.as_slice(), script, want);
     }

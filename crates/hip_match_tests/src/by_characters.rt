@@ -2,34 +2,38 @@
 use crate::walks::Walk::{RSplit, RSplitN, Split, SplitInclusive, SplitN, SplitTerminator};
 use crate::walks::{Row, walks};
 
-const BY_ONE: &[Row<char>] = &[
-    Row(Split, "", ',', &[""]),
-    Row(SplitTerminator, "", ',', &[]),
-    Row(SplitInclusive, "", ',', &[]),
-    Row(SplitN(9), "a,b,c", ',', &["a", "b", "c"]),
-    Row(RSplitN(1), "a,b,c", ',', &["a,b,c"]),
-    Row(Split, "a😀b€cé", '😀', &["a", "b€cé"]),
-    Row(Split, "a😀b€cé", '€', &["a😀b", "cé"]),
-    Row(Split, "a😀b€cé", 'é', &["a😀b€c", ""]),
-    Row(RSplit, "a😀b€cé", '😀', &["b€cé", "a"]),
-];
+fn by_one_rows() -> &'static [Row<char>] {
+    &[
+        Row(Split, "", ',', &[""]),
+        Row(SplitTerminator, "", ',', &[]),
+        Row(SplitInclusive, "", ',', &[]),
+        Row(SplitN(9), "a,b,c", ',', &["a", "b", "c"]),
+        Row(RSplitN(1), "a,b,c", ',', &["a,b,c"]),
+        Row(Split, "a😀b€cé", '😀', &["a", "b€cé"]),
+        Row(Split, "a😀b€cé", '€', &["a😀b", "cé"]),
+        Row(Split, "a😀b€cé", 'é', &["a😀b€c", ""]),
+        Row(RSplit, "a😀b€cé", '😀', &["b€cé", "a"]),
+    ]
+}
 
 #[test]
 fn by_a_character(rt: HostRuntime) {
-    for Row(kind, text, pattern, want) in BY_ONE {
+    for Row(kind, text, pattern, want) in by_one_rows() {
         walks(&rt, *kind, text, *pattern, want);
     }
 }
 
-const BY_SOME: &[Row<&[char]>] = &[
-    Row(Split, "a😀b€cé", &['b', 'c'], &["a😀", "€", "é"]),
-    Row(RSplit, "a😀b€cé", &['b', 'c'], &["é", "€", "a😀"]),
-    Row(Split, "a😀b€cé", &[], &["a😀b€cé"]),
-];
+fn by_some_rows() -> &'static [Row<&'static [char]>] {
+    &[
+        Row(Split, "a😀b€cé", &['b', 'c'], &["a😀", "€", "é"]),
+        Row(RSplit, "a😀b€cé", &['b', 'c'], &["é", "€", "a😀"]),
+        Row(Split, "a😀b€cé", &[], &["a😀b€cé"]),
+    ]
+}
 
 #[test]
 fn by_some_characters(rt: HostRuntime) {
-    for Row(kind, text, pattern, want) in BY_SOME {
+    for Row(kind, text, pattern, want) in by_some_rows() {
         walks(&rt, *kind, text, *pattern, want);
     }
 }

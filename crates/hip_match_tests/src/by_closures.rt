@@ -5,7 +5,8 @@ ghost use Rattle.hip_match.specs.Answers.{answer_at};
 
 use crate::cuts::{cuts, once, trims};
 use crate::each_way::{
-    CUTS, DRAWN, Drawn, TEXT, TURNS, WALKS, matches_by_turns, searches, tests_at_a_place,
+    Drawn, TEXT, each_cut, each_drawn, each_turn, each_walk, matches_by_turns, searches,
+    tests_at_a_place,
 };
 use crate::walks::{draws, gives, walk_by_script, walks};
 use hip_match::chosen::Chosen;
@@ -104,21 +105,21 @@ fn where_types_are_open(rt: HostRuntime) {
 }
 
 fn walks_of(rt: &impl Abort, wanted: char) {
-    for (kind, want) in WALKS {
+    for (kind, want) in each_walk() {
         let pattern = CharPred::with(|c| c == wanted, chosen_for(wanted));
         walks(rt, *kind, TEXT, pattern, want);
     }
 }
 
 fn scripts_of(rt: &impl Abort, wanted: char) {
-    for Drawn(kind, script, want) in DRAWN {
+    for Drawn(kind, script, want) in each_drawn() {
         let pattern = CharPred::with(|c| c == wanted, chosen_for(wanted));
         walk_by_script(rt, *kind, TEXT, pattern, script, want);
     }
 }
 
 fn cuts_of(rt: &impl Abort, wanted: char) {
-    for (kind, want) in CUTS {
+    for (kind, want) in each_cut() {
         let pattern = CharPred::with(|c| c == wanted, chosen_for(wanted));
         cuts(rt, *kind, TEXT, pattern, Some(*want));
     }
@@ -141,7 +142,7 @@ fn places_of(rt: &impl Abort, wanted: char) {
 }
 
 fn matches_of(rt: &impl Abort, wanted: char) {
-    for (kind, want) in TURNS {
+    for (kind, want) in each_turn() {
         let pattern = CharPred::with(|c| c == wanted, chosen_for(wanted));
         matches_by_turns(rt, *kind, pattern, want);
     }

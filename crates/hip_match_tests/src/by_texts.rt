@@ -5,48 +5,73 @@ use crate::walks::Walk::{
 use crate::walks::{Row, lists, walks};
 use hip_match::matches::MatchIndices;
 use hip_match::rmatches::RMatchIndices;
+use std::process::Abort;
 use std::test::Fail;
 
-const BY_TEXTS: &[Row<&str>] = &[
-    // Matches that overlap.
-    Row(Matches, "aaa", "aa", &["aa"]),
-    Row(Split, "aaa", "aa", &["", "a"]),
-    Row(SplitInclusive, "aaa", "aa", &["aa", "a"]),
-    Row(RSplit, "aaa", "aa", &["", "a"]),
-    Row(RSplitTerminator, "aaa", "aa", &["a"]),
-    Row(Split, "aaaa", "aa", &["", "", ""]),
-    // An empty text.
-    Row(Split, "abc", "", &["", "a", "b", "c", ""]),
-    Row(SplitInclusive, "abc", "", &["", "a", "b", "c"]),
-    Row(SplitTerminator, "abc", "", &["", "a", "b", "c"]),
-    Row(RSplit, "abc", "", &["", "c", "b", "a", ""]),
-    Row(RSplitTerminator, "abc", "", &["c", "b", "a", ""]),
-    Row(Split, "", "", &["", ""]),
-    Row(SplitInclusive, "", "", &[""]),
-    Row(SplitTerminator, "", "", &[""]),
-    Row(Matches, "", "", &[""]),
-    Row(Split, "é", "", &["", "é", ""]),
-    Row(SplitN(2), "é", "", &["", "é"]),
-    // Empty pieces.
-    Row(SplitTerminator, "A..B..", ".", &["A", "", "B", ""]),
-    Row(RSplitTerminator, "A..B..", ".", &["", "B", "", "A"]),
-    // Counts.
-    Row(SplitN(0), "a,b,c", ",", &[]),
-    Row(SplitN(1), "a,b,c", ",", &["a,b,c"]),
-    Row(SplitN(2), "a,b,c", ",", &["a", "b,c"]),
-    Row(RSplitN(0), "a,b,c", ",", &[]),
-    Row(RSplitN(2), "a,b,c", ",", &["c", "a,b"]),
-    Row(RSplitN(9), "a,b,c", ",", &["c", "b", "a"]),
-    Row(SplitN(3), "a,b,,", ",", &["a", "b", ","]),
-    Row(RSplitN(3), ",,a,b", ",", &["b", "a", ","]),
-    Row(RSplit, "a😀b€cé", "€", &["cé", "a😀b"]),
-];
+/// Matches that overlap.
+fn overlapping() -> &'static [Row<&'static str>] {
+    &[
+        Row(Matches, "aaa", "aa", &["aa"]),
+        Row(Split, "aaa", "aa", &["", "a"]),
+        Row(SplitInclusive, "aaa", "aa", &["aa", "a"]),
+        Row(RSplit, "aaa", "aa", &["", "a"]),
+        Row(RSplitTerminator, "aaa", "aa", &["a"]),
+        Row(Split, "aaaa", "aa", &["", "", ""]),
+    ]
+}
+
+/// An empty text.
+fn empty_text() -> &'static [Row<&'static str>] {
+    &[
+        Row(Split, "abc", "", &["", "a", "b", "c", ""]),
+        Row(SplitInclusive, "abc", "", &["", "a", "b", "c"]),
+        Row(SplitTerminator, "abc", "", &["", "a", "b", "c"]),
+        Row(RSplit, "abc", "", &["", "c", "b", "a", ""]),
+        Row(RSplitTerminator, "abc", "", &["c", "b", "a", ""]),
+        Row(Split, "", "", &["", ""]),
+        Row(SplitInclusive, "", "", &[""]),
+        Row(SplitTerminator, "", "", &[""]),
+        Row(Matches, "", "", &[""]),
+        Row(Split, "é", "", &["", "é", ""]),
+        Row(SplitN(2), "é", "", &["", "é"]),
+    ]
+}
+
+/// Empty pieces.
+fn empty_pieces() -> &'static [Row<&'static str>] {
+    &[
+        Row(SplitTerminator, "A..B..", ".", &["A", "", "B", ""]),
+        Row(RSplitTerminator, "A..B..", ".", &["", "B", "", "A"]),
+    ]
+}
+
+/// Counts.
+fn counts() -> &'static [Row<&'static str>] {
+    &[
+        Row(SplitN(0), "a,b,c", ",", &[]),
+        Row(SplitN(1), "a,b,c", ",", &["a,b,c"]),
+        Row(SplitN(2), "a,b,c", ",", &["a", "b,c"]),
+        Row(RSplitN(0), "a,b,c", ",", &[]),
+        Row(RSplitN(2), "a,b,c", ",", &["c", "a,b"]),
+        Row(RSplitN(9), "a,b,c", ",", &["c", "b", "a"]),
+        Row(SplitN(3), "a,b,,", ",", &["a", "b", ","]),
+        Row(RSplitN(3), ",,a,b", ",", &["b", "a", ","]),
+        Row(RSplit, "a😀b€cé", "€", &["cé", "a😀b"]),
+    ]
+}
+
+fn walks_each(rt: &impl Abort, rows: &[Row<&'static str>]) {
+    for Row(kind, text, pattern, want) in rows {
+        walks(rt, *kind, text, *pattern, want);
+    }
+}
 
 #[test]
 fn by_a_text(rt: HostRuntime) {
-    for Row(kind, text, pattern, want) in BY_TEXTS {
-        walks(&rt, *kind, text, *pattern, want);
-    }
+    walks_each(&rt, overlapping());
+    walks_each(&rt, empty_text());
+    walks_each(&rt, empty_pieces());
+    walks_each(&rt, counts());
 }
 
 #[test]
@@ -84,9 +109,13 @@ const PLACES: &[MatchPlaces] = &[
     ),
 ];
 
+fn match_places() -> &'static [MatchPlaces] {
+    PLACES
+}
+
 #[test]
 fn places(rt: HostRuntime) {
-    for MatchPlaces(text, pattern, leftmost, rightmost) in PLACES {
+    for MatchPlaces(text, pattern, leftmost, rightmost) in match_places() {
         lists(&rt, MatchIndices::new(text, *pattern), leftmost);
         lists(&rt, RMatchIndices::new(text, *pattern), rightmost);
     }

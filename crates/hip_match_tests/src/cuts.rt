@@ -68,34 +68,38 @@ pub(crate) fn trims<P: DoubleEndedPattern>(rt: &impl Abort, text: &str, pattern:
 #[derive(Clone, Copy)]
 struct Row<P>(Cut, &'static str, P, Option<Part>);
 
-const BY_TEXTS: &[Row<&str>] = &[
-    Row(Cut::TrimStart, "xxx", "xx", Some((2, 3))),
-    Row(Cut::TrimEnd, "xxx", "xx", Some((0, 1))),
-    Row(Cut::TrimStart, "abc", "", Some((0, 3))),
-    Row(Cut::TrimEnd, "abc", "", Some((0, 3))),
-    Row(Cut::StripPrefix, "abc", "a", Some((1, 3))),
-    Row(Cut::StripPrefix, "abc", "y", None),
-    Row(Cut::StripSuffix, "éaé", "é", Some((0, 3))),
-    Row(Cut::StripSuffix, "abc", "", Some((0, 3))),
-];
+fn by_text_rows() -> &'static [Row<&'static str>] {
+    &[
+        Row(Cut::TrimStart, "xxx", "xx", Some((2, 3))),
+        Row(Cut::TrimEnd, "xxx", "xx", Some((0, 1))),
+        Row(Cut::TrimStart, "abc", "", Some((0, 3))),
+        Row(Cut::TrimEnd, "abc", "", Some((0, 3))),
+        Row(Cut::StripPrefix, "abc", "a", Some((1, 3))),
+        Row(Cut::StripPrefix, "abc", "y", None),
+        Row(Cut::StripSuffix, "éaé", "é", Some((0, 3))),
+        Row(Cut::StripSuffix, "abc", "", Some((0, 3))),
+    ]
+}
 
 #[test]
 fn by_a_text(rt: HostRuntime) {
-    for Row(kind, text, pattern, want) in BY_TEXTS {
+    for Row(kind, text, pattern, want) in by_text_rows() {
         cuts(&rt, *kind, text, *pattern, *want);
     }
 }
 
-const BY_ONE: &[Row<char>] = &[
-    Row(Cut::TrimStart, "xxaxx", 'x', Some((2, 5))),
-    Row(Cut::TrimEnd, "xxaxx", 'x', Some((0, 3))),
-    Row(Cut::StripPrefix, "aab", 'a', Some((1, 3))),
-    Row(Cut::StripSuffix, "abc", 'x', None),
-];
+fn by_one_rows() -> &'static [Row<char>] {
+    &[
+        Row(Cut::TrimStart, "xxaxx", 'x', Some((2, 5))),
+        Row(Cut::TrimEnd, "xxaxx", 'x', Some((0, 3))),
+        Row(Cut::StripPrefix, "aab", 'a', Some((1, 3))),
+        Row(Cut::StripSuffix, "abc", 'x', None),
+    ]
+}
 
 #[test]
 fn by_a_character(rt: HostRuntime) {
-    for Row(kind, text, pattern, want) in BY_ONE {
+    for Row(kind, text, pattern, want) in by_one_rows() {
         cuts(&rt, *kind, text, *pattern, *want);
     }
     trims(&rt, "xxaxx", 'x', "a");
@@ -124,14 +128,16 @@ fn by_an_owned_text(rt: HostRuntime) -> Result<(), Fail> {
 #[derive(Clone, Copy)]
 struct AtOne(&'static str, &'static str, (Part, Part), (Part, Part));
 
-const ONCE: &[AtOne] = &[
-    AtOne("aaa", "aa", ((0, 0), (2, 3)), ((0, 1), (3, 3))),
-    AtOne("abc", "", ((0, 0), (0, 3)), ((0, 3), (3, 3))),
-];
+fn once_rows() -> &'static [AtOne] {
+    &[
+        AtOne("aaa", "aa", ((0, 0), (2, 3)), ((0, 1), (3, 3))),
+        AtOne("abc", "", ((0, 0), (0, 3)), ((0, 3), (3, 3))),
+    ]
+}
 
 #[test]
 fn at_one_match(rt: HostRuntime) {
-    for AtOne(text, pattern, first, last) in ONCE {
+    for AtOne(text, pattern, first, last) in once_rows() {
         once(&rt, false, text, *pattern, Some(*first));
         once(&rt, true, text, *pattern, Some(*last));
     }

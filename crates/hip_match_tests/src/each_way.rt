@@ -14,32 +14,36 @@ use std::test::Fail;
 pub(crate) const TEXT: &str = "ééaébé";
 
 /// What each walk gives.
-pub(crate) const WALKS: &[(Walk, &[&str])] = &[
-    (Walk::Matches, &["é", "é", "é", "é"]),
-    (Walk::MatchIndices, &["é", "é", "é", "é"]),
-    (Walk::Split, &["", "", "a", "b", ""]),
-    (Walk::SplitInclusive, &["é", "é", "aé", "bé"]),
-    (Walk::SplitTerminator, &["", "", "a", "b"]),
-    (Walk::SplitN(3), &["", "", "aébé"]),
-    (Walk::RMatches, &["é", "é", "é", "é"]),
-    (Walk::RMatchIndices, &["é", "é", "é", "é"]),
-    (Walk::RSplit, &["", "b", "a", "", ""]),
-    (Walk::RSplitTerminator, &["b", "a", "", ""]),
-    (Walk::RSplitN(2), &["", "ééaéb"]),
-];
+pub(crate) fn each_walk() -> &'static [(Walk, &'static [&'static str])] {
+    &[
+        (Walk::Matches, &["é", "é", "é", "é"]),
+        (Walk::MatchIndices, &["é", "é", "é", "é"]),
+        (Walk::Split, &["", "", "a", "b", ""]),
+        (Walk::SplitInclusive, &["é", "é", "aé", "bé"]),
+        (Walk::SplitTerminator, &["", "", "a", "b"]),
+        (Walk::SplitN(3), &["", "", "aébé"]),
+        (Walk::RMatches, &["é", "é", "é", "é"]),
+        (Walk::RMatchIndices, &["é", "é", "é", "é"]),
+        (Walk::RSplit, &["", "b", "a", "", ""]),
+        (Walk::RSplitTerminator, &["b", "a", "", ""]),
+        (Walk::RSplitN(2), &["", "ééaéb"]),
+    ]
+}
 
 /// What a script draws from a walk.
 #[derive(Clone, Copy)]
 pub(crate) struct Drawn(pub Walk, pub &'static str, pub &'static [&'static str]);
 
 /// What scripts draw of the pieces.
-pub(crate) const DRAWN: &[Drawn] = &[
-    Drawn(Walk::Split, "FBFBF", &["", "", "", "b", "a"]),
-    Drawn(Walk::SplitInclusive, "FBFB", &["é", "bé", "é", "aé"]),
-    Drawn(Walk::SplitTerminator, "BFBF", &["b", "", "a", ""]),
-    Drawn(Walk::RSplit, "FBFBF", &["", "", "b", "", "a"]),
-    Drawn(Walk::RSplitTerminator, "FBBF", &["b", "", "", "a"]),
-];
+pub(crate) fn each_drawn() -> &'static [Drawn] {
+    &[
+        Drawn(Walk::Split, "FBFBF", &["", "", "", "b", "a"]),
+        Drawn(Walk::SplitInclusive, "FBFB", &["é", "bé", "é", "aé"]),
+        Drawn(Walk::SplitTerminator, "BFBF", &["b", "", "a", ""]),
+        Drawn(Walk::RSplit, "FBFBF", &["", "", "b", "", "a"]),
+        Drawn(Walk::RSplitTerminator, "FBBF", &["b", "", "", "a"]),
+    ]
+}
 
 /// The matches, drawn from the front and the back in turn.
 const LEFTMOST: &[(usize, usize)] = &[(0, 2), (8, 10), (2, 4), (5, 7)];
@@ -48,20 +52,26 @@ const LEFTMOST: &[(usize, usize)] = &[(0, 2), (8, 10), (2, 4), (5, 7)];
 const RIGHTMOST: &[(usize, usize)] = &[(8, 10), (0, 2), (5, 7), (2, 4)];
 
 /// What each walk over matches draws so.
-pub(crate) const TURNS: &[(Walk, &[(usize, usize)])] = &[
+const TURNS: &[(Walk, &[(usize, usize)])] = &[
     (Walk::Matches, LEFTMOST),
     (Walk::MatchIndices, LEFTMOST),
     (Walk::RMatches, RIGHTMOST),
     (Walk::RMatchIndices, RIGHTMOST),
 ];
 
+pub(crate) fn each_turn() -> &'static [(Walk, &'static [(usize, usize)])] {
+    TURNS
+}
+
 /// What is left of the text by a call that takes matches off.
-pub(crate) const CUTS: &[(Cut, (usize, usize))] = &[
-    (Cut::TrimStart, (4, 10)),
-    (Cut::TrimEnd, (0, 8)),
-    (Cut::StripPrefix, (2, 10)),
-    (Cut::StripSuffix, (0, 8)),
-];
+pub(crate) fn each_cut() -> &'static [(Cut, (usize, usize))] {
+    &[
+        (Cut::TrimStart, (4, 10)),
+        (Cut::TrimEnd, (0, 8)),
+        (Cut::StripPrefix, (2, 10)),
+        (Cut::StripSuffix, (0, 8)),
+    ]
+}
 
 /// Asserts the ranges, drawn from the front and the back in turn.
 fn draws_by_turns<R: RangesBack + Drop>(rt: &impl Abort, mut ranges: R, want: &[(usize, usize)])
@@ -135,10 +145,10 @@ pub(crate) fn tests_at_a_place<P: OneChar + DoubleEndedPattern>(rt: &impl Abort,
 fn pattern_each_way<P: ReversePattern + Copy>(rt: &impl Abort, pattern: P)
     requires { P.can_search pattern }
 {
-    for (kind, want) in WALKS {
+    for (kind, want) in each_walk() {
         walks(rt, *kind, TEXT, pattern, want);
     }
-    for (kind, want) in CUTS {
+    for (kind, want) in each_cut() {
         cuts(rt, *kind, TEXT, pattern, Some(*want));
     }
     once(rt, false, TEXT, pattern, Some(((0, 0), (2, 10))));
@@ -149,10 +159,10 @@ fn pattern_each_way<P: ReversePattern + Copy>(rt: &impl Abort, pattern: P)
 fn pattern_from_both_ends<P: OneChar + Copy>(rt: &impl Abort, pattern: P)
     requires { P.can_search pattern }
 {
-    for Drawn(kind, script, want) in DRAWN {
+    for Drawn(kind, script, want) in each_drawn() {
         walk_by_script(rt, *kind, TEXT, pattern, script, want);
     }
-    for (kind, want) in TURNS {
+    for (kind, want) in each_turn() {
         matches_by_turns(rt, *kind, pattern, want);
     }
 }

@@ -8,37 +8,43 @@ use hip_match::white_space::{SplitAsciiWhitespace, SplitWhitespace};
 #[derive(Clone, Copy)]
 struct Parts(&'static str, &'static [&'static str]);
 
-const LINES: &[Parts] = &[
-    Parts("x\r\ny\n\nz\r", &["x", "y", "", "z\r"]),
-    Parts("\r\n", &[""]),
-    Parts("a\r\r\n", &["a\r"]),
-    Parts("", &[]),
-];
+fn line_rows() -> &'static [Parts] {
+    &[
+        Parts("x\r\ny\n\nz\r", &["x", "y", "", "z\r"]),
+        Parts("\r\n", &[""]),
+        Parts("a\r\r\n", &["a\r"]),
+        Parts("", &[]),
+    ]
+}
 
 #[test]
 fn lines(rt: HostRuntime) {
-    for Parts(text, want) in LINES {
+    for Parts(text, want) in line_rows() {
         gives(&rt, text, Lines::new(text), want);
     }
 }
 
-const RUNS: &[Parts] = &[
-    Parts("a\x0Bb c", &["a", "b", "c"]),
-    Parts("", &[]),
-    Parts("a\u{2003}b ", &["a", "b"]),
-];
+fn run_rows() -> &'static [Parts] {
+    &[
+        Parts("a\x0Bb c", &["a", "b", "c"]),
+        Parts("", &[]),
+        Parts("a\u{2003}b ", &["a", "b"]),
+    ]
+}
 
-const ASCII_RUNS: &[Parts] = &[
-    Parts("a\x0Bb c", &["a\x0Bb", "c"]),
-    Parts("a\u{2003}b ", &["a\u{2003}b"]),
-];
+fn ascii_run_rows() -> &'static [Parts] {
+    &[
+        Parts("a\x0Bb c", &["a\x0Bb", "c"]),
+        Parts("a\u{2003}b ", &["a\u{2003}b"]),
+    ]
+}
 
 #[test]
 fn runs(rt: HostRuntime) {
-    for Parts(text, want) in RUNS {
+    for Parts(text, want) in run_rows() {
         gives(&rt, text, SplitWhitespace::new(text), want);
     }
-    for Parts(text, want) in ASCII_RUNS {
+    for Parts(text, want) in ascii_run_rows() {
         gives(&rt, text, SplitAsciiWhitespace::new(text), want);
     }
 }
@@ -47,22 +53,26 @@ fn runs(rt: HostRuntime) {
 #[derive(Clone, Copy)]
 struct Drawn(&'static str, &'static str, &'static [&'static str]);
 
-const DRAWN_RUNS: &[Drawn] = &[
-    Drawn("\u{a0} a\u{2003}\u{85}é b ", "FBF", &["a", "b", "é"]),
-    Drawn("a\u{2003}b ", "BF", &["b", "a"]),
-];
+fn drawn_runs() -> &'static [Drawn] {
+    &[
+        Drawn("\u{a0} a\u{2003}\u{85}é b ", "FBF", &["a", "b", "é"]),
+        Drawn("a\u{2003}b ", "BF", &["b", "a"]),
+    ]
+}
 
-const DRAWN_ASCII_RUNS: &[Drawn] = &[
-    Drawn("a\x0Bb c", "BF", &["c", "a\x0Bb"]),
-    Drawn("a\u{2003}b ", "B", &["a\u{2003}b"]),
-];
+fn drawn_ascii_runs() -> &'static [Drawn] {
+    &[
+        Drawn("a\x0Bb c", "BF", &["c", "a\x0Bb"]),
+        Drawn("a\u{2003}b ", "B", &["a\u{2003}b"]),
+    ]
+}
 
 #[test]
 fn runs_from_both_ends(rt: HostRuntime) {
-    for Drawn(text, script, want) in DRAWN_RUNS {
+    for Drawn(text, script, want) in drawn_runs() {
         draws(&rt, text, SplitWhitespace::new(text), script, want);
     }
-    for Drawn(text, script, want) in DRAWN_ASCII_RUNS {
+    for Drawn(text, script, want) in drawn_ascii_runs() {
         draws(&rt, text, SplitAsciiWhitespace::new(text), script, want);
     }
 }
@@ -71,15 +81,17 @@ fn runs_from_both_ends(rt: HostRuntime) {
 #[derive(Clone, Copy)]
 struct Trimmed(&'static str, (usize, usize), (usize, usize), (usize, usize));
 
-const TRIMMED: &[Trimmed] = &[
-    Trimmed(" \u{a0}\u{2003}a\u{85}", (6, 7), (6, 9), (0, 7)),
-    Trimmed("\u{2003}b\u{2003} ", (3, 4), (3, 8), (0, 4)),
-    Trimmed("b", (0, 1), (0, 1), (0, 1)),
-];
+fn trimmed_rows() -> &'static [Trimmed] {
+    &[
+        Trimmed(" \u{a0}\u{2003}a\u{85}", (6, 7), (6, 9), (0, 7)),
+        Trimmed("\u{2003}b\u{2003} ", (3, 4), (3, 8), (0, 4)),
+        Trimmed("b", (0, 1), (0, 1), (0, 1)),
+    ]
+}
 
 #[test]
 fn trims(rt: HostRuntime) {
-    for Trimmed(text, both, start, end) in TRIMMED {
+    for Trimmed(text, both, start, end) in trimmed_rows() {
         assert_eq!(rt;
             (trim(text), trim_start(text), trim_end(text)),
             (*both, *start, *end)
