@@ -82,12 +82,20 @@ const BY_TEXTS: &[Row<&str>] = &[
     (Cut::StripSuffix, "abc", "", Some("abc")),
 ];
 
+fn by_text_rows() -> &'static [Row<&'static str>] {
+    BY_TEXTS
+}
+
 const BY_ONE: &[Row<char>] = &[
     (Cut::StripPrefix, "éaé", 'é', Some("aé")),
     (Cut::StripSuffix, "éaé", 'x', None),
     (Cut::TrimStart, "xxaxx", 'x', Some("axx")),
     (Cut::TrimEnd, "xxaxx", 'x', Some("xxa")),
 ];
+
+fn by_one_rows() -> &'static [Row<char>] {
+    BY_ONE
+}
 
 fn cuts_both_ways<B: Backend, P: ReversePattern + Copy>(alloc: Global, row: Row<P>) -> bool
     requires { P.can_search row.2 }
@@ -112,6 +120,10 @@ const ONCE: &[AtOne] = &[
     ("ab", "=", None, None),
     ("abc", "", Some(("", "abc")), Some(("abc", ""))),
 ];
+
+fn once_rows() -> &'static [AtOne] {
+    ONCE
+}
 
 /// The parts of a text, which there may be none of.
 type Parts<'b, B> = Result<Option<(HipStr<'b, B>, HipStr<'b, B>)>, AllocError>;
@@ -147,6 +159,10 @@ const TRIMMED: &[Trimmed] = &[
     ),
     ("  a ", "a", "a ", "  a"),
 ];
+
+fn trimmed_rows() -> &'static [Trimmed] {
+    TRIMMED
+}
 
 /// Whether this text was made.
 fn is_text<B: Backend>(text: Result<HipStr<'_, B>, AllocError>, want: &str) -> bool {
@@ -190,7 +206,7 @@ fn trims_matches<B: Backend, P: DoubleEndedPattern + Copy>(
 }
 
 fn tables_on<B: Backend>(rt: &impl Abort, alloc: Global) {
-    for row in BY_TEXTS {
+    for row in by_text_rows() {
         assert!(rt;
             cuts_both_ways::<B, _>(alloc, *row),
             "{:?} {:?}",
@@ -198,7 +214,7 @@ fn tables_on<B: Backend>(rt: &impl Abort, alloc: Global) {
             row.2
         );
     }
-    for row in BY_ONE {
+    for row in by_one_rows() {
         assert!(rt;
             cuts_both_ways::<B, _>(alloc, *row),
             "{:?} {:?}",
@@ -209,10 +225,10 @@ fn tables_on<B: Backend>(rt: &impl Abort, alloc: Global) {
 }
 
 fn on<B: Backend>(rt: &impl Abort, alloc: Global) {
-    for row in ONCE {
+    for row in once_rows() {
         assert!(rt; cuts_at_one::<B>(alloc, *row), "{}", row.0);
     }
-    for row in TRIMMED {
+    for row in trimmed_rows() {
         assert!(rt;
             trims::<B>(alloc, *row) & trims_metered::<B>(alloc, *row),
             "{:?}",

@@ -12,52 +12,61 @@ use std::process::Abort;
 /// A walk over a text by a pattern, and the pieces that it gives.
 type Row<P> = (Walk, &'static str, P, &'static [&'static str]);
 
-const BY_TEXTS: &[Row<&str>] = &[
-    // Matches that overlap.
-    (Matches, "aaa", "aa", &["aa"]),
-    (RMatches, "aaa", "aa", &["aa"]),
-    (Split, "aaa", "aa", &["", "a"]),
-    (RSplit, "aaa", "aa", &["", "a"]),
-    (Matches, "ababababa", "aba", &["aba", "aba"]),
-    // An empty pattern.
-    (Split, "abc", "", &["", "a", "b", "c", ""]),
-    (SplitInclusive, "abc", "", &["", "a", "b", "c"]),
-    (SplitTerminator, "abc", "", &["", "a", "b", "c"]),
-    (RSplit, "abc", "", &["", "c", "b", "a", ""]),
-    (RSplitTerminator, "abc", "", &["c", "b", "a", ""]),
-    (Split, "", "", &["", ""]),
-    (SplitInclusive, "", "", &[""]),
-    (SplitTerminator, "", "", &[""]),
-    (Matches, "", "", &[""]),
-    (Split, "é", "", &["", "é", ""]),
-    (SplitN(2), "é", "", &["", "é"]),
-];
+/// Matches that overlap.
+fn by_text_rows() -> &'static [Row<&'static str>] {
+    &[
+        (Matches, "aaa", "aa", &["aa"]),
+        (RMatches, "aaa", "aa", &["aa"]),
+        (Split, "aaa", "aa", &["", "a"]),
+        (RSplit, "aaa", "aa", &["", "a"]),
+        (Matches, "ababababa", "aba", &["aba", "aba"]),
+    ]
+}
 
-const BY_ONE: &[Row<char>] = &[
-    (SplitTerminator, "A..B..", '.', &["A", "", "B", ""]),
-    (RSplitTerminator, "A..B..", '.', &["", "B", "", "A"]),
-    // Counts.
-    (SplitN(2), "a,b,c", ',', &["a", "b,c"]),
-    (RSplitN(2), "a,b,c", ',', &["c", "a,b"]),
-    (SplitN(0), "a,b,c", ',', &[]),
-    (RSplitN(0), "a,b,c", ',', &[]),
-    (SplitN(1), "a,b", ',', &["a,b"]),
-    (RSplitN(1), "a,b", ',', &["a,b"]),
-    (SplitN(9), "a,b", ',', &["a", "b"]),
-    (SplitN(3), "a,b,,", ',', &["a", "b", ","]),
-    (RSplitN(3), ",,a,b", ',', &["b", "a", ","]),
-    (SplitN(1), "", ',', &[""]),
-];
+/// An empty pattern.
+fn by_empty_rows() -> &'static [Row<&'static str>] {
+    &[
+        (Split, "abc", "", &["", "a", "b", "c", ""]),
+        (SplitInclusive, "abc", "", &["", "a", "b", "c"]),
+        (SplitTerminator, "abc", "", &["", "a", "b", "c"]),
+        (RSplit, "abc", "", &["", "c", "b", "a", ""]),
+        (RSplitTerminator, "abc", "", &["c", "b", "a", ""]),
+        (Split, "", "", &["", ""]),
+        (SplitInclusive, "", "", &[""]),
+        (SplitTerminator, "", "", &[""]),
+        (Matches, "", "", &[""]),
+        (Split, "é", "", &["", "é", ""]),
+        (SplitN(2), "é", "", &["", "é"]),
+    ]
+}
 
-fn by_texts<B: Backend>(rt: &impl Abort, alloc: Global) {
-    for (kind, text, pattern, want) in BY_TEXTS {
+fn by_one_rows() -> &'static [Row<char>] {
+    &[
+        (SplitTerminator, "A..B..", '.', &["A", "", "B", ""]),
+        (RSplitTerminator, "A..B..", '.', &["", "B", "", "A"]),
+        // Counts.
+        (SplitN(2), "a,b,c", ',', &["a", "b,c"]),
+        (RSplitN(2), "a,b,c", ',', &["c", "a,b"]),
+        (SplitN(0), "a,b,c", ',', &[]),
+        (RSplitN(0), "a,b,c", ',', &[]),
+        (SplitN(1), "a,b", ',', &["a,b"]),
+        (RSplitN(1), "a,b", ',', &["a,b"]),
+        (SplitN(9), "a,b", ',', &["a", "b"]),
+        (SplitN(3), "a,b,,", ',', &["a", "b", ","]),
+        (RSplitN(3), ",,a,b", ',', &["b", "a", ","]),
+        (SplitN(1), "", ',', &[""]),
+    ]
+}
+
+fn by_texts<B: Backend>(rt: &impl Abort, alloc: Global, rows: &[Row<&'static str>]) {
+    for (kind, text, pattern, want) in rows {
         let source = HipStr::<B>::borrowed(*text);
         assert!(rt; walks(&source, alloc, *kind, *pattern, want), "{text}");
     }
 }
 
 fn by_characters<B: Backend>(rt: &impl Abort, alloc: Global) {
-    for (kind, text, pattern, want) in BY_ONE {
+    for (kind, text, pattern, want) in by_one_rows() {
         let source = HipStr::<B>::borrowed(*text);
         assert!(rt; walks(&source, alloc, *kind, *pattern, want), "{text}");
     }
@@ -72,18 +81,20 @@ type Drawn = (
     &'static [&'static str],
 );
 
-const DRAWN: &[Drawn] = &[
-    (Split, "a,b,c,d", ',', "FBBF", &["a", "d", "c", "b"]),
-    (SplitTerminator, "A..B..", '.', "BBFF", &["", "B", "A", ""]),
-    (Split, "é,ü,", ',', "BFB", &["", "é", "ü"]),
-    (SplitTerminator, "a,b,", ',', "FB", &["a", "b"]),
-    (SplitInclusive, "a,b,", ',', "BB", &["b,", "a,"]),
-    (RSplit, "a,b,c", ',', "FBF", &["c", "a", "b"]),
-    (RSplitTerminator, "a,b,", ',', "FB", &["b", "a"]),
-];
+fn drawn_rows() -> &'static [Drawn] {
+    &[
+        (Split, "a,b,c,d", ',', "FBBF", &["a", "d", "c", "b"]),
+        (SplitTerminator, "A..B..", '.', "BBFF", &["", "B", "A", ""]),
+        (Split, "é,ü,", ',', "BFB", &["", "é", "ü"]),
+        (SplitTerminator, "a,b,", ',', "FB", &["a", "b"]),
+        (SplitInclusive, "a,b,", ',', "BB", &["b,", "a,"]),
+        (RSplit, "a,b,c", ',', "FBF", &["c", "a", "b"]),
+        (RSplitTerminator, "a,b,", ',', "FB", &["b", "a"]),
+    ]
+}
 
 fn from_both_ends<B: Backend>(rt: &impl Abort, alloc: Global) {
-    for (kind, text, pattern, script, want) in DRAWN {
+    for (kind, text, pattern, script, want) in drawn_rows() {
         let source = HipStr::<B>::borrowed(*text);
         assert!(rt;
             walks_by_script(&source, alloc, *kind, *pattern, script, want),
@@ -102,7 +113,8 @@ fn reads_fields<B: Backend>(alloc: Global) -> bool {
 
 #[test]
 fn on_rc(rt: HostRuntime) {
-    by_texts::<Rc>(&rt, rt.alloc());
+    by_texts::<Rc>(&rt, rt.alloc(), by_text_rows());
+    by_texts::<Rc>(&rt, rt.alloc(), by_empty_rows());
     by_characters::<Rc>(&rt, rt.alloc());
     from_both_ends::<Rc>(&rt, rt.alloc());
     assert!(rt; reads_fields::<Rc>(rt.alloc()));
@@ -110,7 +122,8 @@ fn on_rc(rt: HostRuntime) {
 
 #[test]
 fn on_unique(rt: HostRuntime) {
-    by_texts::<Unique>(&rt, rt.alloc());
+    by_texts::<Unique>(&rt, rt.alloc(), by_text_rows());
+    by_texts::<Unique>(&rt, rt.alloc(), by_empty_rows());
     by_characters::<Unique>(&rt, rt.alloc());
     from_both_ends::<Unique>(&rt, rt.alloc());
     assert!(rt; reads_fields::<Unique>(rt.alloc()));

@@ -51,6 +51,10 @@ const ROWS: &[Row] = &[
     ),
 ];
 
+fn place_rows() -> &'static [Row] {
+    ROWS
+}
+
 /// Whether these are the places of the matches, and then there is none.
 fn lists<B: Backend>(
     source: &HipStr<'_, B>,
@@ -106,7 +110,7 @@ pub(crate) fn draws_digits_back<B: Backend, P: OneChar>(alloc: Global, pattern: 
 }
 
 fn on<B: Backend>(rt: &impl Abort, alloc: Global) {
-    for (text, pattern, places, places_back) in ROWS {
+    for (text, pattern, places, places_back) in place_rows() {
         let source = HipStr::<B>::borrowed(*text);
         let is_same = lists(&source, alloc, pattern, *places)
             & lists_back(&source, alloc, pattern, *places_back);
