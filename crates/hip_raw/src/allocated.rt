@@ -10,7 +10,7 @@ use crate::appended::Appended;
 use crate::ascii_case::{make_ascii_lowercase, make_ascii_uppercase};
 use crate::backend::Backend;
 use crate::block::Block;
-use crate::meter::{Meter, copy_with_capacity};
+use crate::meter::Meter;
 use crate::room::{Room, cut, write_range};
 use crate::start::Start;
 use std::alloc::{AllocError, Global};
@@ -107,7 +107,7 @@ impl<B: Backend> Allocated<B> {
         Self::with_room_metered(alloc, bytes, bytes.len(), meter)
     }
 
-    // The same, with room for so many. An owner that can't be shared is made empty and then filled, which copies the bytes once.
+    // The same, with room for so many.
     #[inline]
     fn with_room_metered(
         alloc: Global,
@@ -122,20 +122,12 @@ impl<B: Backend> Allocated<B> {
         ensures counted { RisesAtMost meter.old meter.new
             (times_copied B.SHARES (length bytes.now)) }
     {
-        if B::SHARES {
-            let vec = copy_with_capacity(alloc, bytes, room, meter)?;
-            return match Self::new_metered(alloc, vec, meter) {
-                Ok(made) => Ok(made),
-                Err(_) => Err(AllocError),
-            };
-        }
-        let Ok(mut made) = Self::new_metered(alloc, Vec::with_capacity(alloc, room)?, meter) else {
-            return Err(AllocError);
-        };
-        match made.push_slice_metered(alloc, bytes, meter) {
-            Appended::Done => Ok(made),
-            Appended::Shared | Appended::Memory => Err(AllocError),
-        }
+        let owner = B::copy_of(alloc, bytes, room, meter)?;
+        Ok(Allocated {
+            owner,
+            start: B::Start::of(0),
+            len: bytes.len(),
+        })
     }
 
     /// How many bytes there are.

@@ -3,12 +3,12 @@ ghost use Rattle.std.specs.Prelude.{◌≡◌, ℕ, ◌+◌, ◌*◌, ◌^◌, �
 ghost use Rattle.std.specs.Borrow.{sem, LendsIf};
 ghost use Rattle.hip_raw.specs.Appended.{OnDone, OnShared, OnMemory, OnRefused};
 ghost use Rattle.hip_raw.specs.Held.{OwnAnswers};
-ghost use Rattle.hip_raw.specs.Meter.{RisesAtMost, pot, unless_shared};
+ghost use Rattle.hip_raw.specs.Meter.{RisesAtMost, pot, times_copied, unless_shared};
 ghost use Rattle.hip_raw.specs.Window.{window};
 
 use crate::appended::Appended;
 use crate::block::Block;
-use crate::meter::Meter;
+use crate::meter::{Meter, copy_with_capacity};
 use crate::room::Room;
 use crate::start::Start;
 use std::alloc::{AllocError, Global};
@@ -101,6 +101,27 @@ pub trait Backend: Drop + Sized {
         ensures memory { OnMemory result (SHARES ≡ false → capacity self.old < keep + length addition.now) }
         ensures refused { OnRefused result ((items self.new ≡ items self.old) × (capacity self.new ≡ capacity self.old)) }
         ensures refused_copies_nothing { OnRefused result (meter.new ≡ meter.old) };
+
+    /// An owner of a copy of these bytes, with room for so many.
+    #[inline]
+    fn copy_of(
+        alloc: Global,
+        bytes: &[u8],
+        room: usize,
+        meter: &mut Meter,
+    ) -> Result<Self, AllocError>
+        requires { length bytes.now ≤ room }
+        ensures items { IfOk result (λ made. items made ≡ bytes.now) }
+        ensures room { IfOk result (λ made. room ≤ capacity made) }
+        ensures bound { IfOk result (λ made. length (items made) < 2 ^ 64) }
+        ensures counted { RisesAtMost meter.old meter.new (times_copied SHARES (length bytes.now)) }
+    {
+        let vec = copy_with_capacity(alloc, bytes, room, meter)?;
+        match Self::own(alloc, vec, meter) {
+            Ok(made) => Ok(made),
+            Err(_) => Err(AllocError),
+        }
+    }
 
     /// [`Backend::own`] in a block that an owner left, for which no memory is taken. Where owners have no blocks, it is that call.
     #[inline]

@@ -1,12 +1,21 @@
 //! What is left of an owner without its bytes.
 ghost use Rattle.hip_raw.specs.Block.{IsNoBlock};
 
+use crate::buffer::Buffer;
 use std::rc;
 
 /// The block of an owner whose vector was taken out, or none. An owner that is made in it takes no memory of its own.
 #[derive(Drop)]
 pub struct Block {
-    pub(crate) place: Option<rc::Rc<Vec<u8>>>,
+    pub(crate) left: Left,
+}
+
+// What an owner of either kind leaves.
+#[derive(Drop)]
+pub(crate) enum Left {
+    Nothing,
+    Shared(rc::Rc<Vec<u8>>),
+    Sole(Buffer),
 }
 
 impl Block {
@@ -15,6 +24,8 @@ impl Block {
     pub fn none() -> Self
         ensures { IsNoBlock result }
     {
-        Block { place: None }
+        Block {
+            left: Left::Nothing,
+        }
     }
 }

@@ -3,7 +3,7 @@ ghost use Rattle.std.specs.Prelude.{true, vec_capacity, refl};
 
 use crate::appended::{Appended, append_to};
 use crate::backend::Backend;
-use crate::block::Block;
+use crate::block::{Block, Left};
 use crate::meter::Meter;
 use std::alloc::{AllocError, Global};
 use std::marker::Model;
@@ -104,7 +104,8 @@ impl Backend for Rc {
         vec: Vec<u8>,
         meter: &mut Meter,
     ) -> Result<Self, Vec<u8>> {
-        let Some(mut place) = block.place else {
+        let Block { left } = block;
+        let Left::Shared(mut place) = left else {
             return Self::own(alloc, vec, meter);
         };
         match rc::Rc::get_mut(&mut place) {
@@ -122,7 +123,12 @@ impl Backend for Rc {
         match rc::Rc::get_mut(&mut vec) {
             Some(place) => {
                 let taken = mem::replace(place, Vec::new(alloc));
-                Ok((taken, Block { place: Some(vec) }))
+                Ok((
+                    taken,
+                    Block {
+                        left: Left::Shared(vec),
+                    },
+                ))
             }
             None => Err(Rc { vec }),
         }

@@ -3,8 +3,9 @@ ghost use Rattle.std.specs.Prelude.{false, refl};
 
 use crate::appended::Appended;
 use crate::backend::Backend;
+use crate::block::{Block, Left};
 use crate::buffer::Buffer;
-use crate::meter::{Meter, copy_counted};
+use crate::meter::{Meter, copy_with_capacity};
 use crate::start::Front;
 use std::alloc::{AllocError, Global};
 use std::marker::Model;
@@ -51,7 +52,8 @@ impl Backend for Unique {
 
     #[inline]
     fn try_into_vec(self, alloc: Global, meter: &mut Meter) -> Result<Vec<u8>, Self> {
-        match copy_counted(alloc, self.buffer.as_slice(), meter) {
+        let capacity = self.buffer.capacity();
+        match copy_with_capacity(alloc, self.buffer.as_slice(), capacity, meter) {
             Ok(vec) => Ok(vec),
             Err(AllocError) => Err(self),
         }
@@ -96,6 +98,53 @@ impl Backend for Unique {
         meter: &mut Meter,
     ) -> Appended {
         self.buffer.append(alloc, keep, addition, meter)
+    }
+
+    #[inline]
+    fn copy_of(
+        alloc: Global,
+        bytes: &[u8],
+        room: usize,
+        meter: &mut Meter,
+    ) -> Result<Self, AllocError> {
+        let mut buffer = Buffer::with_capacity(alloc, room)?;
+        buffer.put(0, bytes, meter);
+        Ok(Unique { buffer })
+    }
+
+    #[inline]
+    fn own_in(
+        alloc: Global,
+        block: Block,
+        vec: Vec<u8>,
+        meter: &mut Meter,
+    ) -> Result<Self, Vec<u8>> {
+        let Block { left } = block;
+        let Left::Sole(mut buffer) = left else {
+            return Self::own(alloc, vec, meter);
+        };
+        if buffer.capacity() < vec.capacity() {
+            return Self::own(alloc, vec, meter);
+        }
+        buffer.put(0, vec.as_slice(), meter);
+        Ok(Unique { buffer })
+    }
+
+    #[inline]
+    fn try_take_vec(self, alloc: Global, meter: &mut Meter) -> Result<(Vec<u8>, Block), Self> {
+        let capacity = self.buffer.capacity();
+        match copy_with_capacity(alloc, self.buffer.as_slice(), capacity, meter) {
+            Ok(vec) => {
+                let Unique { buffer } = self;
+                Ok((
+                    vec,
+                    Block {
+                        left: Left::Sole(buffer),
+                    },
+                ))
+            }
+            Err(AllocError) => Err(self),
+        }
     }
 
     ghost sole_items = { λ owner sole. refl };
