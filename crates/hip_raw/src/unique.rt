@@ -120,14 +120,14 @@ impl Backend for Unique {
         meter: &mut Meter,
     ) -> Result<Self, Vec<u8>> {
         let Block { left } = block;
-        let Left::Sole(mut buffer) = left else {
+        let Left::Sole(mut emptied) = left else {
             return Self::own(alloc, vec, meter);
         };
-        if buffer.capacity() < vec.capacity() {
+        if emptied.capacity() < vec.capacity() {
             return Self::own(alloc, vec, meter);
         }
-        buffer.put(0, vec.as_slice(), meter);
-        Ok(Unique { buffer })
+        emptied.put(0, vec.as_slice(), meter);
+        Ok(Unique { buffer: emptied })
     }
 
     #[inline]
