@@ -1,10 +1,13 @@
 //! Comparisons of bytes, many at a time.
 //!
 //! Up to 128 bytes two blocks of the same width cover both byte strings, the second ending where they end; beyond that blocks of 128 and
-//! of 64 are taken one after another.
-ghost use Rattle.std.specs.Prelude.{◌≡◌, ◌↔◌, ◌+◌, ◌*◌, ◌<◌, ◌≤◌, nat_eq, length, IsTrue, min};
+//! of 64 are taken one after another. An order first compares up to 16 bytes as numbers; that part (`read_short`, `read_u64_be`,
+//! `read_u32_be`, `order_unequal`) is adapted from the kit's core, `src/cmp/bytes.rt`, with its proofs.
+ghost use Rattle.std.specs.Prelude.{◌≡◌, ◌≢◌, ◌↔◌, ◌+◌, ◌*◌, ◌<◌, ◌≤◌, nat_eq, length, IsTrue, min};
 ghost use Rattle.std.specs.Cmp.Lexicographic.{pointwise, slice_cmp};
 ghost use Rattle.std.specs.Ordering.{nat_cmp};
+ghost use Rattle.std.specs.Simd.Lanes.{chunk};
+ghost use Rattle.std.specs.Slice.Scan.{big_endian, Settles};
 ghost use Rattle.hip_raw.specs.Alike.{Alike, IsAlikeRun};
 
 use std::cmp::Ordering;
@@ -98,20 +101,6 @@ fn alike_by_ends<const N: usize>(a: &[u8], b: &[u8], n: usize) -> usize
     n
 }
 
-// The same, byte by byte.
-#[inline(always)]
-fn alike_by_one(a: &[u8], b: &[u8], n: usize) -> usize
-    requires { (n ≤ length a.now) × (n ≤ length b.now) }
-    ensures { IsAlikeRun a.now b.now 0 n result }
-{
-    for k in 0..n {
-        if a[k] != b[k] {
-            return k;
-        }
-    }
-    n
-}
-
 // The same, block by block, where there are at least 64 bytes.
 #[inline(always)]
 fn alike_by_blocks(a: &[u8], b: &[u8], n: usize) -> usize
@@ -123,6 +112,9 @@ fn alike_by_blocks(a: &[u8], b: &[u8], n: usize) -> usize
     while 128 <= n - at && (alike_at::<64>(a, b, at) & alike_at::<64>(a, b, at + 64)) {
         at += 128;
     }
+    if at == n {
+        return n;
+    }
     let last = n - 64;
     while at < last {
         if !alike_at::<64>(a, b, at) {
@@ -133,18 +125,16 @@ fn alike_by_blocks(a: &[u8], b: &[u8], n: usize) -> usize
     last + alike_run::<64>(a, b, last)
 }
 
-// How many of the first `n` bytes are the same, up to 128.
+// How many of the first `n` bytes are the same, from 16 to 128.
 #[inline(always)]
 fn alike(a: &[u8], b: &[u8], n: usize) -> usize
-    requires { (n ≤ length a.now) × (n ≤ length b.now) × (n ≤ 128) }
+    requires within { (n ≤ length a.now) × (n ≤ length b.now) }
+    requires covered { (16 ≤ n) × (n ≤ 128) }
     ensures { IsAlikeRun a.now b.now 0 n result }
 {
     match n {
-        0..=3 => alike_by_one(a, b, n),
-        4..=7 => alike_by_ends::<4>(a, b, n),
-        8..=15 => alike_by_ends::<8>(a, b, n),
-        16..=31 => alike_by_ends::<16>(a, b, n),
-        32..=64 => alike_by_ends::<32>(a, b, n),
+        0..=32 => alike_by_ends::<16>(a, b, n),
+        33..=64 => alike_by_ends::<32>(a, b, n),
         _ => alike_by_ends::<64>(a, b, n),
     }
 }
@@ -162,14 +152,92 @@ fn order_at(a: &[u8], b: &[u8], both: usize, at: usize) -> Ordering
     a.len().cmp(&b.len())
 }
 
-// The order of many bytes. It isn't inlined, as above.
+// The order of more than 16 bytes. It isn't inlined, so that short ones are compared with no register saved.
 #[inline(never)]
 fn order_by_blocks(a: &[u8], b: &[u8], both: usize) -> Ordering
     requires shorter { both ≡ min (length a.now) (length b.now) }
-    requires covered { 64 ≤ both }
+    requires covered { 16 ≤ both }
     ensures { result ≡ slice_cmp nat_cmp a.now b.now }
 {
-    order_at(a, b, both, alike_by_blocks(a, b, both))
+    if both > 128 {
+        return order_at(a, b, both, alike_by_blocks(a, b, both));
+    }
+    order_at(a, b, both, alike(a, b, both))
+}
+
+// The number that eight bytes spell, the greatest first.
+#[inline(always)]
+fn read_u64_be(bytes: &[u8], i: usize) -> u64
+    requires { i + 8 ≤ length bytes.now }
+    ensures { result ≡ big_endian 0 (chunk i 8 bytes.now) }
+{
+    u64::from_be_bytes([
+        bytes[i],
+        bytes[i + 1],
+        bytes[i + 2],
+        bytes[i + 3],
+        bytes[i + 4],
+        bytes[i + 5],
+        bytes[i + 6],
+        bytes[i + 7],
+    ])
+}
+
+// The number that four bytes spell.
+#[inline(always)]
+fn read_u32_be(bytes: &[u8], i: usize) -> u64
+    requires { i + 4 ≤ length bytes.now }
+    ensures value { result ≡ big_endian 0 (chunk i 4 bytes.now) }
+    ensures bound { result < 0x1_0000_0000 }
+{
+    u64::from(u32::from_be_bytes([bytes[i], bytes[i + 1], bytes[i + 2], bytes[i + 3]]))
+}
+
+// Up to seven bytes of each as a number. Bytes that are read twice change no order.
+#[inline(always)]
+fn read_short(a: &[u8], b: &[u8], n: usize) -> (u64, u64)
+    requires short { n < 8 }
+    requires within { (n ≤ length a.now) × (n ≤ length b.now) }
+    ensures { Settles a.now b.now n result.0 result.1 }
+{
+    if 4 <= n {
+        let x = read_u32_be(a, 0) * 0x1_0000_0000 + read_u32_be(a, n - 4);
+        let y = read_u32_be(b, 0) * 0x1_0000_0000 + read_u32_be(b, n - 4);
+        return (x, y);
+    }
+    if n == 0 {
+        return (0, 0);
+    }
+    let x = (u64::from(a[0]) * 0x100 + u64::from(a[n / 2])) * 0x100 + u64::from(a[n - 1]);
+    let y = (u64::from(b[0]) * 0x100 + u64::from(b[n / 2])) * 0x100 + u64::from(b[n - 1]);
+    (x, y)
+}
+
+// How two numbers that differ stand to each other.
+#[inline(always)]
+fn order_unequal(x: u64, y: u64) -> Ordering
+    requires { x ≢ y }
+    ensures { result ≡ nat_cmp x y }
+{
+    if x < y {
+        Ordering::Less
+    } else {
+        Ordering::Greater
+    }
+}
+
+// The order where up to seven bytes are in both.
+#[inline(always)]
+fn order_short(a: &[u8], b: &[u8], both: usize) -> Ordering
+    requires shorter { both ≡ min (length a.now) (length b.now) }
+    requires short { both < 8 }
+    ensures { result ≡ slice_cmp nat_cmp a.now b.now }
+{
+    let (x, y) = read_short(a, b, both);
+    if x != y {
+        return order_unequal(x, y);
+    }
+    a.len().cmp(&b.len())
 }
 
 /// How the bytes stand to each other, in the order of their numbers.
@@ -178,8 +246,19 @@ pub fn order(a: &[u8], b: &[u8]) -> Ordering
     ensures { result ≡ slice_cmp nat_cmp a.now b.now }
 {
     let both = a.len().min(b.len());
-    if both > 128 {
+    if both < 8 {
+        return order_short(a, b, both);
+    }
+    let (x, y) = (read_u64_be(a, 0), read_u64_be(b, 0));
+    if x != y {
+        return order_unequal(x, y);
+    }
+    if both > 16 {
         return order_by_blocks(a, b, both);
     }
-    order_at(a, b, both, alike(a, b, both))
+    let (z, w) = (read_u64_be(a, both - 8), read_u64_be(b, both - 8));
+    if z != w {
+        return order_unequal(z, w);
+    }
+    a.len().cmp(&b.len())
 }
