@@ -19,3 +19,9 @@ bench:
 walks:
 	@cd crates/hip_walks && rt lib
 	@bench/walks.sh
+
+# Runs the program over a random script under valgrind, on both backends.
+.PHONY: leaks
+leaks:
+	@cd crates/hip_play && rt run < /dev/null > /dev/null
+	@bench/leaks.sh

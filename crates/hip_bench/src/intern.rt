@@ -5,27 +5,34 @@ use hipstr::string::{HipStr, IterWrapper, Pieces, TextCuts, Unnumbered, Walk};
 use hipstr::{Backend, Rc};
 use std::alloc::Global;
 use std::collections::{BTreeMap, HashMap};
+use std::hash::Hash;
 
-/// Numbers the words of a walk by a map: the sum of all words' numbers, and how many different words there are.
-macro_rules! numbered {
-    ($numbers:ident, $words:ident) => {{
-        let (mut sum, mut next) = (0u64, 0u64);
-        while let Some(word) = $words.next() {
-            let word = word.ok()?;
-            match $numbers.get(&word) {
-                Some(number) => sum = sum.wrapping_add(*number),
-                None => {
-                    sum = sum.wrapping_add(next);
-                    $numbers.insert(word, next).ok()?;
-                    next = next.wrapping_add(1);
-                }
-            }
-        }
-        Some((sum, $numbers.len() as u64))
-    }};
+// What a text promises of its hash and its order is much to prove with, so a map is asked where nothing is known of its keys but that they
+// have them.
+
+/// The number under which a key stands in a hash map, where it is put if it isn't there.
+#[inline]
+fn number_by_hash<K: Hash + Eq + Drop>(numbers: &mut HashMap<K, u64>, key: K) -> Option<u64> {
+    if let Some(number) = numbers.get(&key) {
+        return Some(*number);
+    }
+    let next = numbers.len() as u64;
+    numbers.insert(key, next).ok()?;
+    Some(next)
 }
 
-/// By a hash map.
+/// The same by an ordered map.
+#[inline]
+fn number_by_order<K: Ord + Drop>(numbers: &mut BTreeMap<K, u64>, key: K) -> Option<u64> {
+    if let Some(number) = numbers.get(&key) {
+        return Some(*number);
+    }
+    let next = numbers.len() as u64;
+    numbers.insert(key, next).ok()?;
+    Some(next)
+}
+
+/// Numbers the words of a walk by a hash map: the sum of all words' numbers, and how many different words there are.
 fn hashed<'h, 'b, B: Backend, I: Unnumbered + Drop>(
     alloc: Global,
     mut words: IterWrapper<'h, 'b, B, I>,
@@ -33,10 +40,14 @@ fn hashed<'h, 'b, B: Backend, I: Unnumbered + Drop>(
     requires { ⟦<Pieces<'h, HipStr<'b, B>, I> as Walk>⟧.ready words }
 {
     let mut numbers = HashMap::new(alloc);
-    numbered!(numbers, words)
+    let mut sum = 0u64;
+    while let Some(word) = words.next() {
+        sum = sum.wrapping_add(number_by_hash(&mut numbers, word.ok()?)?);
+    }
+    Some((sum, numbers.len() as u64))
 }
 
-/// By an ordered map.
+/// The same by an ordered map.
 fn sorted<'h, 'b, B: Backend, I: Unnumbered + Drop>(
     alloc: Global,
     mut words: IterWrapper<'h, 'b, B, I>,
@@ -44,7 +55,11 @@ fn sorted<'h, 'b, B: Backend, I: Unnumbered + Drop>(
     requires { ⟦<Pieces<'h, HipStr<'b, B>, I> as Walk>⟧.ready words }
 {
     let mut numbers = BTreeMap::new(alloc);
-    numbered!(numbers, words)
+    let mut sum = 0u64;
+    while let Some(word) = words.next() {
+        sum = sum.wrapping_add(number_by_order(&mut numbers, word.ok()?)?);
+    }
+    Some((sum, numbers.len() as u64))
 }
 
 /// Each round numbers the words by a hash map.
