@@ -7,7 +7,6 @@ use hipstr::{
 use std::alloc::Global;
 use std::ops::Bound;
 use std::process::Abort;
-use std::test::Fail;
 
 /// A command, and what it answers.
 type Row = (Command<'static>, Answer);
@@ -224,6 +223,14 @@ fn pieces() -> Session {
 
 const TURNS: &[End] = &[End::Front, End::Back, End::Back, End::Front, End::Front];
 
+/// The value, or the end of the test where it was refused. A test with no way out but this is a straight line, and cheap to prove.
+pub(crate) fn must<T, E: Drop>(rt: &impl Abort, outcome: Result<T, E>) -> T {
+    match outcome {
+        Ok(value) => value,
+        Err(_) => panic!(rt; "it was refused"),
+    }
+}
+
 /// Runs the commands of the rows, and compares their answers.
 fn answers<'b, B: Backend>(
     rt: &impl Abort,
@@ -231,36 +238,34 @@ fn answers<'b, B: Backend>(
     pool: &mut Pool<'b, B>,
     rows: &[(Command<'b>, Answer)],
     meter: &mut Meter,
-) -> Result<(), Fail> {
+) {
     let mut commands = Vec::new(alloc);
     let mut wanted = Vec::new(alloc);
     for (command, answer) in rows {
-        commands.push(*command)?;
-        wanted.push(*answer)?;
+        must(rt, commands.push(*command));
+        must(rt, wanted.push(*answer));
     }
-    let answers = run(alloc, pool, commands.as_slice(), meter)?;
+    let answers = must(rt, run(alloc, pool, commands.as_slice(), meter));
     assert_eq!(rt; answers.as_slice(), wanted.as_slice());
-    Ok(())
 }
 
-fn plays<B: Backend>(rt: &impl Abort, alloc: Global, session: Session) -> Result<(), Fail> {
+fn plays<B: Backend>(rt: &impl Abort, alloc: Global, session: Session) {
     assert!(rt; session.slots <= 8);
-    let mut pool = Pool::<B>::new(alloc, session.slots)?;
-    answers(rt, alloc, &mut pool, session.rows, &mut Meter::new())?;
+    let mut pool = must(rt, Pool::<B>::new(alloc, session.slots));
+    answers(rt, alloc, &mut pool, session.rows, &mut Meter::new());
     for (i, bytes, is_lent) in session.left {
-        let slot = pool.slot(*i).ok_or("no slot")?;
+        let slot = must(rt, pool.slot(*i).ok_or("no slot"));
         assert_eq!(rt;
             (slot.as_bytes(), slot.kind() == Kind::Borrowed),
             (*bytes, *is_lent),
             "in slot {i}"
         );
     }
-    Ok(())
 }
 
 /// A slice of 23 bytes copies them; one of 24, and a clone, copy none where owners are shared.
-fn costs<B: Backend>(rt: &impl Abort, alloc: Global) -> Result<(), Fail> {
-    let mut pool = Pool::<B>::new(alloc, 3)?;
+fn costs<B: Backend>(rt: &impl Abort, alloc: Global) {
+    let mut pool = must(rt, Pool::<B>::new(alloc, 3));
     let mut meter = Meter::new();
     let rows: [Row; 4] = [
         (
@@ -277,21 +282,19 @@ fn costs<B: Backend>(rt: &impl Abort, alloc: Global) -> Result<(), Fail> {
         ),
         (Command::Clone(0, 2), Answer::Done),
     ];
-    answers(rt, alloc, &mut pool, &rows, &mut meter)?;
+    answers(rt, alloc, &mut pool, &rows, &mut meter);
     assert_eq!(rt; meter.copied(), if B::SHARES { 49 } else { 99 });
-    Ok(())
 }
 
 /// While a clone lives, the two share one vector, which neither hands out.
-fn shares_its_vector(rt: &impl Abort, alloc: Global) -> Result<(), Fail> {
+fn shares_its_vector(rt: &impl Abort, alloc: Global) {
     let letters: &[u8] = b"abcdefghijklmnopqrstuvwxyz";
-    let handle = LocalHipByt::from_slice(alloc, letters)?;
-    let clone = handle.clone(alloc)?;
-    let handle = handle.into_vec(alloc).err().ok_or("a clone lives")?;
+    let handle = must(rt, LocalHipByt::from_slice(alloc, letters));
+    let clone = must(rt, handle.clone(alloc));
+    let handle = must(rt, handle.into_vec(alloc).err().ok_or("a clone lives"));
     drop(clone);
-    let vec = handle.into_vec(alloc).or(Err("the only handle"))?;
+    let vec = must(rt, handle.into_vec(alloc).or(Err("the only handle")));
     assert_eq!(rt; vec.as_slice(), letters);
-    Ok(())
 }
 
 /// 60 bytes that were pushed into room for 200, and one of which was written over.
@@ -315,47 +318,48 @@ fn shrunk() -> &'static [Row] {
     SHRUNK
 }
 
-fn capacity_of<B: Backend>(alloc: Global, pool: &mut Pool<B>) -> Result<usize, Fail> {
-    let answers = run(alloc, pool, &[Command::Capacity(0)], &mut Meter::new())?;
+fn capacity_of<B: Backend>(rt: &impl Abort, alloc: Global, pool: &mut Pool<B>) -> usize {
+    let answers = must(
+        rt,
+        run(alloc, pool, &[Command::Capacity(0)], &mut Meter::new()),
+    );
     let [Answer::Number(capacity)] = answers.as_slice() else {
-        return Err(Fail::from("a number"));
+        panic!(rt; "no number");
     };
-    Ok(*capacity)
+    *capacity
 }
 
 /// A sole owner is written in place, and gives its room back. One that never wrote in place would copy what stands there at the
 /// second push and at the byte that is set.
-fn in_place<B: Backend>(rt: &impl Abort, alloc: Global) -> Result<(), Fail> {
-    let mut pool = Pool::<B>::new(alloc, 1)?;
+fn in_place<B: Backend>(rt: &impl Abort, alloc: Global) {
+    let mut pool = must(rt, Pool::<B>::new(alloc, 1));
     let mut meter = Meter::new();
-    answers(rt, alloc, &mut pool, pushed(), &mut meter)?;
+    answers(rt, alloc, &mut pool, pushed(), &mut meter);
     assert_eq!(rt; meter.copied(), 60);
-    answers(rt, alloc, &mut pool, shrunk(), &mut meter)?;
-    assert!(rt; capacity_of(alloc, &mut pool)? < 200);
-    Ok(())
+    answers(rt, alloc, &mut pool, shrunk(), &mut meter);
+    assert!(rt; capacity_of(rt, alloc, &mut pool) < 200);
 }
 
-fn pools<B: Backend>(rt: &impl Abort, alloc: Global) -> Result<(), Fail> {
-    let mut pool = Pool::<B>::new(alloc, 3)?;
+fn pools<B: Backend>(rt: &impl Abort, alloc: Global) {
+    let mut pool = must(rt, Pool::<B>::new(alloc, 3));
     assert_eq!(rt;
         (pool.len(), pool.is_empty(), pool.slot(3).is_none()),
         (3, false, true)
     );
-    assert!(rt; run(alloc, &mut pool, &[], &mut Meter::new())?.is_empty());
-    assert!(rt; Pool::<B>::new(alloc, 0)?.is_empty());
-    Ok(())
+    assert!(rt; must(rt, run(alloc, &mut pool, &[], &mut Meter::new())).is_empty());
+    assert!(rt; must(rt, Pool::<B>::new(alloc, 0)).is_empty());
 }
 
 /// All of it, on a backend.
-pub(crate) fn on<B: Backend>(rt: &impl Abort, alloc: Global) -> Result<(), Fail> {
-    pools::<B>(rt, alloc)?;
-    plays::<B>(rt, alloc, cuts())?;
-    plays::<B>(rt, alloc, writes())?;
-    plays::<B>(rt, alloc, texts())?;
-    plays::<B>(rt, alloc, pieces())?;
-    takes_all_apart::<B>(rt, alloc)?;
-    costs::<B>(rt, alloc)?;
-    in_place::<B>(rt, alloc)
+pub(crate) fn on<B: Backend>(rt: &impl Abort, alloc: Global) {
+    pools::<B>(rt, alloc);
+    plays::<B>(rt, alloc, cuts());
+    plays::<B>(rt, alloc, writes());
+    plays::<B>(rt, alloc, texts());
+    plays::<B>(rt, alloc, pieces());
+    takes_all_apart::<B>(rt, alloc);
+    costs::<B>(rt, alloc);
+    in_place::<B>(rt, alloc);
 }
 
 /// A push on a slice that outlives its source: what follows the slice in the owner is cut off.
@@ -407,30 +411,30 @@ fn borrowed_pieces() -> Session {
 
 /// A machine that refuses whatever may be refused for memory is proved, and fails here.
 #[test]
-fn everything_refused(rt: HostRuntime) -> Result<(), Fail> {
-    plays::<Rc>(&rt, rt.alloc(), pushed_slice())?;
-    plays::<Unique>(&rt, rt.alloc(), pushed_slice())?;
-    plays::<Rc>(&rt, rt.alloc(), borrowed_pieces())?;
-    plays::<Unique>(&rt, rt.alloc(), borrowed_pieces())
+fn everything_refused(rt: HostRuntime) {
+    plays::<Rc>(&rt, rt.alloc(), pushed_slice());
+    plays::<Unique>(&rt, rt.alloc(), pushed_slice());
+    plays::<Rc>(&rt, rt.alloc(), borrowed_pieces());
+    plays::<Unique>(&rt, rt.alloc(), borrowed_pieces());
 }
 
 #[test]
-fn runs_on_either_backend(rt: HostRuntime) -> Result<(), Fail> {
-    on::<Rc>(&rt, rt.alloc())?;
-    on::<Unique>(&rt, rt.alloc())
+fn runs_on_either_backend(rt: HostRuntime) {
+    on::<Rc>(&rt, rt.alloc());
+    on::<Unique>(&rt, rt.alloc());
 }
 
 /// A body that copies past the counter, or keeps a vector for each handle, is proved, and fails here.
 #[test]
-fn copies_past_counter(rt: HostRuntime) -> Result<(), Fail> {
-    costs::<Rc>(&rt, rt.alloc())?;
-    costs::<Unique>(&rt, rt.alloc())?;
-    shares_its_vector(&rt, rt.alloc())
+fn copies_past_counter(rt: HostRuntime) {
+    costs::<Rc>(&rt, rt.alloc());
+    costs::<Unique>(&rt, rt.alloc());
+    shares_its_vector(&rt, rt.alloc());
 }
 
 /// A backend that never writes in place is proved: no contract counts owners.
 #[test]
-fn rc_never_in_place(rt: HostRuntime) -> Result<(), Fail> {
-    in_place::<Rc>(&rt, rt.alloc())?;
-    in_place::<Unique>(&rt, rt.alloc())
+fn rc_never_in_place(rt: HostRuntime) {
+    in_place::<Rc>(&rt, rt.alloc());
+    in_place::<Unique>(&rt, rt.alloc());
 }

@@ -1,8 +1,8 @@
 //! Each way to take a text apart, by every script of up to six ends.
+use crate::sessions::must;
 use hipstr::{Answer, Backend, Command, End, How, Kind, Meter, Pat, Pool, Reason, Slot, run};
 use std::alloc::Global;
 use std::process::Abort;
-use std::test::Fail;
 
 /// A way, whether its pieces come from both ends, and all of them in the order of the front, which are those of Rust's `str`.
 type Way = (How<'static>, bool, &'static [&'static str]);
@@ -129,20 +129,21 @@ fn holds<B: Backend>(slot: Option<&Slot<'_, B>>, piece: Option<&str>) -> bool {
 
 /// Whether a text is taken apart by a script as it should be, with nothing copied.
 fn takes_apart<'s, B: Backend>(
+    rt: &impl Abort,
     alloc: Global,
     text: &'s str,
     way: Way,
     script: &'s [End],
-) -> Result<bool, Fail> {
+) -> bool {
     let (how, has_both_ends, pieces) = way;
-    let mut pool = Pool::<B>::new(alloc, 7)?;
+    let mut pool = must(rt, Pool::<B>::new(alloc, 7));
     let commands = [
         Command::Borrow(0, text.as_bytes()),
         Command::Text(0),
         Command::Pieces(0, how, script, 1),
     ];
     let mut meter = Meter::new();
-    let answers = run(alloc, &mut pool, &commands, &mut meter)?;
+    let answers = must(rt, run(alloc, &mut pool, &commands, &mut meter));
     let is_refused = !has_both_ends && script.contains(&End::Back);
     let wanted = if is_refused {
         Answer::Refused(Reason::OneEnd)
@@ -168,7 +169,7 @@ fn takes_apart<'s, B: Backend>(
         }
         is_so = is_so && holds(pool.slot(i + 1), pieces.get(at).copied());
     }
-    Ok(is_so)
+    is_so
 }
 
 /// Six ends, which are the digits of a number.
@@ -185,30 +186,23 @@ fn ends_of(number: u8) -> [End; 6] {
 }
 
 /// Each of these ways, by each beginning of a script.
-fn takes_each_apart<B: Backend>(
-    rt: &impl Abort,
-    alloc: Global,
-    taken: Taken,
-    script: &[End; 6],
-) -> Result<(), Fail> {
+fn takes_each_apart<B: Backend>(rt: &impl Abort, alloc: Global, taken: Taken, script: &[End; 6]) {
     let (text, ways) = taken;
     for (i, way) in ways.iter().enumerate() {
         for count in 0..7 {
             assert!(rt;
-                takes_apart::<B>(alloc, text, *way, &script[..count])?,
+                takes_apart::<B>(rt, alloc, text, *way, &script[..count]),
                 "{text}, way {i}, {script:?}"
             );
         }
     }
-    Ok(())
 }
 
 /// Each way, by every script of up to six ends: the ends of a script of six are the digits of a number, and its beginnings are the others.
-pub(crate) fn takes_all_apart<B: Backend>(rt: &impl Abort, alloc: Global) -> Result<(), Fail> {
+pub(crate) fn takes_all_apart<B: Backend>(rt: &impl Abort, alloc: Global) {
     for number in 0..64 {
         for i in 0..PARTS {
-            takes_each_apart::<B>(rt, alloc, part(i), &ends_of(number))?;
+            takes_each_apart::<B>(rt, alloc, part(i), &ends_of(number));
         }
     }
-    Ok(())
 }

@@ -1,9 +1,9 @@
 //! Forms that are written and read, cut short, or that lie about their length.
+use crate::support::must;
 use hip_bytes::{BorshFault, FromRead, HipByt, Kind, SliceSource, ToWrite, VecSink};
 use hip_text::{Backend, HipStr, Rc, Unique};
 use std::alloc::Global;
 use std::process::Abort;
-use std::test::Fail;
 
 /// A text and its form, after the specification of Borsh: the length as four bytes, the least first, and then the bytes. That of `123` is in
 /// hipstr's own tests, which compare it with the crate borsh.
@@ -67,47 +67,44 @@ fn written_on_either(rt: HostRuntime) {
 }
 
 /// A form is read as bytes, from a slice with more behind it, which is left.
-fn is_read<B: Backend>(rt: &impl Abort, alloc: Global, row: Form) -> Result<(), Fail> {
+fn is_read<B: Backend>(rt: &impl Abort, alloc: Global, row: Form) {
     let (text, form, kind) = row;
-    let mut bytes = Vec::from_slice(alloc, form)?;
-    bytes.push(b'z')?;
+    let mut bytes = must(rt, Vec::from_slice(alloc, form));
+    must(rt, bytes.push(b'z'));
     let mut source = SliceSource::new(bytes.as_slice());
-    let read = HipByt::<B>::deserialize_reader(alloc, &mut source).or(Err("not read"))?;
+    let read = must(rt, HipByt::<B>::deserialize_reader(alloc, &mut source));
     let is_left = source.rest() == b"z".as_slice();
     assert_eq!(rt;
         (read.eq_slice(text.as_bytes()), read.kind(), is_left),
         (true, kind, true)
     );
-    Ok(())
 }
 
-fn read<B: Backend>(rt: &impl Abort, alloc: Global) -> Result<(), Fail> {
+fn read<B: Backend>(rt: &impl Abort, alloc: Global) {
     for row in forms() {
-        is_read::<B>(rt, alloc, *row)?;
+        is_read::<B>(rt, alloc, *row);
     }
-    Ok(())
 }
 
 #[test]
-fn read_on_either(rt: HostRuntime) -> Result<(), Fail> {
-    read::<Rc>(&rt, rt.alloc())?;
-    read::<Unique>(&rt, rt.alloc())
+fn read_on_either(rt: HostRuntime) {
+    read::<Rc>(&rt, rt.alloc());
+    read::<Unique>(&rt, rt.alloc());
 }
 
 /// The same as texts, through a reader of the standard library.
-fn texts<B: Backend>(rt: &impl Abort, alloc: Global) -> Result<(), Fail> {
+fn texts<B: Backend>(rt: &impl Abort, alloc: Global) {
     for (text, form, kind) in forms() {
         let mut source = FromRead::new(*form);
-        let read = HipStr::<B>::deserialize_reader(alloc, &mut source).or(Err("not read"))?;
+        let read = must(rt, HipStr::<B>::deserialize_reader(alloc, &mut source));
         assert_eq!(rt; (read.as_str(), read.kind()), (*text, *kind));
     }
-    Ok(())
 }
 
 #[test]
-fn texts_on_either(rt: HostRuntime) -> Result<(), Fail> {
-    texts::<Rc>(&rt, rt.alloc())?;
-    texts::<Unique>(&rt, rt.alloc())
+fn texts_on_either(rt: HostRuntime) {
+    texts::<Rc>(&rt, rt.alloc());
+    texts::<Unique>(&rt, rt.alloc());
 }
 
 /// What is answered, and how many bytes are left.
@@ -171,20 +168,25 @@ fn hostile(rt: HostRuntime) {
 }
 
 /// The forms of a byte string and of a text, one behind the other.
-fn two_forms(alloc: Global) -> Option<Vec<u8>> {
+fn two_forms(rt: &impl Abort, alloc: Global) -> Vec<u8> {
     let mut sink = VecSink::new(alloc);
-    HipByt::<Rc>::borrowed(b"\xFF").serialize(&mut sink).ok()?;
-    HipStr::<Rc>::borrowed("é").serialize(&mut sink).ok()?;
-    Some(sink.into_vec())
+    must(rt, HipByt::<Rc>::borrowed(b"\xFF").serialize(&mut sink));
+    must(rt, HipStr::<Rc>::borrowed("é").serialize(&mut sink));
+    sink.into_vec()
 }
 
 /// Two values in one sink are read in their order.
 #[test]
-fn one_behind_another(rt: HostRuntime) -> Result<(), Fail> {
-    let forms = two_forms(rt.alloc()).ok_or("not written")?;
+fn one_behind_another(rt: HostRuntime) {
+    let forms = two_forms(&rt, rt.alloc());
     let mut source = SliceSource::new(forms.as_slice());
-    let first = HipByt::<Rc>::deserialize_reader(rt.alloc(), &mut source).or(Err("no first"))?;
-    let second = HipStr::<Rc>::deserialize_reader(rt.alloc(), &mut source).or(Err("no second"))?;
+    let first = must(
+        &rt,
+        HipByt::<Rc>::deserialize_reader(rt.alloc(), &mut source),
+    );
+    let second = must(
+        &rt,
+        HipStr::<Rc>::deserialize_reader(rt.alloc(), &mut source),
+    );
     assert_eq!(&rt; (first.as_slice(), second.as_str()), (&b"\xFF"[..], "é"));
-    Ok(())
 }

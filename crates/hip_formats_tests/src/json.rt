@@ -1,17 +1,17 @@
 //! Values that are made, read and refused.
+use crate::support::must;
 use hip_bytes::{HipByt, JsonFault, Kind};
 use hip_names::{HipOsStr, HipPath};
 use hip_text::{Backend, HipStr, Rc, Unique};
 use serde_json::Value;
 use std::alloc::Global;
 use std::process::Abort;
-use std::test::Fail;
 
 const LETTERS: &str = "abcdefghijklmnopqrstuvwxyz";
 
 /// A JSON text as a value.
-fn value(alloc: Global, text: &str) -> Result<Value, Fail> {
-    Ok(Value::from_str(alloc, text).or(Err("no JSON"))?)
+fn value(rt: &impl Abort, alloc: Global, text: &str) -> Value {
+    must(rt, Value::from_str(alloc, text))
 }
 
 /// Bytes, and the texts of their values as a byte string and as an OS string.
@@ -25,24 +25,27 @@ fn made_values() -> &'static [(&'static [u8], &'static str, &'static str)] {
 }
 
 /// The text of a value.
-fn shown(alloc: Global, value: Value) -> Result<String, Fail> {
-    Ok(value.to_string(alloc)?)
+fn shown(rt: &impl Abort, alloc: Global, value: Value) -> String {
+    must(rt, value.to_string(alloc))
 }
 
-fn made<B: Backend>(rt: &impl Abort, alloc: Global) -> Result<(), Fail> {
+fn made<B: Backend>(rt: &impl Abort, alloc: Global) {
     for (bytes, array, object) in made_values() {
-        let array_of = shown(alloc, HipByt::<B>::borrowed(bytes).to_json(alloc)?)?;
+        let array_of = shown(
+            rt,
+            alloc,
+            must(rt, HipByt::<B>::borrowed(bytes).to_json(alloc)),
+        );
         let name = HipOsStr::from(HipByt::<B>::borrowed(bytes));
-        let object_of = shown(alloc, name.to_json(alloc)?)?;
+        let object_of = shown(rt, alloc, must(rt, name.to_json(alloc)));
         assert_eq!(rt; (array_of.as_str(), object_of.as_str()), (*array, *object));
     }
-    Ok(())
 }
 
 #[test]
-fn made_on_either(rt: HostRuntime) -> Result<(), Fail> {
-    made::<Rc>(&rt, rt.alloc())?;
-    made::<Unique>(&rt, rt.alloc())
+fn made_on_either(rt: HostRuntime) {
+    made::<Rc>(&rt, rt.alloc());
+    made::<Unique>(&rt, rt.alloc());
 }
 
 /// Texts, and the texts of their values.
@@ -55,43 +58,43 @@ fn strings() -> &'static [(&'static str, &'static str, Kind)] {
     ]
 }
 
-fn texts<B: Backend>(rt: &impl Abort, alloc: Global) -> Result<(), Fail> {
+fn texts<B: Backend>(rt: &impl Abort, alloc: Global) {
     for (text, json, kind) in strings() {
-        let read = HipStr::<B>::from_json(alloc, &value(alloc, json)?).or(Err("not read"))?;
-        let made = shown(alloc, HipStr::<B>::borrowed(text).to_json(alloc)?)?;
+        let read = must(rt, HipStr::<B>::from_json(alloc, &value(rt, alloc, json)));
+        let made = shown(
+            rt,
+            alloc,
+            must(rt, HipStr::<B>::borrowed(text).to_json(alloc)),
+        );
         assert_eq!(rt;
             (made.as_str(), read.as_str(), read.kind()),
             (*json, *text, *kind)
         );
     }
-    Ok(())
 }
 
-fn paths<B: Backend>(rt: &impl Abort, alloc: Global) -> Result<(), Fail> {
+fn paths<B: Backend>(rt: &impl Abort, alloc: Global) {
     for (text, json, _kind) in strings() {
-        let read = HipPath::<B>::from_json(alloc, &value(alloc, json)?).or(Err("not read"))?;
-        let made = HipPath::<B>::borrowed(text)
-            .to_json(alloc)
-            .or(Err("not made"))?;
-        let made = shown(alloc, made)?;
+        let read = must(rt, HipPath::<B>::from_json(alloc, &value(rt, alloc, json)));
+        let made = must(rt, HipPath::<B>::borrowed(text).to_json(alloc));
+        let made = shown(rt, alloc, made);
         assert_eq!(rt;
             (made.as_str(), read.as_path(), read.is_borrowed()),
             (*json, text.as_bytes(), false)
         );
     }
-    Ok(())
 }
 
 #[test]
-fn paths_on_either(rt: HostRuntime) -> Result<(), Fail> {
-    paths::<Rc>(&rt, rt.alloc())?;
-    paths::<Unique>(&rt, rt.alloc())
+fn paths_on_either(rt: HostRuntime) {
+    paths::<Rc>(&rt, rt.alloc());
+    paths::<Unique>(&rt, rt.alloc());
 }
 
 #[test]
-fn texts_on_either(rt: HostRuntime) -> Result<(), Fail> {
-    texts::<Rc>(&rt, rt.alloc())?;
-    texts::<Unique>(&rt, rt.alloc())
+fn texts_on_either(rt: HostRuntime) {
+    texts::<Rc>(&rt, rt.alloc());
+    texts::<Unique>(&rt, rt.alloc());
 }
 
 #[test]
@@ -124,18 +127,17 @@ fn byte_rows() -> &'static [(&'static str, &'static [u8], Kind)] {
     ]
 }
 
-fn bytes<B: Backend>(rt: &impl Abort, alloc: Global) -> Result<(), Fail> {
+fn bytes<B: Backend>(rt: &impl Abort, alloc: Global) {
     for (json, bytes, kind) in byte_rows() {
-        let read = HipByt::<B>::from_json(alloc, &value(alloc, json)?).or(Err("not read"))?;
+        let read = must(rt, HipByt::<B>::from_json(alloc, &value(rt, alloc, json)));
         assert_eq!(rt; (read.as_slice(), read.kind()), (*bytes, *kind), "{json}");
     }
-    Ok(())
 }
 
 #[test]
-fn bytes_on_either(rt: HostRuntime) -> Result<(), Fail> {
-    bytes::<Rc>(&rt, rt.alloc())?;
-    bytes::<Unique>(&rt, rt.alloc())
+fn bytes_on_either(rt: HostRuntime) {
+    bytes::<Rc>(&rt, rt.alloc());
+    bytes::<Unique>(&rt, rt.alloc());
 }
 
 /// JSON texts that are no bytes, and the item that is told.
@@ -166,12 +168,11 @@ fn no_byte_rows() -> &'static [(&'static str, Option<usize>)] {
 }
 
 #[test]
-fn no_bytes(rt: HostRuntime) -> Result<(), Fail> {
+fn no_bytes(rt: HostRuntime) {
     for (json, at) in no_byte_rows() {
-        let read = HipByt::<Rc>::from_json(rt.alloc(), &value(rt.alloc(), json)?);
+        let read = HipByt::<Rc>::from_json(rt.alloc(), &value(&rt, rt.alloc(), json));
         assert_eq!(&rt; read.err(), Some(JsonFault::NotJsonBytes(*at)), "{json}");
     }
-    Ok(())
 }
 
 /// JSON texts that are read as OS strings.
@@ -184,18 +185,18 @@ fn name_rows() -> &'static [(&'static str, &'static [u8])] {
 }
 
 #[test]
-fn names(rt: HostRuntime) -> Result<(), Fail> {
+fn names(rt: HostRuntime) {
     for (json, bytes) in name_rows() {
-        let read = HipOsStr::<Rc>::from_json(rt.alloc(), &value(rt.alloc(), json)?).or(Err(
-            "not read",
-        ))?;
+        let read = must(
+            &rt,
+            HipOsStr::<Rc>::from_json(rt.alloc(), &value(&rt, rt.alloc(), json)),
+        );
         assert_eq!(&rt;
             (read.as_os_str(), read.is_borrowed()),
             (*bytes, false),
             "{json}"
         );
     }
-    Ok(())
 }
 
 /// JSON texts that are no OS string.
@@ -220,12 +221,11 @@ fn no_name_rows() -> &'static [(&'static str, JsonFault)] {
 }
 
 #[test]
-fn no_names(rt: HostRuntime) -> Result<(), Fail> {
+fn no_names(rt: HostRuntime) {
     for (json, fault) in no_name_rows() {
-        let read = HipOsStr::<Rc>::from_json(rt.alloc(), &value(rt.alloc(), json)?);
+        let read = HipOsStr::<Rc>::from_json(rt.alloc(), &value(&rt, rt.alloc(), json));
         assert_eq!(&rt; read.err(), Some(*fault), "{json}");
     }
-    Ok(())
 }
 
 /// JSON texts that are no string.
@@ -234,15 +234,14 @@ fn no_string_rows() -> &'static [&'static str] {
 }
 
 #[test]
-fn no_strings(rt: HostRuntime) -> Result<(), Fail> {
+fn no_strings(rt: HostRuntime) {
     for json in no_string_rows() {
-        let value = value(rt.alloc(), json)?;
+        let value = value(&rt, rt.alloc(), json);
         let text = HipStr::<Rc>::from_json(rt.alloc(), &value).err();
         let path = HipPath::<Rc>::from_json(rt.alloc(), &value).err();
         let wanted = Some(JsonFault::NotJsonString);
         assert_eq!(&rt; (text, path), (wanted, wanted), "{json}");
     }
-    Ok(())
 }
 
 /// Faults and their texts.
@@ -261,9 +260,11 @@ fn faults() -> &'static [(JsonFault, &'static str)] {
 }
 
 #[test]
-fn fault_texts(rt: HostRuntime) -> Result<(), Fail> {
+fn fault_texts(rt: HostRuntime) {
     for (fault, text) in faults() {
-        assert_eq!(&rt; format!(in rt.alloc(); "{fault}")?.as_str(), *text);
+        assert_eq!(&rt;
+            must(&rt, format!(in rt.alloc(); "{fault}")).as_str(),
+            *text
+        );
     }
-    Ok(())
 }

@@ -5,6 +5,7 @@
 //! - `borsh`: forms that are written and read, cut short, or that lie about their length.
 //! - `streams`: sources and sinks that are slow, that fail, or that take nothing.
 //! - `json`: values that are made, read and refused.
+//! - `support`: what ends a test.
 #![tactic(auto)]
 
 #[cfg(test)]
@@ -13,5 +14,7 @@ mod borsh;
 mod json;
 #[cfg(test)]
 mod streams;
+#[cfg(test)]
+mod support;
 #[cfg(test)]
 mod trickle;

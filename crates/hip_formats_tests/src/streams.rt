@@ -1,42 +1,43 @@
 //! Sources and sinks that are slow, that fail, or that take nothing.
+use crate::support::must;
 use crate::trickle::{Drain, Spring};
 use hip_bytes::{BorshFault, ByteSink, ByteSource, HipByt};
 use hip_text::{HipStr, Rc};
 use std::alloc::Global;
 use std::process::Abort;
-use std::test::Fail;
 
 const FORM: &[u8] = b"\x03\x00\x00\x00abc";
 
 /// A form of 10,000 `a`, and a `z` behind it, one byte a read and as many as there is room for.
 #[test]
-fn slow_source(rt: HostRuntime) -> Result<(), Fail> {
+fn slow_source(rt: HostRuntime) {
     for most in [1, usize::MAX] {
-        let mut bytes = vec![in rt.alloc(); 0x10, 0x27, 0, 0]?;
-        bytes.resize(10_004, b'a')?;
-        bytes.push(b'z')?;
+        let mut bytes = must(&rt, vec![in rt.alloc(); 0x10, 0x27, 0, 0]);
+        must(&rt, bytes.resize(10_004, b'a'));
+        must(&rt, bytes.push(b'z'));
         let mut spring = Spring::new(bytes.as_slice(), most, 0);
-        let read = HipByt::<Rc>::deserialize_reader(rt.alloc(), &mut spring).or(Err("not read"))?;
+        let read = must(
+            &rt,
+            HipByt::<Rc>::deserialize_reader(rt.alloc(), &mut spring),
+        );
         assert_eq!(&rt;
             (read.as_slice(), spring.rest),
             (&bytes[4..10_004], &b"z"[..])
         );
     }
-    Ok(())
 }
 
 /// A length of four gigabytes and 10,000 bytes: all are taken.
 #[test]
-fn far_too_short(rt: HostRuntime) -> Result<(), Fail> {
-    let mut bytes = vec![in rt.alloc(); 0xFF; 4]?;
-    bytes.resize(10_004, b'a')?;
+fn far_too_short(rt: HostRuntime) {
+    let mut bytes = must(&rt, vec![in rt.alloc(); 0xFF; 4]);
+    must(&rt, bytes.resize(10_004, b'a'));
     let mut spring = Spring::new(bytes.as_slice(), usize::MAX, 0);
     let read = HipByt::<Rc>::deserialize_reader(rt.alloc(), &mut spring);
     assert_eq!(&rt;
         (read.err(), spring.rest.len(), spring.failures()),
         (Some(BorshFault::Truncated), 0, 0)
     );
-    Ok(())
 }
 
 /// What is answered, how many bytes are left, and how many reads failed, where one byte a call comes from a source that fails at one call.

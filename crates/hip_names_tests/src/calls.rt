@@ -1,11 +1,10 @@
 //! Calls that one type alone has, conversions between types, and components by themselves.
-use crate::name::text_of;
+use crate::name::{must, text_of};
 use hip_names::{Backend, Component, HipByt, HipOsStr, HipPath, HipStr, Rc, Unique, components_eq};
-use std::alloc::Global;
+use std::alloc::{AllocError, Global};
 use std::borrow::{CowSlice, CowStr};
 use std::cmp::Ordering;
 use std::process::Abort;
-use std::test::Fail;
 
 const LETTERS: &str = "abcdefghijklmnopqrstuvwxyz";
 
@@ -24,86 +23,79 @@ fn is_path<B: Backend>(rt: &impl Abort, path: HipPath<B>, text: &str) {
 }
 
 /// The letters, as a text that is lent or one that is owned.
-fn letters<'b, B: Backend>(alloc: Global, owned: bool) -> Result<HipStr<'b, B>, Fail> {
+fn letters<'b, B: Backend>(rt: &impl Abort, alloc: Global, owned: bool) -> HipStr<'b, B> {
     let cow = if owned {
-        CowStr::Owned(String::from_str(alloc, LETTERS)?)
+        CowStr::Owned(must(rt, String::from_str(alloc, LETTERS)))
     } else {
         CowStr::Borrowed(LETTERS)
     };
-    Ok(HipStr::from_cow(alloc, cow).or(Err("no memory"))?)
+    must(rt, HipStr::from_cow(alloc, cow).or(Err(AllocError)))
 }
 
-fn names_of_texts<B: Backend>(rt: &impl Abort, alloc: Global) -> Result<(), Fail> {
+fn names_of_texts<B: Backend>(rt: &impl Abort, alloc: Global) {
     for owned in [true, false] {
-        let text = letters::<B>(alloc, owned)?;
-        is_name(rt, HipOsStr::from(text.clone(alloc)?), LETTERS);
+        let text = letters::<B>(rt, alloc, owned);
+        is_name(rt, HipOsStr::from(must(rt, text.clone(alloc))), LETTERS);
         is_name(rt, HipOsStr::from(text), LETTERS);
     }
-    Ok(())
 }
 
-fn paths_of_texts<B: Backend>(rt: &impl Abort, alloc: Global) -> Result<(), Fail> {
+fn paths_of_texts<B: Backend>(rt: &impl Abort, alloc: Global) {
     for owned in [true, false] {
-        let text = letters::<B>(alloc, owned)?;
-        is_path(rt, HipPath::from(text.clone(alloc)?), LETTERS);
+        let text = letters::<B>(rt, alloc, owned);
+        is_path(rt, HipPath::from(must(rt, text.clone(alloc))), LETTERS);
         is_path(rt, HipPath::from(text), LETTERS);
     }
-    Ok(())
 }
 
 /// From bytes to an OS string, to a path, and back.
-fn there_and_back<B: Backend>(rt: &impl Abort, alloc: Global) -> Result<(), Fail> {
-    let bytes = HipByt::<B>::from_slice(alloc, LETTERS.as_bytes())?;
+fn there_and_back<B: Backend>(rt: &impl Abort, alloc: Global) {
+    let bytes = must(rt, HipByt::<B>::from_slice(alloc, LETTERS.as_bytes()));
     let path = HipPath::from(HipOsStr::from(bytes));
-    is_path(rt, path.clone(alloc)?, LETTERS);
-    is_name(rt, HipOsStr::from(path.clone(alloc)?), LETTERS);
+    is_path(rt, must(rt, path.clone(alloc)), LETTERS);
+    is_name(rt, HipOsStr::from(must(rt, path.clone(alloc))), LETTERS);
     let bytes = HipByt::from(path.into_os_str());
     assert_eq!(rt; bytes.eq_slice(LETTERS.as_bytes()), true);
-    Ok(())
 }
 
-fn long_path_gives_its_vector<B: Backend>(rt: &impl Abort, alloc: Global) -> Result<(), Fail> {
-    let path = HipPath::<B>::from_str(alloc, LETTERS)?;
-    let vec = path.into_os_string(alloc).or(Err("it was handed back"))?;
+fn long_path_gives_its_vector<B: Backend>(rt: &impl Abort, alloc: Global) {
+    let path = must(rt, HipPath::<B>::from_str(alloc, LETTERS));
+    let vec = must(rt, path.into_os_string(alloc).or(Err(AllocError)));
     assert_eq!(rt; vec.as_slice(), LETTERS.as_bytes());
-    Ok(())
 }
 
 /// A lent name becomes a lent `Cow`.
-fn into_lent_cow<B: Backend>(rt: &impl Abort, alloc: Global) -> Result<(), Fail> {
+fn into_lent_cow<B: Backend>(rt: &impl Abort, alloc: Global) {
     let name = HipPath::<B>::from_static("abc").into_os_str();
     let Ok(CowSlice::Borrowed(bytes)) = name.into_bytes().into_cow(alloc) else {
-        return Err(Fail::from("it was copied"));
+        panic!(rt; "it was copied");
     };
     assert_eq!(rt; bytes, b"abc".as_slice());
-    Ok(())
 }
 
 /// A copied one becomes an owned `Cow`.
-fn into_owned_cow<B: Backend>(rt: &impl Abort, alloc: Global) -> Result<(), Fail> {
-    let name = HipOsStr::<B>::from_str(alloc, "abc")?;
+fn into_owned_cow<B: Backend>(rt: &impl Abort, alloc: Global) {
+    let name = must(rt, HipOsStr::<B>::from_str(alloc, "abc"));
     let Ok(CowSlice::Owned(vec)) = name.into_bytes().into_cow(alloc) else {
-        return Err(Fail::from("it wasn't copied"));
+        panic!(rt; "it wasn't copied");
     };
     assert_eq!(rt; vec.as_slice(), b"abc".as_slice());
-    Ok(())
 }
 
-fn rooms<B: Backend>(rt: &impl Abort, alloc: Global) -> Result<(), Fail> {
-    let mut name = HipOsStr::<B>::with_capacity(alloc, 42)?;
+fn rooms<B: Backend>(rt: &impl Abort, alloc: Global) {
+    let mut name = must(rt, HipOsStr::<B>::with_capacity(alloc, 42));
     let (empty, roomy) = (name.is_empty(), name.capacity() >= 42);
     for _ in 0..42 {
-        name.push(alloc, "A")?;
+        must(rt, name.push(alloc, "A"));
     }
     assert_eq!(rt;
         (empty, roomy, name.os_str_eq(&[b'A'; 42])),
         (true, true, true)
     );
-    Ok(())
 }
 
-fn no_room<B: Backend>(rt: &impl Abort, alloc: Global) -> Result<(), Fail> {
-    let name = HipOsStr::<B>::with_capacity(alloc, 0)?;
+fn no_room<B: Backend>(rt: &impl Abort, alloc: Global) {
+    let name = must(rt, HipOsStr::<B>::with_capacity(alloc, 0));
     let limits = (
         HipOsStr::<B>::inline_capacity(),
         HipPath::<B>::inline_capacity(),
@@ -112,34 +104,30 @@ fn no_room<B: Backend>(rt: &impl Abort, alloc: Global) -> Result<(), Fail> {
         (name.is_empty(), name.capacity(), limits),
         (true, 23, (23, 23))
     );
-    Ok(())
 }
 
 /// Room for 24 bytes is given back where there are fewer.
-fn shrinks<B: Backend>(rt: &impl Abort, alloc: Global) -> Result<(), Fail> {
-    let mut name = HipOsStr::<B>::with_capacity(alloc, 24)?;
-    name.push(alloc, "a")?;
+fn shrinks<B: Backend>(rt: &impl Abort, alloc: Global) {
+    let mut name = must(rt, HipOsStr::<B>::with_capacity(alloc, 24));
+    must(rt, name.push(alloc, "a"));
     let mut path = HipPath::from(name);
-    path.shrink_to(alloc, 0)?;
+    must(rt, path.shrink_to(alloc, 0));
     assert_eq!(rt; (path.capacity(), path.as_path()), (23, b"a".as_slice()));
-    Ok(())
 }
 
-fn shrinks_to_fit<B: Backend>(rt: &impl Abort, alloc: Global) -> Result<(), Fail> {
-    let mut path = HipPath::from(HipOsStr::<B>::with_capacity(alloc, 24)?);
-    path.shrink_to_fit(alloc)?;
+fn shrinks_to_fit<B: Backend>(rt: &impl Abort, alloc: Global) {
+    let mut path = HipPath::from(must(rt, HipOsStr::<B>::with_capacity(alloc, 24)));
+    must(rt, path.shrink_to_fit(alloc));
     assert_eq!(rt; path.capacity(), 23);
-    Ok(())
 }
 
 /// What is lent may be let go once the name is its own.
-fn owns<B: Backend>(rt: &impl Abort, alloc: Global) -> Result<(), Fail> {
-    let stars = String::from_str(alloc, "******")?;
+fn owns<B: Backend>(rt: &impl Abort, alloc: Global) {
+    let stars = must(rt, String::from_str(alloc, "******"));
     let lent = HipOsStr::<B>::borrowed(stars.get(..2).unwrap_or(""));
-    let owned = lent.into_owned(alloc).or(Err("no memory"))?;
+    let owned = must(rt, lent.into_owned(alloc).or(Err(AllocError)));
     drop(stars);
     is_name(rt, owned, "**");
-    Ok(())
 }
 
 /// Two texts, and how they are ordered, by their bytes and as paths.
@@ -170,10 +158,10 @@ fn orders_names<B: Backend>(rt: &impl Abort) {
     }
 }
 
-fn orders_paths<B: Backend>(rt: &impl Abort, alloc: Global) -> Result<(), Fail> {
+fn orders_paths<B: Backend>(rt: &impl Abort, alloc: Global) {
     for (left, right, _, order) in ORDERED {
         let (path, other) = (
-            HipPath::<B>::from_str(alloc, left)?,
+            must(rt, HipPath::<B>::from_str(alloc, left)),
             HipPath::borrowed(right),
         );
         let equal = components_eq(left.as_bytes(), right.as_bytes());
@@ -182,7 +170,6 @@ fn orders_paths<B: Backend>(rt: &impl Abort, alloc: Global) -> Result<(), Fail> 
             (*order, order.is_eq(), order.is_eq())
         );
     }
-    Ok(())
 }
 
 /// Sorts of components are ordered, and names among themselves.
@@ -194,32 +181,32 @@ fn orders_components(rt: &impl Abort, all: &[Component]) {
     }
 }
 
-fn on_conversions<B: Backend>(rt: &impl Abort, alloc: Global) -> Result<(), Fail> {
-    names_of_texts::<B>(rt, alloc)?;
-    paths_of_texts::<B>(rt, alloc)?;
-    there_and_back::<B>(rt, alloc)?;
-    long_path_gives_its_vector::<B>(rt, alloc)?;
-    into_lent_cow::<B>(rt, alloc)?;
-    into_owned_cow::<B>(rt, alloc)
+fn on_conversions<B: Backend>(rt: &impl Abort, alloc: Global) {
+    names_of_texts::<B>(rt, alloc);
+    paths_of_texts::<B>(rt, alloc);
+    there_and_back::<B>(rt, alloc);
+    long_path_gives_its_vector::<B>(rt, alloc);
+    into_lent_cow::<B>(rt, alloc);
+    into_owned_cow::<B>(rt, alloc);
 }
 
-fn on_rooms<B: Backend>(rt: &impl Abort, alloc: Global) -> Result<(), Fail> {
-    rooms::<B>(rt, alloc)?;
-    no_room::<B>(rt, alloc)?;
-    shrinks::<B>(rt, alloc)?;
-    shrinks_to_fit::<B>(rt, alloc)?;
-    owns::<B>(rt, alloc)
+fn on_rooms<B: Backend>(rt: &impl Abort, alloc: Global) {
+    rooms::<B>(rt, alloc);
+    no_room::<B>(rt, alloc);
+    shrinks::<B>(rt, alloc);
+    shrinks_to_fit::<B>(rt, alloc);
+    owns::<B>(rt, alloc);
 }
 
-fn on<B: Backend>(rt: &impl Abort, alloc: Global) -> Result<(), Fail> {
-    on_conversions::<B>(rt, alloc)?;
-    on_rooms::<B>(rt, alloc)?;
+fn on<B: Backend>(rt: &impl Abort, alloc: Global) {
+    on_conversions::<B>(rt, alloc);
+    on_rooms::<B>(rt, alloc);
     orders_names::<B>(rt);
-    orders_paths::<B>(rt, alloc)
+    orders_paths::<B>(rt, alloc);
 }
 
 #[test]
-fn components(rt: HostRuntime) -> Result<(), Fail> {
+fn components(rt: HostRuntime) {
     let all = [
         Component::RootDir,
         Component::CurDir,
@@ -230,17 +217,16 @@ fn components(rt: HostRuntime) -> Result<(), Fail> {
         Component::Normal(b"b"),
     ];
     orders_components(&rt, &all);
-    let said = text_of(rt.alloc(), &all[4])?;
+    let said = must(&rt, text_of(rt.alloc(), &all[4]));
     assert_eq!(rt; said.as_str(), "Normal([97])");
-    Ok(())
 }
 
 #[test]
-fn on_rc(rt: HostRuntime) -> Result<(), Fail> {
-    on::<Rc>(&rt, rt.alloc())
+fn on_rc(rt: HostRuntime) {
+    on::<Rc>(&rt, rt.alloc());
 }
 
 #[test]
-fn on_unique(rt: HostRuntime) -> Result<(), Fail> {
-    on::<Unique>(&rt, rt.alloc())
+fn on_unique(rt: HostRuntime) {
+    on::<Unique>(&rt, rt.alloc());
 }

@@ -1,8 +1,8 @@
 //! OS strings that are UTF-8, that aren't, and their repair.
+use crate::name::must;
 use hip_names::{Backend, HipByt, HipOsStr, HipPath, Rc, Unique};
 use std::alloc::Global;
 use std::process::Abort;
-use std::test::Fail;
 
 /// Bytes, whether they are UTF-8, and what Rust's `String::from_utf8_lossy` makes of them.
 type Decoded = (&'static [u8], bool, &'static str);
@@ -25,16 +25,14 @@ fn name_of<B: Backend>(bytes: &[u8]) -> HipOsStr<'_, B> {
     HipOsStr::from(HipByt::borrowed(bytes))
 }
 
-fn is_repaired<B: Backend>(rt: &impl Abort, alloc: Global, row: Decoded) -> Result<(), Fail> {
-    let repaired = name_of::<B>(row.0).to_str_lossy(alloc)?;
+fn is_repaired<B: Backend>(rt: &impl Abort, alloc: Global, row: Decoded) {
+    let repaired = must(rt, name_of::<B>(row.0).to_str_lossy(alloc));
     assert_eq!(rt; (repaired.as_str(), repaired.is_borrowed()), (row.2, row.1));
-    Ok(())
 }
 
-fn is_read<B: Backend>(rt: &impl Abort, alloc: Global, row: Decoded) -> Result<(), Fail> {
-    let text = name_of::<B>(row.0).to_str(alloc)?;
+fn is_read<B: Backend>(rt: &impl Abort, alloc: Global, row: Decoded) {
+    let text = must(rt, name_of::<B>(row.0).to_str(alloc));
     assert_eq!(rt; text.is_some_and(|text| text.str_eq(row.2)), row.1);
-    Ok(())
 }
 
 fn name_becomes_text<B: Backend>(rt: &impl Abort, row: Decoded) {
@@ -52,31 +50,30 @@ fn path_becomes_text<B: Backend>(rt: &impl Abort, row: Decoded) {
 }
 
 /// Bytes that aren't UTF-8 are told by their numbers.
-fn debugs<B: Backend>(rt: &impl Abort, alloc: Global) -> Result<(), Fail> {
+fn debugs<B: Backend>(rt: &impl Abort, alloc: Global) {
     let name = name_of::<B>(b"a\"\n\xFFb");
     assert_eq!(rt;
-        format!(in alloc; "{name:?}")?.as_str(),
+        must(rt, format!(in alloc; "{name:?}")).as_str(),
         "\"a\\\"\\n\\xffb\""
     );
-    Ok(())
 }
 
-fn on<B: Backend>(rt: &impl Abort, alloc: Global) -> Result<(), Fail> {
+fn on<B: Backend>(rt: &impl Abort, alloc: Global) {
     for row in DECODED {
-        is_repaired::<B>(rt, alloc, *row)?;
-        is_read::<B>(rt, alloc, *row)?;
+        is_repaired::<B>(rt, alloc, *row);
+        is_read::<B>(rt, alloc, *row);
         name_becomes_text::<B>(rt, *row);
         path_becomes_text::<B>(rt, *row);
     }
-    debugs::<B>(rt, alloc)
+    debugs::<B>(rt, alloc);
 }
 
 #[test]
-fn on_rc(rt: HostRuntime) -> Result<(), Fail> {
-    on::<Rc>(&rt, rt.alloc())
+fn on_rc(rt: HostRuntime) {
+    on::<Rc>(&rt, rt.alloc());
 }
 
 #[test]
-fn on_unique(rt: HostRuntime) -> Result<(), Fail> {
-    on::<Unique>(&rt, rt.alloc())
+fn on_unique(rt: HostRuntime) {
+    on::<Unique>(&rt, rt.alloc());
 }

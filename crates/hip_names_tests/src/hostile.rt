@@ -1,9 +1,9 @@
 //! Paths that are hard to read, with the answers of Rust's `std::path`.
+use crate::name::must;
 use hip_names::{Backend, Component, Components, HipByt, HipOsStr, HipPath, Rc, Unique, path_cmp};
 use std::alloc::{AllocError, Global};
 use std::cmp::Ordering;
 use std::process::Abort;
-use std::test::Fail;
 
 /// A path, what `Path::components` gives of it in Rust, and how `Path::cmp` puts it to the path of the row below (the last one's to that
 /// of the first of all). A component is `R` for the root, `C` for `.`, `P` for `..` or `N` and a name, with a `|` behind it.
@@ -158,11 +158,10 @@ fn path_of<B: Backend>(bytes: &[u8]) -> HipPath<'_, B> {
     HipPath::from(HipOsStr::from(HipByt::borrowed(bytes)))
 }
 
-fn is_taken_apart<B: Backend>(rt: &impl Abort, alloc: Global, row: Hostile) -> Result<(), Fail> {
+fn is_taken_apart<B: Backend>(rt: &impl Abort, alloc: Global, row: Hostile) {
     let (bytes, components, _) = row;
     let path = path_of::<B>(bytes);
-    is(rt, written(alloc, path.components())?, components);
-    Ok(())
+    is(rt, must(rt, written(alloc, path.components())), components);
 }
 
 /// How two paths stand to each other, each way round, and whether they are equal.
@@ -183,18 +182,12 @@ fn is_ordered<B: Backend>(rt: &impl Abort, row: Hostile, next: Hostile) {
 }
 
 /// Asserts this of each row, of which the last is put to the first of those behind them.
-fn are_read<B: Backend>(
-    rt: &impl Abort,
-    alloc: Global,
-    rows: &[Hostile],
-    behind: &[Hostile],
-) -> Result<(), Fail> {
+fn are_read<B: Backend>(rt: &impl Abort, alloc: Global, rows: &[Hostile], behind: &[Hostile]) {
     for (i, row) in rows.iter().enumerate() {
         let next = rows.get(i + 1).or(behind.first()).unwrap_or(row);
-        is_taken_apart::<B>(rt, alloc, *row)?;
+        is_taken_apart::<B>(rt, alloc, *row);
         is_ordered::<B>(rt, *row, *next);
     }
-    Ok(())
 }
 
 // A function in which a table stands costs the square of its rows, so each part of it has one, of which those who go through it know
@@ -216,19 +209,19 @@ fn fourth() -> &'static [Hostile] {
     FOURTH
 }
 
-fn on<B: Backend>(rt: &impl Abort, alloc: Global) -> Result<(), Fail> {
-    are_read::<B>(rt, alloc, first(), second())?;
-    are_read::<B>(rt, alloc, second(), third())?;
-    are_read::<B>(rt, alloc, third(), fourth())?;
-    are_read::<B>(rt, alloc, fourth(), first())
+fn on<B: Backend>(rt: &impl Abort, alloc: Global) {
+    are_read::<B>(rt, alloc, first(), second());
+    are_read::<B>(rt, alloc, second(), third());
+    are_read::<B>(rt, alloc, third(), fourth());
+    are_read::<B>(rt, alloc, fourth(), first());
 }
 
 #[test]
-fn on_rc(rt: HostRuntime) -> Result<(), Fail> {
-    on::<Rc>(&rt, rt.alloc())
+fn on_rc(rt: HostRuntime) {
+    on::<Rc>(&rt, rt.alloc());
 }
 
 #[test]
-fn on_unique(rt: HostRuntime) -> Result<(), Fail> {
-    on::<Unique>(&rt, rt.alloc())
+fn on_unique(rt: HostRuntime) {
+    on::<Unique>(&rt, rt.alloc());
 }

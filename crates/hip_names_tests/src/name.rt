@@ -1,23 +1,23 @@
 //! What the tests ask of an OS string and of a path alike. The methods say nothing of their answers, so that a test knows nothing but what
 //! it compares.
 use hip_names::{Backend, HipByt, HipOsStr, HipPath, HipStr, Kind};
-use std::alloc::Global;
+use std::alloc::{AllocError, Global};
 use std::cmp::Ordering;
 use std::fmt;
-use std::test::Fail;
+use std::process::Abort;
 
 pub trait Name: Drop {
     fn empty() -> Self;
 
     fn of_static(text: &'static str) -> Self;
 
-    fn of_str(alloc: Global, text: &str) -> Result<Self, Fail>;
+    fn of_str(alloc: Global, text: &str) -> Result<Self, AllocError>;
 
-    fn of_string(alloc: Global, string: String) -> Result<Self, Fail>;
+    fn of_string(alloc: Global, string: String) -> Result<Self, AllocError>;
 
-    fn cloned(&self, alloc: Global) -> Result<Self, Fail>;
+    fn cloned(&self, alloc: Global) -> Result<Self, AllocError>;
 
-    fn owned(self, alloc: Global) -> Result<Self, Fail>;
+    fn owned(self, alloc: Global) -> Result<Self, AllocError>;
 
     fn bytes(&self) -> &[u8];
 
@@ -31,15 +31,15 @@ pub trait Name: Drop {
 
     fn into_vector(self, alloc: Global) -> Result<Vec<u8>, Self>;
 
-    fn into_copy(self, alloc: Global) -> Result<Vec<u8>, Fail>;
+    fn into_copy(self, alloc: Global) -> Result<Vec<u8>, AllocError>;
 
     fn into_text(self, alloc: Global) -> Result<Vec<u8>, Self>;
 
-    fn add(&mut self, alloc: Global, text: &str) -> Result<(), Fail>;
+    fn add(&mut self, alloc: Global, text: &str) -> Result<(), AllocError>;
 
-    fn shrink(&mut self, alloc: Global, least: usize) -> Result<(), Fail>;
+    fn shrink(&mut self, alloc: Global, least: usize) -> Result<(), AllocError>;
 
-    fn shrink_all(&mut self, alloc: Global) -> Result<(), Fail>;
+    fn shrink_all(&mut self, alloc: Global) -> Result<(), AllocError>;
 
     fn has_bytes(&self, bytes: &[u8]) -> bool;
 
@@ -47,14 +47,22 @@ pub trait Name: Drop {
 
     fn stands_to(&self, bytes: &[u8]) -> Ordering;
 
-    fn said(&self, alloc: Global) -> Result<String, Fail>;
+    fn said(&self, alloc: Global) -> Result<String, AllocError>;
 
-    fn guard_said(&mut self, alloc: Global) -> Result<String, Fail>;
+    fn guard_said(&mut self, alloc: Global) -> Result<String, AllocError>;
+}
+
+/// The value, or the end of the test where it was refused. A test with no way out but this is a straight line, and cheap to prove.
+pub(crate) fn must<T, E: Drop>(rt: &impl Abort, outcome: Result<T, E>) -> T {
+    match outcome {
+        Ok(value) => value,
+        Err(_) => panic!(rt; "it was refused"),
+    }
 }
 
 /// A value as `Debug` shows it.
-pub(crate) fn text_of<T: fmt::Debug>(alloc: Global, value: &T) -> Result<String, Fail> {
-    Ok(format!(in alloc; "{value:?}")?)
+pub(crate) fn text_of<T: fmt::Debug>(alloc: Global, value: &T) -> Result<String, AllocError> {
+    format!(in alloc; "{value:?}")
 }
 
 fn kind_of(inline: bool, borrowed: bool, allocated: bool) -> Kind {
@@ -74,20 +82,20 @@ impl<B: Backend> Name for HipOsStr<'static, B> {
         Self::from_static(text)
     }
 
-    fn of_str(alloc: Global, text: &str) -> Result<Self, Fail> {
-        Ok(Self::from_str(alloc, text)?)
+    fn of_str(alloc: Global, text: &str) -> Result<Self, AllocError> {
+        Self::from_str(alloc, text)
     }
 
-    fn of_string(alloc: Global, string: String) -> Result<Self, Fail> {
-        Ok(Self::from_string(alloc, string).or(Err("no memory"))?)
+    fn of_string(alloc: Global, string: String) -> Result<Self, AllocError> {
+        Self::from_string(alloc, string).or(Err(AllocError))
     }
 
-    fn cloned(&self, alloc: Global) -> Result<Self, Fail> {
-        Ok(self.clone(alloc)?)
+    fn cloned(&self, alloc: Global) -> Result<Self, AllocError> {
+        self.clone(alloc)
     }
 
-    fn owned(self, alloc: Global) -> Result<Self, Fail> {
-        Ok(self.into_owned(alloc).or(Err("no memory"))?)
+    fn owned(self, alloc: Global) -> Result<Self, AllocError> {
+        self.into_owned(alloc).or(Err(AllocError))
     }
 
     fn bytes(&self) -> &[u8] {
@@ -114,28 +122,27 @@ impl<B: Backend> Name for HipOsStr<'static, B> {
         self.into_os_string(alloc)
     }
 
-    fn into_copy(self, alloc: Global) -> Result<Vec<u8>, Fail> {
+    fn into_copy(self, alloc: Global) -> Result<Vec<u8>, AllocError> {
         let bytes = HipByt::from(self);
-        Ok(bytes.into_vec_copied(alloc).or(Err("no memory"))?)
+        bytes.into_vec_copied(alloc).or(Err(AllocError))
     }
 
     fn into_text(self, alloc: Global) -> Result<Vec<u8>, Self> {
         HipOsStr::from(self.into_str()?).into_os_string(alloc)
     }
 
-    fn add(&mut self, alloc: Global, text: &str) -> Result<(), Fail> {
+    fn add(&mut self, alloc: Global, text: &str) -> Result<(), AllocError> {
         let mut guard = self.mutate(alloc)?;
         guard.as_mut_vec().extend_from_slice(text.as_bytes())?;
-        guard.finish(alloc).or(Err("no memory"))?;
-        Ok(())
+        guard.finish(alloc).or(Err(AllocError))
     }
 
-    fn shrink(&mut self, alloc: Global, least: usize) -> Result<(), Fail> {
-        Ok(self.shrink_to(alloc, least)?)
+    fn shrink(&mut self, alloc: Global, least: usize) -> Result<(), AllocError> {
+        self.shrink_to(alloc, least)
     }
 
-    fn shrink_all(&mut self, alloc: Global) -> Result<(), Fail> {
-        Ok(self.shrink_to_fit(alloc)?)
+    fn shrink_all(&mut self, alloc: Global) -> Result<(), AllocError> {
+        self.shrink_to_fit(alloc)
     }
 
     fn has_bytes(&self, bytes: &[u8]) -> bool {
@@ -150,11 +157,11 @@ impl<B: Backend> Name for HipOsStr<'static, B> {
         self.path_cmp(bytes)
     }
 
-    fn said(&self, alloc: Global) -> Result<String, Fail> {
+    fn said(&self, alloc: Global) -> Result<String, AllocError> {
         text_of(alloc, self)
     }
 
-    fn guard_said(&mut self, alloc: Global) -> Result<String, Fail> {
+    fn guard_said(&mut self, alloc: Global) -> Result<String, AllocError> {
         let guard = self.mutate(alloc)?;
         text_of(alloc, &guard)
     }
@@ -169,20 +176,20 @@ impl<B: Backend> Name for HipPath<'static, B> {
         Self::from_static(text)
     }
 
-    fn of_str(alloc: Global, text: &str) -> Result<Self, Fail> {
-        Ok(Self::from_str(alloc, text)?)
+    fn of_str(alloc: Global, text: &str) -> Result<Self, AllocError> {
+        Self::from_str(alloc, text)
     }
 
-    fn of_string(alloc: Global, string: String) -> Result<Self, Fail> {
-        Ok(Self::from_string(alloc, string).or(Err("no memory"))?)
+    fn of_string(alloc: Global, string: String) -> Result<Self, AllocError> {
+        Self::from_string(alloc, string).or(Err(AllocError))
     }
 
-    fn cloned(&self, alloc: Global) -> Result<Self, Fail> {
-        Ok(self.clone(alloc)?)
+    fn cloned(&self, alloc: Global) -> Result<Self, AllocError> {
+        self.clone(alloc)
     }
 
-    fn owned(self, alloc: Global) -> Result<Self, Fail> {
-        Ok(self.into_owned(alloc).or(Err("no memory"))?)
+    fn owned(self, alloc: Global) -> Result<Self, AllocError> {
+        self.into_owned(alloc).or(Err(AllocError))
     }
 
     fn bytes(&self) -> &[u8] {
@@ -209,28 +216,27 @@ impl<B: Backend> Name for HipPath<'static, B> {
         self.into_path_buf(alloc)
     }
 
-    fn into_copy(self, alloc: Global) -> Result<Vec<u8>, Fail> {
+    fn into_copy(self, alloc: Global) -> Result<Vec<u8>, AllocError> {
         let bytes = HipOsStr::from(self).into_bytes();
-        Ok(bytes.into_vec_copied(alloc).or(Err("no memory"))?)
+        bytes.into_vec_copied(alloc).or(Err(AllocError))
     }
 
     fn into_text(self, alloc: Global) -> Result<Vec<u8>, Self> {
         HipPath::from(self.into_str()?).into_os_string(alloc)
     }
 
-    fn add(&mut self, alloc: Global, text: &str) -> Result<(), Fail> {
+    fn add(&mut self, alloc: Global, text: &str) -> Result<(), AllocError> {
         let mut guard = self.mutate(alloc)?;
         guard.as_mut_vec().extend_from_slice(text.as_bytes())?;
-        guard.finish(alloc).or(Err("no memory"))?;
-        Ok(())
+        guard.finish(alloc).or(Err(AllocError))
     }
 
-    fn shrink(&mut self, alloc: Global, least: usize) -> Result<(), Fail> {
-        Ok(self.shrink_to(alloc, least)?)
+    fn shrink(&mut self, alloc: Global, least: usize) -> Result<(), AllocError> {
+        self.shrink_to(alloc, least)
     }
 
-    fn shrink_all(&mut self, alloc: Global) -> Result<(), Fail> {
-        Ok(self.shrink_to_fit(alloc)?)
+    fn shrink_all(&mut self, alloc: Global) -> Result<(), AllocError> {
+        self.shrink_to_fit(alloc)
     }
 
     fn has_bytes(&self, bytes: &[u8]) -> bool {
@@ -245,11 +251,11 @@ impl<B: Backend> Name for HipPath<'static, B> {
         self.path_cmp(bytes)
     }
 
-    fn said(&self, alloc: Global) -> Result<String, Fail> {
+    fn said(&self, alloc: Global) -> Result<String, AllocError> {
         text_of(alloc, self)
     }
 
-    fn guard_said(&mut self, alloc: Global) -> Result<String, Fail> {
+    fn guard_said(&mut self, alloc: Global) -> Result<String, AllocError> {
         let guard = self.mutate(alloc)?;
         text_of(alloc, &guard)
     }

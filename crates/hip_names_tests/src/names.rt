@@ -1,10 +1,9 @@
 //! What hipstr's own tests ask of OS strings and of paths, each by its own calls.
-use crate::name::Name;
+use crate::name::{Name, must};
 use hip_names::{HipOsStr, HipPath, Kind, Rc, Unique};
-use std::alloc::Global;
+use std::alloc::{AllocError, Global};
 use std::cmp::Ordering;
 use std::process::Abort;
-use std::test::Fail;
 
 const LETTERS: &str = "abcdefghijklmnopqrstuvwxyz";
 
@@ -14,15 +13,16 @@ const LONG: &str = "aaaaaaaaaaaaaaaaaaaaaaaaaaaaaaaaaaaaaaaaaa";
 const WAYS: usize = 3;
 
 /// A name by `from_string`, one that is copied, or one that is lent, what it was made of, and where its bytes lie.
-fn made<N: Name>(alloc: Global, way: usize) -> Result<(N, &'static str, Kind), Fail> {
-    Ok(match way {
+fn made<N: Name>(rt: &impl Abort, alloc: Global, way: usize) -> (N, &'static str, Kind) {
+    match way {
         0 => {
-            let string = String::from_str(alloc, LONG)?;
-            (N::of_string(alloc, string)?, LONG, Kind::Allocated)
+            let string = must(rt, String::from_str(alloc, LONG));
+            let name = must(rt, N::of_string(alloc, string));
+            (name, LONG, Kind::Allocated)
         }
-        1 => (N::of_str(alloc, "abc")?, "abc", Kind::Inline),
+        1 => (must(rt, N::of_str(alloc, "abc")), "abc", Kind::Inline),
         _ => (N::of_static("abc"), "abc", Kind::Borrowed),
-    })
+    }
 }
 
 /// Asserts what a name holds, and where.
@@ -34,14 +34,13 @@ fn is_vector(rt: &impl Abort, vec: Vec<u8>, text: &str) {
     assert_eq!(rt; vec.as_slice(), text.as_bytes());
 }
 
-fn makers<N: Name>(rt: &impl Abort, alloc: Global) -> Result<(), Fail> {
+fn makers<N: Name>(rt: &impl Abort, alloc: Global) {
     for way in 0..WAYS {
-        let (name, text, kind) = made::<N>(alloc, way)?;
-        let clone = name.cloned(alloc)?;
+        let (name, text, kind) = made::<N>(rt, alloc, way);
+        let clone = must(rt, name.cloned(alloc));
         is(rt, name, text, kind);
         is(rt, clone, text, kind);
     }
-    Ok(())
 }
 
 fn plain<N: Name>(rt: &impl Abort) {
@@ -60,55 +59,51 @@ const LENGTHS: &[(usize, Kind)] = &[
     (1024, Kind::Allocated),
 ];
 
-fn lengths<N: Name>(rt: &impl Abort, alloc: Global) -> Result<(), Fail> {
+fn lengths<N: Name>(rt: &impl Abort, alloc: Global) {
     for (len, kind) in LENGTHS {
         let mut text = String::new(alloc);
         for _ in 0..*len {
-            text.push('a')?;
+            must(rt, text.push('a'));
         }
-        let name = N::of_str(alloc, text.as_str())?;
+        let name = must(rt, N::of_str(alloc, text.as_str()));
         is(rt, name, text.as_str(), *kind);
     }
-    Ok(())
 }
 
 /// A long one gives its vector, any other is handed back.
-fn into_vectors<N: Name>(rt: &impl Abort, alloc: Global) -> Result<(), Fail> {
+fn into_vectors<N: Name>(rt: &impl Abort, alloc: Global) {
     for way in 0..WAYS {
-        let (name, text, kind) = made::<N>(alloc, way)?;
+        let (name, text, kind) = made::<N>(rt, alloc, way);
         match name.into_vector(alloc) {
             Ok(vec) => is_vector(rt, vec, text),
             Err(back) => is(rt, back, text, kind),
         }
     }
-    let (long, text, _) = made::<N>(alloc, 0)?;
+    let (long, text, _) = made::<N>(rt, alloc, 0);
     is_vector(
         rt,
-        long.into_vector(alloc).or(Err("it was handed back"))?,
+        must(rt, long.into_vector(alloc).or(Err(AllocError))),
         text,
     );
-    Ok(())
 }
 
-fn into_copies<N: Name>(rt: &impl Abort, alloc: Global) -> Result<(), Fail> {
+fn into_copies<N: Name>(rt: &impl Abort, alloc: Global) {
     for way in 0..WAYS {
-        let (name, text, _) = made::<N>(alloc, way)?;
-        is_vector(rt, name.into_copy(alloc)?, text);
+        let (name, text, _) = made::<N>(rt, alloc, way);
+        is_vector(rt, must(rt, name.into_copy(alloc)), text);
     }
-    Ok(())
 }
 
 /// A long one is a text, in the same owner.
-fn into_texts<N: Name>(rt: &impl Abort, alloc: Global) -> Result<(), Fail> {
-    let (name, text, _) = made::<N>(alloc, 0)?;
-    let vec = name.into_text(alloc).or(Err("it was handed back"))?;
+fn into_texts<N: Name>(rt: &impl Abort, alloc: Global) {
+    let (name, text, _) = made::<N>(rt, alloc, 0);
+    let vec = must(rt, name.into_text(alloc).or(Err(AllocError)));
     is_vector(rt, vec, text);
-    Ok(())
 }
 
-fn borrows<N: Name>(rt: &impl Abort, alloc: Global) -> Result<(), Fail> {
+fn borrows<N: Name>(rt: &impl Abort, alloc: Global) {
     for way in 0..WAYS {
-        let (name, text, kind) = made::<N>(alloc, way)?;
+        let (name, text, kind) = made::<N>(rt, alloc, way);
         let lent = name.lent().is_some();
         assert_eq!(rt; lent, kind == Kind::Borrowed);
         match name.into_lent() {
@@ -116,41 +111,37 @@ fn borrows<N: Name>(rt: &impl Abort, alloc: Global) -> Result<(), Fail> {
             Err(back) => is(rt, back, text, kind),
         }
     }
-    Ok(())
 }
 
-fn rooms<N: Name>(rt: &impl Abort, alloc: Global) -> Result<(), Fail> {
-    let mut string = String::with_capacity(alloc, 42)?;
+fn rooms<N: Name>(rt: &impl Abort, alloc: Global) {
+    let mut string = must(rt, String::with_capacity(alloc, 42));
     for _ in 0..10 {
-        string.push_str("abc")?;
+        must(rt, string.push_str("abc"));
     }
-    let taken = N::of_string(alloc, string)?;
-    let (copied, lent) = (N::of_str(alloc, "abc")?, N::of_static("abc"));
+    let taken = must(rt, N::of_string(alloc, string));
+    let (copied, lent) = (must(rt, N::of_str(alloc, "abc")), N::of_static("abc"));
     assert_eq!(rt;
         (copied.room(), lent.room(), taken.room() >= 30),
         (23, 3, true)
     );
-    Ok(())
 }
 
-fn shrinks<N: Name>(rt: &impl Abort, alloc: Global) -> Result<(), Fail> {
+fn shrinks<N: Name>(rt: &impl Abort, alloc: Global) {
     for (text, room) in [("abc", 23), (LONG, 42)] {
-        let mut name = N::of_str(alloc, text)?;
-        name.shrink(alloc, 4)?;
-        name.shrink_all(alloc)?;
+        let mut name = must(rt, N::of_str(alloc, text));
+        must(rt, name.shrink(alloc, 4));
+        must(rt, name.shrink_all(alloc));
         assert_eq!(rt; name.room() >= room, true);
-        is_vector(rt, name.into_copy(alloc)?, text);
+        is_vector(rt, must(rt, name.into_copy(alloc)), text);
     }
-    Ok(())
 }
 
-fn shrinks_lent<N: Name>(rt: &impl Abort, alloc: Global) -> Result<(), Fail> {
+fn shrinks_lent<N: Name>(rt: &impl Abort, alloc: Global) {
     let mut name = N::of_static("abc");
-    name.shrink(alloc, 0)?;
+    must(rt, name.shrink(alloc, 0));
     let room = name.room();
-    name.shrink_all(alloc)?;
+    must(rt, name.shrink_all(alloc));
     assert_eq!(rt; (room, name.room()), (3, 3));
-    Ok(())
 }
 
 /// Two names, and how they are ordered as paths.
@@ -166,9 +157,9 @@ const ORDERED: &[(&str, &str, Ordering)] = &[
     (".", "", Ordering::Greater),
 ];
 
-fn orders<N: Name>(rt: &impl Abort, alloc: Global) -> Result<(), Fail> {
+fn orders<N: Name>(rt: &impl Abort, alloc: Global) {
     for (left, right, order) in ORDERED {
-        let name = N::of_str(alloc, left)?;
+        let name = must(rt, N::of_str(alloc, left));
         let bytes = right.as_bytes();
         assert_eq!(rt;
             (
@@ -179,33 +170,30 @@ fn orders<N: Name>(rt: &impl Abort, alloc: Global) -> Result<(), Fail> {
             (*order, order.is_eq(), left == right)
         );
     }
-    Ok(())
 }
 
 /// A long name is equal to its bytes, as bytes and as a path.
-fn equalities<N: Name>(rt: &impl Abort, alloc: Global) -> Result<(), Fail> {
-    let (long, text, _) = made::<N>(alloc, 0)?;
+fn equalities<N: Name>(rt: &impl Abort, alloc: Global) {
+    let (long, text, _) = made::<N>(rt, alloc, 0);
     let bytes = text.as_bytes();
     assert_eq!(rt; (long.has_bytes(bytes), long.has_path(bytes)), (true, true));
-    Ok(())
 }
 
-fn guards<N: Name>(rt: &impl Abort, alloc: Global) -> Result<(), Fail> {
+fn guards<N: Name>(rt: &impl Abort, alloc: Global) {
     for way in 1..WAYS {
-        let (mut name, _, _) = made::<N>(alloc, way)?;
-        name.add(alloc, "/def")?;
+        let (mut name, _, _) = made::<N>(rt, alloc, way);
+        must(rt, name.add(alloc, "/def"));
         is(rt, name, "abc/def", Kind::Inline);
     }
-    Ok(())
 }
 
 /// A clone that was made before keeps what it had.
-fn guards_of_clones<N: Name>(rt: &impl Abort, alloc: Global) -> Result<(), Fail> {
-    let mut string = String::with_capacity(alloc, 42)?;
-    string.push_str(LETTERS)?;
-    let mut name = N::of_string(alloc, string)?;
-    let clone = name.cloned(alloc)?;
-    name.add(alloc, "/0123456789")?;
+fn guards_of_clones<N: Name>(rt: &impl Abort, alloc: Global) {
+    let mut string = must(rt, String::with_capacity(alloc, 42));
+    must(rt, string.push_str(LETTERS));
+    let mut name = must(rt, N::of_string(alloc, string));
+    let clone = must(rt, name.cloned(alloc));
+    must(rt, name.add(alloc, "/0123456789"));
     is(
         rt,
         name,
@@ -213,79 +201,76 @@ fn guards_of_clones<N: Name>(rt: &impl Abort, alloc: Global) -> Result<(), Fail>
         Kind::Allocated,
     );
     is(rt, clone, LETTERS, Kind::Allocated);
-    Ok(())
 }
 
-fn debugs<N: Name>(rt: &impl Abort, alloc: Global) -> Result<(), Fail> {
+fn debugs<N: Name>(rt: &impl Abort, alloc: Global) {
     let mut name = N::of_static("abc");
-    let (said, guard) = (name.said(alloc)?, name.guard_said(alloc)?);
+    let (said, guard) = (must(rt, name.said(alloc)), must(rt, name.guard_said(alloc)));
     assert_eq!(rt;
         (said.as_str(), guard.as_str()),
         ("\"abc\"", "[97, 98, 99]")
     );
-    Ok(())
 }
 
-fn owns<N: Name>(rt: &impl Abort, alloc: Global) -> Result<(), Fail> {
+fn owns<N: Name>(rt: &impl Abort, alloc: Global) {
     for way in 0..WAYS {
-        let (name, text, _) = made::<N>(alloc, way)?;
+        let (name, text, _) = made::<N>(rt, alloc, way);
         let kind = if way == 0 {
             Kind::Allocated
         } else {
             Kind::Inline
         };
-        is(rt, name.owned(alloc)?, text, kind);
+        is(rt, must(rt, name.owned(alloc)), text, kind);
     }
-    Ok(())
 }
 
-fn on_makers<N: Name>(rt: &impl Abort, alloc: Global) -> Result<(), Fail> {
+fn on_makers<N: Name>(rt: &impl Abort, alloc: Global) {
     plain::<N>(rt);
-    makers::<N>(rt, alloc)?;
-    lengths::<N>(rt, alloc)?;
-    owns::<N>(rt, alloc)?;
-    orders::<N>(rt, alloc)?;
-    equalities::<N>(rt, alloc)
+    makers::<N>(rt, alloc);
+    lengths::<N>(rt, alloc);
+    owns::<N>(rt, alloc);
+    orders::<N>(rt, alloc);
+    equalities::<N>(rt, alloc);
 }
 
-fn on_conversions<N: Name>(rt: &impl Abort, alloc: Global) -> Result<(), Fail> {
-    into_vectors::<N>(rt, alloc)?;
-    into_copies::<N>(rt, alloc)?;
-    into_texts::<N>(rt, alloc)?;
-    borrows::<N>(rt, alloc)
+fn on_conversions<N: Name>(rt: &impl Abort, alloc: Global) {
+    into_vectors::<N>(rt, alloc);
+    into_copies::<N>(rt, alloc);
+    into_texts::<N>(rt, alloc);
+    borrows::<N>(rt, alloc);
 }
 
-fn on_changes<N: Name>(rt: &impl Abort, alloc: Global) -> Result<(), Fail> {
-    rooms::<N>(rt, alloc)?;
-    shrinks::<N>(rt, alloc)?;
-    shrinks_lent::<N>(rt, alloc)?;
-    guards::<N>(rt, alloc)?;
-    guards_of_clones::<N>(rt, alloc)?;
-    debugs::<N>(rt, alloc)
+fn on_changes<N: Name>(rt: &impl Abort, alloc: Global) {
+    rooms::<N>(rt, alloc);
+    shrinks::<N>(rt, alloc);
+    shrinks_lent::<N>(rt, alloc);
+    guards::<N>(rt, alloc);
+    guards_of_clones::<N>(rt, alloc);
+    debugs::<N>(rt, alloc);
 }
 
-fn on<N: Name>(rt: &impl Abort, alloc: Global) -> Result<(), Fail> {
-    on_makers::<N>(rt, alloc)?;
-    on_conversions::<N>(rt, alloc)?;
-    on_changes::<N>(rt, alloc)
-}
-
-#[test]
-fn os_strings_on_rc(rt: HostRuntime) -> Result<(), Fail> {
-    on::<HipOsStr<'static, Rc>>(&rt, rt.alloc())
+fn on<N: Name>(rt: &impl Abort, alloc: Global) {
+    on_makers::<N>(rt, alloc);
+    on_conversions::<N>(rt, alloc);
+    on_changes::<N>(rt, alloc);
 }
 
 #[test]
-fn os_strings_on_unique(rt: HostRuntime) -> Result<(), Fail> {
-    on::<HipOsStr<'static, Unique>>(&rt, rt.alloc())
+fn os_strings_on_rc(rt: HostRuntime) {
+    on::<HipOsStr<'static, Rc>>(&rt, rt.alloc());
 }
 
 #[test]
-fn paths_on_rc(rt: HostRuntime) -> Result<(), Fail> {
-    on::<HipPath<'static, Rc>>(&rt, rt.alloc())
+fn os_strings_on_unique(rt: HostRuntime) {
+    on::<HipOsStr<'static, Unique>>(&rt, rt.alloc());
 }
 
 #[test]
-fn paths_on_unique(rt: HostRuntime) -> Result<(), Fail> {
-    on::<HipPath<'static, Unique>>(&rt, rt.alloc())
+fn paths_on_rc(rt: HostRuntime) {
+    on::<HipPath<'static, Rc>>(&rt, rt.alloc());
+}
+
+#[test]
+fn paths_on_unique(rt: HostRuntime) {
+    on::<HipPath<'static, Unique>>(&rt, rt.alloc());
 }
