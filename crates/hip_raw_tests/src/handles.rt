@@ -1,14 +1,7 @@
 //! Bytes in the handle itself, and lent bytes.
 use hip_raw::{Borrowed, Inline, Meter};
 use std::process::Abort;
-
-/// The value, or the end of the test where it was refused. A test with no way out but this is a straight line, and cheap to prove.
-pub(crate) fn must<T, E: Drop>(rt: &impl Abort, outcome: Result<T, E>) -> T {
-    match outcome {
-        Ok(value) => value,
-        Err(_) => panic!(rt; "it was refused"),
-    }
-}
+use std::test::Fail;
 
 /// Asserts what the handle has, and how many bytes were copied so far.
 fn has(rt: &impl Abort, inline: &Inline<23>, items: &[u8], meter: &Meter, copied: u128) {
@@ -19,12 +12,9 @@ fn has(rt: &impl Abort, inline: &Inline<23>, items: &[u8], meter: &Meter, copied
 }
 
 #[test]
-fn inline_bytes(rt: HostRuntime) {
+fn inline_bytes(rt: HostRuntime) -> Result<(), Fail> {
     let mut meter = Meter::new();
-    let abc = must(
-        &rt,
-        Inline::<23>::new_metered(b"abc", &mut meter).ok_or("abc fits"),
-    );
+    let abc = Inline::<23>::new_metered(b"abc", &mut meter).ok_or("abc fits")?;
     has(&rt, &abc, b"abc", &meter, 3);
     let mut copy = abc.clone_metered(&mut meter);
     has(&rt, &copy, b"abc", &meter, 6);
@@ -32,12 +22,13 @@ fn inline_bytes(rt: HostRuntime) {
     has(&rt, &copy, b"abcdef", &meter, 9);
     has(&rt, &abc, b"abc", &meter, 9);
     assert_eq!(rt; abc.capacity(), 23);
+    Ok(())
 }
 
 #[test]
-fn inline_writes(rt: HostRuntime) {
+fn inline_writes(rt: HostRuntime) -> Result<(), Fail> {
     let abcdef = Inline::<23>::new_unchecked(b"abcdef");
-    let mut copy = must(&rt, abcdef.clone());
+    let mut copy = abcdef.clone()?;
     copy.as_mut_slice()[0] = b'x';
     assert_eq!(rt; copy.as_slice(), b"xbcdef".as_slice());
     copy.truncate(2);
@@ -45,6 +36,7 @@ fn inline_writes(rt: HostRuntime) {
         (copy.as_slice(), abcdef.as_slice()),
         (b"xb".as_slice(), b"abcdef".as_slice())
     );
+    Ok(())
 }
 
 #[test]
