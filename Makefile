@@ -20,7 +20,7 @@ walks:
 	@cd crates/hip_walks && rt lib
 	@bench/walks.sh
 
-# Runs the program over a random script under valgrind, on both backends.
+# Runs the program over a random script under valgrind, on both backends, and the tests that `rt test` has built.
 .PHONY: leaks
 leaks:
 	@cd crates/hip_play && rt run < /dev/null > /dev/null

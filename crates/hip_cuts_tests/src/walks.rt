@@ -37,23 +37,46 @@ pub(crate) fn gives<'h, 'b, B: Backend, I: Unnumbered + Drop>(
 {
     let mut is_same = true;
     for text in want {
-        is_same &= is_piece(pieces.next(), text);
+        is_same &= draws_first(&mut pieces, text);
     }
     is_same & pieces.next().is_none()
 }
 
-/// What is drawn from an end.
-fn draw<'h, 'b, B: Backend, I: Unnumbered + RangesBack>(
+/// Whether this piece is drawn from the front.
+fn draws_first<'h, 'b, B: Backend, I: Unnumbered>(
+    pieces: &mut IterWrapper<'h, 'b, B, I>,
+    want: &str,
+) -> bool
+    requires { ⟦<Pieces<'h, HipStr<'b, B>, I> as hip_cuts::Walk>⟧.ready pieces.old }
+    ensures { ⟦<Pieces<'h, HipStr<'b, B>, I> as hip_cuts::Walk>⟧.ready pieces.new }
+{
+    is_piece(pieces.next(), want)
+}
+
+/// Whether it is drawn from the back.
+fn draws_last<'h, 'b, B: Backend, I: Unnumbered + RangesBack>(
+    pieces: &mut IterWrapper<'h, 'b, B, I>,
+    want: &str,
+) -> bool
+    requires { ⟦<Pieces<'h, HipStr<'b, B>, I> as hip_cuts::Walk>⟧.ready pieces.old }
+    ensures { ⟦<Pieces<'h, HipStr<'b, B>, I> as hip_cuts::Walk>⟧.ready pieces.new }
+{
+    is_piece(pieces.next_back(), want)
+}
+
+/// Whether it is drawn from the end that a letter of a script names.
+fn draws_one<'h, 'b, B: Backend, I: Unnumbered + RangesBack>(
     pieces: &mut IterWrapper<'h, 'b, B, I>,
     end: u8,
-) -> Option<Result<HipStr<'b, B>, AllocError>>
+    want: &str,
+) -> bool
     requires { ⟦<Pieces<'h, HipStr<'b, B>, I> as hip_cuts::Walk>⟧.ready pieces.old }
     ensures { ⟦<Pieces<'h, HipStr<'b, B>, I> as hip_cuts::Walk>⟧.ready pieces.new }
 {
     if end == b'F' {
-        pieces.next()
+        draws_first(pieces, want)
     } else {
-        pieces.next_back()
+        draws_last(pieces, want)
     }
 }
 
@@ -67,7 +90,7 @@ pub(crate) fn draws<'h, 'b, B: Backend, I: Unnumbered + RangesBack + Drop>(
 {
     let mut is_same = true;
     for (end, text) in script.as_bytes().iter().zip(want) {
-        is_same &= is_piece(draw(&mut pieces, *end), text);
+        is_same &= draws_one(&mut pieces, *end, text);
     }
     is_same & pieces.next_back().is_none()
 }

@@ -1,5 +1,6 @@
 //! What hipstr's own tests ask of texts, and the worked rows.
-use hip_text::{Backend, HipByt, HipStr, Kind, Meter, Rc, Unique};
+use crate::text::{Bytes, Tests, Text, is, on_backend, reads};
+use hip_text::{Kind, Rc, Unique};
 use std::alloc::Global;
 use std::borrow::CowStr;
 use std::cmp::Ordering;
@@ -14,97 +15,91 @@ const LONG: &str = "aaaaaaaaaaaaaaaaaaaaaaaaaaaaaaaaaaaaaaaaaa";
 const WAYS: usize = 3;
 
 /// A text by `from_string`, one that is copied, or one that is lent, as it was made, and where its bytes lie.
-fn made<'b, B: Backend>(
-    alloc: Global,
-    way: usize,
-) -> Result<(HipStr<'b, B>, &'static str, Kind), Fail> {
+fn made<T: Text>(alloc: Global, way: usize) -> Result<(T, &'static str, Kind), Fail> {
     Ok(match way {
         0 => {
             let string = String::from_str(alloc, LONG)?;
-            let long = HipStr::from_string(alloc, string).or(Err("no memory"))?;
-            (long, LONG, Kind::Allocated)
+            (T::of_string(alloc, string)?, LONG, Kind::Allocated)
         }
-        1 => (HipStr::from_str(alloc, "abc")?, "abc", Kind::Inline),
-        _ => (HipStr::borrowed("abc"), "abc", Kind::Borrowed),
+        1 => (T::of_str(alloc, "abc")?, "abc", Kind::Inline),
+        _ => (T::lent("abc"), "abc", Kind::Borrowed),
     })
 }
 
-fn into_strings<B: Backend>(rt: &impl Abort, alloc: Global) -> Result<(), Fail> {
+fn into_strings<T: Text>(rt: &impl Abort, alloc: Global) -> Result<(), Fail> {
     for way in 0..WAYS {
-        let (value, text, kind) = made::<B>(alloc, way)?;
-        let was = value.kind();
-        let string = value.into_string_copied(alloc).or(Err("no memory"))?;
+        let (value, text, kind) = made::<T>(alloc, way)?;
+        let was = value.place();
+        let string = value.copied(alloc)?;
         assert_eq!(rt; (string.as_str(), was), (text, kind));
     }
     Ok(())
 }
 
-fn into_bytes<B: Backend>(rt: &impl Abort, alloc: Global) -> Result<(), Fail> {
+fn into_bytes<T: Text>(rt: &impl Abort, alloc: Global) -> Result<(), Fail> {
     for way in 0..WAYS {
-        let (value, text, kind) = made::<B>(alloc, way)?;
-        let bytes = HipByt::from(value);
-        let was = bytes.kind();
-        let vec = bytes.into_vec_copied(alloc).or(Err("no memory"))?;
+        let (value, text, kind) = made::<T>(alloc, way)?;
+        let bytes = value.bytes();
+        let was = bytes.place();
+        let vec = bytes.copied(alloc)?;
         assert_eq!(rt; (vec.as_slice(), was), (text.as_bytes(), kind));
     }
     Ok(())
 }
 
-fn into_lent_cow<B: Backend>(rt: &impl Abort, alloc: Global) -> Result<(), Fail> {
-    let Ok(CowStr::Borrowed(lent)) = HipStr::<B>::from_static("abc").into_cow(alloc) else {
+fn into_lent_cow<T: Text>(rt: &impl Abort, alloc: Global) -> Result<(), Fail> {
+    let CowStr::Borrowed(lent) = T::of_static("abc").cow(alloc)? else {
         return Err(Fail::from("it was copied"));
     };
-    assert_eq!(rt; lent, "abc");
+    reads(rt, lent, "abc");
     Ok(())
 }
 
-fn into_owned_cow<B: Backend>(rt: &impl Abort, alloc: Global) -> Result<(), Fail> {
-    let Ok(CowStr::Owned(owned)) = HipStr::<B>::from_str(alloc, "abc")?.into_cow(alloc) else {
+fn into_owned_cow<T: Text>(rt: &impl Abort, alloc: Global) -> Result<(), Fail> {
+    let CowStr::Owned(owned) = T::of_str(alloc, "abc")?.cow(alloc)? else {
         return Err(Fail::from("it wasn't copied"));
     };
-    assert_eq!(rt; owned.as_str(), "abc");
+    reads(rt, owned.as_str(), "abc");
     Ok(())
 }
 
 /// Asserts that bytes are a text of the letters.
-fn is_letters<B: Backend>(rt: &impl Abort, bytes: HipByt<B>) -> Result<(), Fail> {
-    let text = HipStr::from_utf8(bytes).or(Err("it isn't UTF-8"))?;
-    assert_eq!(rt; (text.as_str(), text.kind()), (LETTERS, Kind::Borrowed));
+fn is_letters<T: Text>(rt: &impl Abort, bytes: T::Bytes) -> Result<(), Fail> {
+    let text = T::of_utf8(bytes).or(Err("it isn't UTF-8"))?;
+    is(rt, text, LETTERS, Kind::Borrowed);
     Ok(())
 }
 
-fn from_bytes<B: Backend>(rt: &impl Abort, alloc: Global) -> Result<(), Fail> {
-    let lent = HipByt::<B>::borrowed(LETTERS.as_bytes());
-    is_letters(rt, lent.clone(alloc)?)?;
-    is_letters(rt, lent)
+fn from_bytes<T: Text>(rt: &impl Abort, alloc: Global) -> Result<(), Fail> {
+    let lent = T::Bytes::lent(LETTERS.as_bytes());
+    is_letters::<T>(rt, lent.cloned(alloc)?)?;
+    is_letters::<T>(rt, lent)
 }
 
-fn from_slices<B: Backend>(rt: &impl Abort, alloc: Global) -> Result<(), Fail> {
-    let copied = HipStr::<B>::try_from_slice(alloc, LETTERS.as_bytes()).or(Err("no text"))?;
-    assert_eq!(rt; copied.as_str(), LETTERS);
+fn from_slices<T: Text>(rt: &impl Abort, alloc: Global) -> Result<(), Fail> {
+    let copied = T::of_slice(alloc, LETTERS.as_bytes()).or(Err("no text"))?;
+    is(rt, copied, LETTERS, Kind::Allocated);
     Ok(())
 }
 
-fn from_vectors<B: Backend>(rt: &impl Abort, alloc: Global) -> Result<(), Fail> {
+fn from_vectors<T: Text>(rt: &impl Abort, alloc: Global) -> Result<(), Fail> {
     let vec = Vec::from_slice(alloc, LONG.as_bytes())?;
-    let taken = HipStr::<B>::try_from_vec(alloc, vec).or(Err("no text"))?;
-    assert_eq!(rt; taken.as_str(), LONG);
+    let taken = T::of_vector(alloc, vec).or(Err("no text"))?;
+    is(rt, taken, LONG, Kind::Allocated);
     Ok(())
 }
 
 /// Texts compare by their bytes, wherever these lie.
-fn order<B: Backend>(rt: &impl Abort, alloc: Global) -> Result<(), Fail> {
+fn order<T: Text>(rt: &impl Abort, alloc: Global) -> Result<(), Fail> {
+    let bb = T::lent("bb");
     let string = String::from_str(alloc, "bc")?;
-    let (bb, bc) = (
-        HipStr::<B>::borrowed("bb"),
-        HipStr::<B>::borrowed(string.as_str()),
-    );
+    let bc = string.as_str();
     assert_eq!(rt;
         (
-            bb.cmp(&bb),
-            bb.cmp(&bc),
-            bc.cmp(&bb),
-            bb.str_cmp(string.as_str())
+            bb.order(&bb),
+            T::order_lent("bb", bc),
+            T::order_lent(bc, "bb"),
+            bb.order_of(bc)
         ),
         (
             Ordering::Equal,
@@ -116,105 +111,120 @@ fn order<B: Backend>(rt: &impl Abort, alloc: Global) -> Result<(), Fail> {
     Ok(())
 }
 
-fn equality<B: Backend>(rt: &impl Abort, alloc: Global) -> Result<(), Fail> {
+fn equality<T: Text>(rt: &impl Abort, alloc: Global) -> Result<(), Fail> {
     for way in 0..WAYS {
-        let (value, text, _) = made::<B>(alloc, way)?;
-        let clone = value.clone(alloc)?;
-        let other = HipStr::<Unique>::borrowed(text);
-        assert_eq!(rt; (value == clone, value.eq_with(&other)), (true, true));
+        let (value, text, _) = made::<T>(alloc, way)?;
+        let clone = value.cloned(alloc)?;
+        assert_eq!(rt; (value.is(&clone), value.is_on_unique(text)), (true, true));
     }
     Ok(())
 }
 
 /// A slice outlives its source, and copies what fits the handle.
-fn outlives<B: Backend>(rt: &impl Abort, alloc: Global) -> Result<(), Fail> {
-    let source = HipStr::<B>::from_str(alloc, "Hello John")?;
-    let mut meter = Meter::new();
-    let name = source.slice_metered(alloc, 6.., &mut meter)?;
+fn outlives<T: Text>(rt: &impl Abort, alloc: Global) -> Result<(), Fail> {
+    let source = T::of_str(alloc, "Hello John")?;
+    let (name, copied) = source.rest(alloc, 6)?;
     drop(source);
     assert_eq!(rt;
-        (name.as_str(), name.kind(), meter.copied()),
+        (name.text(), name.place(), copied),
         ("John", Kind::Inline, 4)
     );
     Ok(())
 }
 
 /// What is pushed at the limit of the handle, how long the text is then, and where it lies.
-const AT_THE_LIMIT: &[(usize, char, usize, Kind)] = &[
+type Pushed = (usize, char, usize, Kind);
+
+const AT_THE_LIMIT: &[Pushed] = &[
     (19, '😀', 23, Kind::Inline),
     (21, 'é', 23, Kind::Inline),
     (20, '😀', 24, Kind::Allocated),
     (22, 'é', 24, Kind::Allocated),
 ];
 
-fn pushes<B: Backend>(rt: &impl Abort, alloc: Global) -> Result<(), Fail> {
-    for (count, c, len, kind) in AT_THE_LIMIT {
-        let mut text = HipStr::<B>::borrowed("a").repeat(alloc, *count)?;
-        text.push(alloc, *c)?;
-        assert_eq!(rt;
-            (text.len(), text.kind(), text.pop()),
-            (*len, *kind, Some(*c))
-        );
+fn is_pushed<T: Text>(rt: &impl Abort, alloc: Global, row: Pushed) -> Result<(), Fail> {
+    let (count, c, len, kind) = row;
+    let mut text = T::lent("a").repeated(alloc, count)?;
+    text.add_char(alloc, c)?;
+    assert_eq!(rt;
+        (text.size(), text.place(), text.take_last()),
+        (len, kind, Some(c))
+    );
+    Ok(())
+}
+
+fn pushes<T: Text>(rt: &impl Abort, alloc: Global) -> Result<(), Fail> {
+    for row in AT_THE_LIMIT {
+        is_pushed::<T>(rt, alloc, *row)?;
     }
     Ok(())
 }
 
-fn shortens<B: Backend>(rt: &impl Abort, alloc: Global) -> Result<(), Fail> {
-    let mut text = HipStr::<B>::from_str(alloc, "aé😀")?;
-    text.truncate(9);
-    text.truncate(7);
+fn shortens<T: Text>(rt: &impl Abort, alloc: Global) -> Result<(), Fail> {
+    let mut text = T::of_str(alloc, "aé😀")?;
+    text.shorten(9)?;
+    text.shorten(7)?;
     assert_eq!(rt;
-        (text.pop(), text.pop(), text.pop(), text.pop()),
+        (
+            text.take_last(),
+            text.take_last(),
+            text.take_last(),
+            text.take_last()
+        ),
         (Some('😀'), Some('é'), Some('a'), None)
     );
     Ok(())
 }
 
-fn shortens_at_a_boundary<B: Backend>(rt: &impl Abort, alloc: Global) -> Result<(), Fail> {
-    let mut text = HipStr::<B>::from_str(alloc, "aé😀")?;
-    text.truncate(3);
-    assert_eq!(rt; text.as_str(), "aé");
+fn shortens_at_a_boundary<T: Text>(rt: &impl Abort, alloc: Global) -> Result<(), Fail> {
+    let mut text = T::of_str(alloc, "aé😀")?;
+    text.shorten(3)?;
+    reads(rt, text.text(), "aé");
     Ok(())
 }
 
-fn on<B: Backend>(rt: &impl Abort, alloc: Global) -> Result<(), Fail> {
-    into_strings::<B>(rt, alloc)?;
-    into_bytes::<B>(rt, alloc)?;
-    into_lent_cow::<B>(rt, alloc)?;
-    into_owned_cow::<B>(rt, alloc)
+fn on<T: Text>(rt: &impl Abort, alloc: Global) -> Result<(), Fail> {
+    into_strings::<T>(rt, alloc)?;
+    into_bytes::<T>(rt, alloc)?;
+    into_lent_cow::<T>(rt, alloc)?;
+    into_owned_cow::<T>(rt, alloc)
 }
 
-fn on_bytes<B: Backend>(rt: &impl Abort, alloc: Global) -> Result<(), Fail> {
-    from_bytes::<B>(rt, alloc)?;
-    from_slices::<B>(rt, alloc)?;
-    from_vectors::<B>(rt, alloc)
+fn on_bytes<T: Text>(rt: &impl Abort, alloc: Global) -> Result<(), Fail> {
+    from_bytes::<T>(rt, alloc)?;
+    from_slices::<T>(rt, alloc)?;
+    from_vectors::<T>(rt, alloc)
 }
 
-fn on_too<B: Backend>(rt: &impl Abort, alloc: Global) -> Result<(), Fail> {
-    order::<B>(rt, alloc)?;
-    equality::<B>(rt, alloc)?;
-    outlives::<B>(rt, alloc)
+fn on_too<T: Text>(rt: &impl Abort, alloc: Global) -> Result<(), Fail> {
+    order::<T>(rt, alloc)?;
+    equality::<T>(rt, alloc)?;
+    outlives::<T>(rt, alloc)
 }
 
-fn on_changes<B: Backend>(rt: &impl Abort, alloc: Global) -> Result<(), Fail> {
-    pushes::<B>(rt, alloc)?;
-    shortens::<B>(rt, alloc)?;
-    shortens_at_a_boundary::<B>(rt, alloc)
+fn on_changes<T: Text>(rt: &impl Abort, alloc: Global) -> Result<(), Fail> {
+    pushes::<T>(rt, alloc)?;
+    shortens::<T>(rt, alloc)?;
+    shortens_at_a_boundary::<T>(rt, alloc)
 }
 
-fn on_each<B: Backend>(rt: &impl Abort, alloc: Global) -> Result<(), Fail> {
-    on::<B>(rt, alloc)?;
-    on_bytes::<B>(rt, alloc)?;
-    on_too::<B>(rt, alloc)?;
-    on_changes::<B>(rt, alloc)
+struct All;
+
+impl Tests for All {
+    fn on<T: Text>(rt: &impl Abort, alloc: Global) -> Result<(), Fail> {
+        on::<T>(rt, alloc)?;
+        on_bytes::<T>(rt, alloc)?;
+        on_too::<T>(rt, alloc)?;
+        on_changes::<T>(rt, alloc)
+    }
 }
 
 #[test]
 fn on_rc(rt: HostRuntime) -> Result<(), Fail> {
-    on_each::<Rc>(&rt, rt.alloc())
+    on_backend::<All, Rc>(&rt, rt.alloc())
 }
 
 #[test]
 fn on_unique(rt: HostRuntime) -> Result<(), Fail> {
-    on_each::<Unique>(&rt, rt.alloc())
+    on_backend::<All, Unique>(&rt, rt.alloc())
 }

@@ -1,5 +1,6 @@
 //! Bytes that are UTF-8, that aren't, and their repair.
-use hip_text::{Backend, HipByt, HipStr, Kind, Rc, Unique};
+use crate::text::{Bytes, Refusal, Tests, Text, error_of, on_backend, reads};
+use hip_text::{Kind, Rc, Unique};
 use std::alloc::Global;
 use std::process::Abort;
 use std::test::Fail;
@@ -20,7 +21,9 @@ const ACCEPTED: &[&[u8]] = &[
 ];
 
 /// Bytes that aren't UTF-8, where their longest front that is ends, and how long what is wrong there is, where it doesn't just end.
-const REFUSED: &[(&[u8], usize, Option<usize>)] = &[
+type Refused = (&'static [u8], usize, Option<usize>);
+
+const REFUSED: &[Refused] = &[
     // Continuations alone.
     (b"\x80", 0, Some(1)),
     (b"\xBF", 0, Some(1)),
@@ -50,7 +53,9 @@ const REFUSED: &[(&[u8], usize, Option<usize>)] = &[
 ];
 
 /// Bytes and their repair.
-const REPAIRED: &[(&[u8], &str)] = &[
+type Repaired = (&'static [u8], &'static str);
+
+const REPAIRED: &[Repaired] = &[
     (b"a\xFFb", "a\u{FFFD}b"),
     (b"\xE2\x82a", "\u{FFFD}a"),
     (b"a\xF0\x9F\x98a", "a\u{FFFD}a"),
@@ -62,84 +67,89 @@ const REPAIRED: &[(&[u8], &str)] = &[
     (b"\xE2(\xA1", "\u{FFFD}(\u{FFFD}"),
 ];
 
-fn accepts<B: Backend>(rt: &impl Abort, alloc: Global) -> Result<(), Fail> {
+fn accepts<T: Text>(rt: &impl Abort, alloc: Global, bytes: &'static [u8]) -> Result<(), Fail> {
+    let text = T::of_utf8(T::Bytes::lent(bytes)).or(Err("it isn't UTF-8"))?;
+    let is_copied = T::of_slice(alloc, bytes).is_ok();
+    assert_eq!(rt;
+        (text.encoded(), text.place(), is_copied),
+        (bytes, Kind::Borrowed, true)
+    );
+    Ok(())
+}
+
+fn refuses<T: Text>(rt: &impl Abort, row: Refused) -> Result<(), Fail> {
+    let (bytes, front, len) = row;
+    let error = error_of::<T>(T::Bytes::lent(bytes))?;
+    assert_eq!(rt; (error.cause(), error.slice()), ((front, len), bytes));
+    Ok(())
+}
+
+fn repairs<T: Text>(rt: &impl Abort, alloc: Global, row: Repaired) -> Result<(), Fail> {
+    let repaired = T::of_utf8_lossy(alloc, T::Bytes::lent(row.0))?;
+    reads(rt, repaired.text(), row.1);
+    Ok(())
+}
+
+fn tables_on<T: Text>(rt: &impl Abort, alloc: Global) -> Result<(), Fail> {
     for bytes in ACCEPTED {
-        let text = HipStr::<B>::from_utf8(HipByt::borrowed(bytes)).or(Err("it isn't UTF-8"))?;
-        let is_copied = HipStr::<B>::try_from_slice(alloc, bytes).is_ok();
-        assert_eq!(rt;
-            (text.as_bytes(), text.kind(), is_copied),
-            (*bytes, Kind::Borrowed, true)
-        );
+        accepts::<T>(rt, alloc, bytes)?;
     }
-    Ok(())
-}
-
-fn refuses<B: Backend>(rt: &impl Abort) -> Result<(), Fail> {
-    for (bytes, front, len) in REFUSED {
-        let error = HipStr::<B>::from_utf8(HipByt::borrowed(bytes)).err();
-        let error = error.ok_or("it is UTF-8")?;
-        let cause = error.utf8_error();
-        assert_eq!(rt;
-            (cause.valid_up_to(), cause.error_len(), error.as_bytes()),
-            (*front, *len, *bytes)
-        );
+    for row in REFUSED {
+        refuses::<T>(rt, *row)?;
     }
-    Ok(())
-}
-
-fn repairs<B: Backend>(rt: &impl Abort, alloc: Global) -> Result<(), Fail> {
-    for (bytes, text) in REPAIRED {
-        let repaired = HipStr::<B>::from_utf8_lossy(alloc, HipByt::borrowed(bytes));
-        assert_eq!(rt; repaired.or(Err("no memory"))?.as_str(), *text);
+    for row in REPAIRED {
+        repairs::<T>(rt, alloc, *row)?;
     }
     Ok(())
 }
 
 /// Seven faults fit the handle itself, eight don't.
-fn repairs_by_length<B: Backend>(rt: &impl Abort, alloc: Global) -> Result<(), Fail> {
+fn repairs_by_length<T: Text>(rt: &impl Abort, alloc: Global) -> Result<(), Fail> {
     for (len, kind) in [(7, Kind::Inline), (8, Kind::Allocated)] {
-        let faults = HipByt::<B>::borrowed(b"\xFF").repeat(alloc, len)?;
-        let repaired = HipStr::from_utf8_lossy(alloc, faults).or(Err("no memory"))?;
-        assert_eq!(rt; (repaired.len(), repaired.kind()), (3 * len, kind));
+        let faults = T::Bytes::lent(b"\xFF").repeated(alloc, len)?;
+        let repaired = T::of_utf8_lossy(alloc, faults)?;
+        assert_eq!(rt; (repaired.size(), repaired.place()), (3 * len, kind));
     }
     Ok(())
 }
 
-fn prints_itself<B: Backend>(rt: &impl Abort, alloc: Global) -> Result<(), Fail> {
-    let error = HipStr::<B>::from_utf8(HipByt::borrowed(b"abc\xFF")).err();
-    let error = error.ok_or("it is UTF-8")?;
-    assert_eq!(rt;
-        format!(in alloc; "{error:?}")?.as_str(),
-        "FromUtf8Error { bytes: [97, 98, 99, 255], error: Utf8Error { valid_up_to: 3, error_len: Some(1) } }"
+fn prints_itself<T: Text>(rt: &impl Abort, alloc: Global) -> Result<(), Fail> {
+    let error = error_of::<T>(T::Bytes::lent(b"abc\xFF"))?;
+    reads(
+        rt,
+        error.debugged(alloc)?.as_str(),
+        "FromUtf8Error { bytes: [97, 98, 99, 255], error: Utf8Error { valid_up_to: 3, error_len: Some(1) } }",
     );
     Ok(())
 }
 
-fn prints_a_cut<B: Backend>(rt: &impl Abort, alloc: Global) -> Result<(), Fail> {
-    let cut = HipStr::<B>::from_utf8(HipByt::borrowed(b"a\xC3")).err();
-    let cut = cut.ok_or("it is UTF-8")?;
-    assert_eq!(rt;
-        format!(in alloc; "{cut}")?.as_str(),
-        "incomplete utf-8 byte sequence from index 1"
+fn prints_a_cut<T: Text>(rt: &impl Abort, alloc: Global) -> Result<(), Fail> {
+    let cut = error_of::<T>(T::Bytes::lent(b"a\xC3"))?;
+    reads(
+        rt,
+        cut.said(alloc)?.as_str(),
+        "incomplete utf-8 byte sequence from index 1",
     );
     Ok(())
 }
 
-fn on<B: Backend>(rt: &impl Abort, alloc: Global) -> Result<(), Fail> {
-    accepts::<B>(rt, alloc)?;
-    refuses::<B>(rt)?;
-    repairs::<B>(rt, alloc)?;
-    repairs_by_length::<B>(rt, alloc)?;
-    prints_itself::<B>(rt, alloc)?;
-    prints_a_cut::<B>(rt, alloc)
+struct All;
+
+impl Tests for All {
+    fn on<T: Text>(rt: &impl Abort, alloc: Global) -> Result<(), Fail> {
+        tables_on::<T>(rt, alloc)?;
+        repairs_by_length::<T>(rt, alloc)?;
+        prints_itself::<T>(rt, alloc)?;
+        prints_a_cut::<T>(rt, alloc)
+    }
 }
 
 #[test]
 fn on_rc(rt: HostRuntime) -> Result<(), Fail> {
-    on::<Rc>(&rt, rt.alloc())
+    on_backend::<All, Rc>(&rt, rt.alloc())
 }
 
 #[test]
 fn on_unique(rt: HostRuntime) -> Result<(), Fail> {
-    on::<Unique>(&rt, rt.alloc())
+    on_backend::<All, Unique>(&rt, rt.alloc())
 }

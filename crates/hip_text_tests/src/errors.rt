@@ -1,7 +1,6 @@
 //! Ranges that are refused, and bytes that aren't a text.
-use hip_text::{
-    Backend, BytesFault, HipByt, HipStr, Kind, Rc, SliceErrorKind, SliceRefusal, Unique,
-};
+use crate::text::{Bytes, Refusal, Tests, Text, error_of, is, on_backend, reads};
+use hip_text::{BytesFault, Kind, Rc, SliceErrorKind, Unique};
 use std::alloc::Global;
 use std::ops::Bound;
 use std::process::Abort;
@@ -43,71 +42,55 @@ const REFUSED: &[Refused] = &[
     },
 ];
 
-fn refuses<B: Backend>(rt: &impl Abort, alloc: Global, row: Refused) -> Result<(), Fail> {
-    let text = HipStr::<B>::borrowed("aéz");
+fn refuses<T: Text>(rt: &impl Abort, alloc: Global, row: Refused) -> Result<(), Fail> {
     let (low, high) = row.bounds;
-    let Err(SliceRefusal::Slice(error)) = text.try_slice_bounds(alloc, low, high) else {
-        return Err(Fail::from("it was sliced"));
-    };
-    let said = format!(in alloc; "{error}")?;
-    assert_eq!(rt; (error.kind(), said.as_str()), (row.kind, row.text));
-    Ok(())
-}
-
-fn refuses_all<B: Backend>(rt: &impl Abort, alloc: Global) -> Result<(), Fail> {
-    for row in REFUSED {
-        refuses::<B>(rt, alloc, *row)?;
-    }
+    let (kind, said) = T::lent("aéz").refusal(alloc, low, high)?;
+    assert_eq!(rt; (kind, said.as_str()), (row.kind, row.text));
     Ok(())
 }
 
 /// Bytes that aren't a text come back from the error as they were.
-fn is_kept<B: Backend>(rt: &impl Abort, bytes: HipByt<B>, kind: Kind) -> Result<(), Fail> {
-    let error = HipStr::from_utf8(bytes).err().ok_or("it is UTF-8")?;
-    let front = error.utf8_error().valid_up_to();
-    let back = error.into_bytes();
+fn is_kept<T: Text>(rt: &impl Abort, bytes: T::Bytes, kind: Kind) -> Result<(), Fail> {
+    let error = error_of::<T>(bytes)?;
+    let (front, _) = error.cause();
+    let back = error.back();
     assert_eq!(rt;
-        (front, back.kind(), back.eq_slice(b"abc\xFF")),
+        (front, back.place(), back.holds(b"abc\xFF")),
         (3, kind, true)
     );
     Ok(())
 }
 
-fn not_utf8<B: Backend>(rt: &impl Abort, alloc: Global) -> Result<(), Fail> {
-    is_kept(
+fn not_utf8<T: Text>(rt: &impl Abort, alloc: Global) -> Result<(), Fail> {
+    let bytes = T::Bytes::of_slice(alloc, b"abc\xFF")?;
+    is_kept::<T>(rt, bytes, Kind::Inline)
+}
+
+/// As the last, where the bytes lie with an owner that has room.
+fn not_utf8_with_room<T: Text>(rt: &impl Abort, alloc: Global) -> Result<(), Fail> {
+    let roomy = T::Bytes::with_room(alloc, 42, b"abc\xFF")?;
+    is_kept::<T>(rt, roomy, Kind::Allocated)
+}
+
+fn text_of_the_error<T: Text>(rt: &impl Abort, alloc: Global) -> Result<(), Fail> {
+    let bytes = T::Bytes::of_slice(alloc, b"abc\xFFc")?;
+    let said = error_of::<T>(bytes)?.said(alloc)?;
+    reads(
         rt,
-        HipByt::<B>::from_slice(alloc, b"abc\xFF")?,
-        Kind::Inline,
-    )
-}
-
-/// As the last, where the bytes lie with an owner that isn't shared.
-fn not_utf8_with_room(rt: &impl Abort, alloc: Global) -> Result<(), Fail> {
-    let mut roomy = HipByt::<Unique>::with_capacity(alloc, 42)?;
-    roomy.push_slice(alloc, b"abc\xFF")?;
-    is_kept(rt, roomy, Kind::Allocated)
-}
-
-fn text_of_the_error<B: Backend>(rt: &impl Abort, alloc: Global) -> Result<(), Fail> {
-    let bytes = HipByt::<B>::from_slice(alloc, b"abc\xFFc")?;
-    let error = HipStr::from_utf8(bytes).err().ok_or("it is UTF-8")?;
-    assert_eq!(rt;
-        format!(in alloc; "{error}")?.as_str(),
-        "invalid utf-8 sequence of 1 bytes from index 3"
+        said.as_str(),
+        "invalid utf-8 sequence of 1 bytes from index 3",
     );
     Ok(())
 }
 
-fn not_utf8_in_a_slice<B: Backend>(rt: &impl Abort, alloc: Global) {
-    let refused = HipStr::<B>::try_from_slice(alloc, b"abc\x80").err();
+fn not_utf8_in_a_slice<T: Text>(rt: &impl Abort, alloc: Global) {
+    let refused = T::of_slice(alloc, b"abc\x80").err();
     assert_eq!(rt; refused, Some(BytesFault::NotUtf8));
 }
 
-fn not_utf8_in_a_vector<B: Backend>(rt: &impl Abort, alloc: Global) -> Result<(), Fail> {
+fn not_utf8_in_a_vector<T: Text>(rt: &impl Abort, alloc: Global) -> Result<(), Fail> {
     let vec = Vec::from_slice(alloc, b"abc\x80")?;
-    let (fault, back) = HipStr::<B>::try_from_vec(alloc, vec)
-        .err()
-        .ok_or("it is UTF-8")?;
+    let (fault, back) = T::of_vector(alloc, vec).err().ok_or("it is UTF-8")?;
     assert_eq!(rt;
         (fault, back.as_slice()),
         (BytesFault::NotUtf8, b"abc\x80".as_slice())
@@ -115,36 +98,46 @@ fn not_utf8_in_a_vector<B: Backend>(rt: &impl Abort, alloc: Global) -> Result<()
     Ok(())
 }
 
-fn repaired<B: Backend>(rt: &impl Abort, alloc: Global) -> Result<(), Fail> {
-    let broken = HipByt::<B>::from_slice(alloc, b"a\xFFb")?;
-    let text = HipStr::from_utf8_lossy(alloc, broken).or(Err("no memory"))?;
-    assert_eq!(rt; text.as_str(), "a\u{FFFD}b");
+fn repaired<T: Text>(rt: &impl Abort, alloc: Global) -> Result<(), Fail> {
+    let broken = T::Bytes::of_slice(alloc, b"a\xFFb")?;
+    is(
+        rt,
+        T::of_utf8_lossy(alloc, broken)?,
+        "a\u{FFFD}b",
+        Kind::Inline,
+    );
     Ok(())
 }
 
-fn whole_as_it_was<B: Backend>(rt: &impl Abort, alloc: Global) -> Result<(), Fail> {
-    let whole = HipStr::from_utf8_lossy(alloc, HipByt::<B>::borrowed(b"abc"));
-    assert_eq!(rt; whole.or(Err("no memory"))?.kind(), Kind::Borrowed);
+fn whole_as_it_was<T: Text>(rt: &impl Abort, alloc: Global) -> Result<(), Fail> {
+    let whole = T::of_utf8_lossy(alloc, T::Bytes::lent(b"abc"))?;
+    is(rt, whole, "abc", Kind::Borrowed);
     Ok(())
 }
 
-fn on<B: Backend>(rt: &impl Abort, alloc: Global) -> Result<(), Fail> {
-    refuses_all::<B>(rt, alloc)?;
-    not_utf8::<B>(rt, alloc)?;
-    text_of_the_error::<B>(rt, alloc)?;
-    not_utf8_in_a_slice::<B>(rt, alloc);
-    not_utf8_in_a_vector::<B>(rt, alloc)?;
-    repaired::<B>(rt, alloc)?;
-    whole_as_it_was::<B>(rt, alloc)
+struct All;
+
+impl Tests for All {
+    fn on<T: Text>(rt: &impl Abort, alloc: Global) -> Result<(), Fail> {
+        for row in REFUSED {
+            refuses::<T>(rt, alloc, *row)?;
+        }
+        not_utf8::<T>(rt, alloc)?;
+        not_utf8_with_room::<T>(rt, alloc)?;
+        text_of_the_error::<T>(rt, alloc)?;
+        not_utf8_in_a_slice::<T>(rt, alloc);
+        not_utf8_in_a_vector::<T>(rt, alloc)?;
+        repaired::<T>(rt, alloc)?;
+        whole_as_it_was::<T>(rt, alloc)
+    }
 }
 
 #[test]
 fn on_rc(rt: HostRuntime) -> Result<(), Fail> {
-    on::<Rc>(&rt, rt.alloc())
+    on_backend::<All, Rc>(&rt, rt.alloc())
 }
 
 #[test]
 fn on_unique(rt: HostRuntime) -> Result<(), Fail> {
-    not_utf8_with_room(&rt, rt.alloc())?;
-    on::<Unique>(&rt, rt.alloc())
+    on_backend::<All, Unique>(&rt, rt.alloc())
 }

@@ -1,6 +1,7 @@
 //! Tests of texts, from outside of hip_text: what no clause says, as that calls succeed where there is memory, exact texts, and values
 //! that come from elsewhere. On either backend.
 //!
+//! - `text`: what they ask of texts and of bytes.
 //! - `makers`: makers, conversions, pushes, `pop`, case, comparisons and guards.
 //! - `carried`: what hipstr's own tests ask, and the worked rows.
 //! - `decoding`: bytes that are UTF-8, that aren't, and their repair.
@@ -18,3 +19,5 @@ mod errors;
 mod made;
 #[cfg(test)]
 mod makers;
+#[cfg(test)]
+mod text;

@@ -1,5 +1,6 @@
 //! Makers, conversions, pushes, `pop`, case, comparisons and guards.
-use hip_text::{Backend, HipStr, Kind, Rc, Unique};
+use crate::text::{Tests, Text, holds, is, on_backend, reads};
+use hip_text::{Kind, Rc, Unique};
 use std::alloc::Global;
 use std::borrow::CowStr;
 use std::cmp::Ordering;
@@ -10,154 +11,123 @@ const LETTERS: &str = "abcdefghijklmnopqrstuvwxyz";
 
 const STARS: &str = "******************************************";
 
-/// Asserts what a text holds, and where.
-fn holds<B: Backend>(rt: &impl Abort, text: &HipStr<B>, items: &str, kind: Kind) {
-    assert_eq!(rt;
-        (text.as_str(), text.len(), text.kind()),
-        (items, items.len(), kind)
-    );
-}
-
-/// The same of a text that nothing else is asked of.
-fn is<B: Backend>(rt: &impl Abort, text: HipStr<B>, items: &str, kind: Kind) {
-    holds(rt, &text, items, kind);
-}
-
-fn makers<B: Backend>(rt: &impl Abort, alloc: Global) -> Result<(), Fail> {
-    is(rt, HipStr::<B>::new(), "", Kind::Inline);
-    is(
-        rt,
-        HipStr::<B>::from_static(LETTERS),
-        LETTERS,
-        Kind::Borrowed,
-    );
-    is(
-        rt,
-        HipStr::<B>::from_str(alloc, "abc")?,
-        "abc",
-        Kind::Inline,
-    );
-    let long = HipStr::<B>::from_str(alloc, LETTERS)?;
-    is(rt, long.clone(alloc)?, LETTERS, Kind::Allocated);
-    is(rt, long.slice(alloc, 6..9)?, "ghi", Kind::Inline);
+fn makers<T: Text>(rt: &impl Abort, alloc: Global) -> Result<(), Fail> {
+    is(rt, T::empty(), "", Kind::Inline);
+    is(rt, T::of_static(LETTERS), LETTERS, Kind::Borrowed);
+    is(rt, T::of_str(alloc, "abc")?, "abc", Kind::Inline);
+    let long = T::of_str(alloc, LETTERS)?;
+    is(rt, long.cloned(alloc)?, LETTERS, Kind::Allocated);
+    is(rt, long.part(alloc, 6, 9)?, "ghi", Kind::Inline);
     Ok(())
 }
 
-fn cows<B: Backend>(rt: &impl Abort, alloc: Global) -> Result<(), Fail> {
-    let lent = HipStr::<B>::from_cow(alloc, CowStr::Borrowed(LETTERS));
-    is(rt, lent.or(Err("no memory"))?, LETTERS, Kind::Borrowed);
+fn cows<T: Text>(rt: &impl Abort, alloc: Global) -> Result<(), Fail> {
+    let lent = T::of_cow(alloc, CowStr::Borrowed(LETTERS))?;
+    is(rt, lent, LETTERS, Kind::Borrowed);
     let owned = CowStr::Owned(String::from_str(alloc, LETTERS)?);
-    let made = HipStr::<B>::from_cow(alloc, owned);
-    is(rt, made.or(Err("no memory"))?, LETTERS, Kind::Allocated);
+    is(rt, T::of_cow(alloc, owned)?, LETTERS, Kind::Allocated);
     Ok(())
 }
 
-fn strings<B: Backend>(rt: &impl Abort, alloc: Global) -> Result<(), Fail> {
-    for text in [STARS, "abc"] {
-        let made = HipStr::<B>::from_str(alloc, text)?;
-        let string = made.into_string_copied(alloc).or(Err("no memory"))?;
-        assert_eq!(rt; string.as_str(), text);
-    }
-    let short = HipStr::<B>::borrowed("abc").into_string(alloc);
-    assert!(rt; short.is_err());
+fn strings<T: Text>(rt: &impl Abort, alloc: Global) -> Result<(), Fail> {
+    let long = T::of_str(alloc, STARS)?.copied(alloc)?;
+    reads(rt, long.as_str(), STARS);
+    let short = T::of_str(alloc, "abc")?.copied(alloc)?;
+    reads(rt, short.as_str(), "abc");
+    assert!(rt; T::lent("abc").own_string(alloc).is_err());
     Ok(())
 }
 
-fn pushes<B: Backend>(rt: &impl Abort, alloc: Global) -> Result<(), Fail> {
-    let mut text = HipStr::<B>::from_str(alloc, "caf")?;
-    text.push(alloc, 'é')?;
+fn pushes<T: Text>(rt: &impl Abort, alloc: Global) -> Result<(), Fail> {
+    let mut text = T::of_str(alloc, "caf")?;
+    text.add_char(alloc, 'é')?;
     holds(rt, &text, "café", Kind::Inline);
-    text.push_str(alloc, LETTERS)?;
-    assert_eq!(rt; (text.len(), text.kind()), (31, Kind::Allocated));
-    text.truncate(5);
-    assert_eq!(rt; (text.pop(), text.pop()), (Some('é'), Some('f')));
+    text.add(alloc, LETTERS)?;
+    assert_eq!(rt; (text.size(), text.place()), (31, Kind::Allocated));
+    text.shorten(5)?;
+    assert_eq!(rt;
+        (text.take_last(), text.take_last()),
+        (Some('é'), Some('f'))
+    );
     holds(rt, &text, "ca", Kind::Inline);
     Ok(())
 }
 
-fn cases<B: Backend>(rt: &impl Abort, alloc: Global) -> Result<(), Fail> {
-    let text = HipStr::<B>::borrowed("Straße à la CARTE");
-    is(
-        rt,
-        text.to_ascii_uppercase(alloc)?,
-        "STRAßE à LA CARTE",
-        Kind::Inline,
-    );
-    is(
-        rt,
-        text.to_ascii_lowercase(alloc)?,
-        "straße à la carte",
-        Kind::Inline,
-    );
-    let twice = HipStr::<B>::borrowed("é-").repeat(alloc, 2);
+fn cases<T: Text>(rt: &impl Abort, alloc: Global) -> Result<(), Fail> {
+    let text = T::lent("Straße à la CARTE");
+    is(rt, text.upper(alloc)?, "STRAßE à LA CARTE", Kind::Inline);
+    is(rt, text.lower(alloc)?, "straße à la carte", Kind::Inline);
+    let twice = T::lent("é-").repeated(alloc, 2);
     is(rt, twice.or(Err("no memory"))?, "é-é-", Kind::Inline);
     Ok(())
 }
 
-fn equality<B: Backend>(rt: &impl Abort, alloc: Global) -> Result<(), Fail> {
-    let made = HipStr::<B>::from_str(alloc, STARS)?;
-    let front = made.slice(alloc, 0..4)?;
-    let lent = HipStr::<B>::borrowed(STARS);
+fn equality<T: Text>(rt: &impl Abort, alloc: Global) -> Result<(), Fail> {
+    let made = T::of_str(alloc, STARS)?;
+    let front = made.part(alloc, 0, 4)?;
     assert_eq!(rt;
-        (made == lent, made.str_eq(STARS), made == front),
+        (
+            made.is(&T::lent(STARS)),
+            made.is_text(STARS),
+            made.is(&front)
+        ),
         (true, true, false)
     );
     Ok(())
 }
 
-fn order<B: Backend>(rt: &impl Abort) {
-    let bb = HipStr::<B>::borrowed("bb");
-    for (other, order) in [
-        ("bc", Ordering::Less),
-        ("ba", Ordering::Greater),
-        ("bb", Ordering::Equal),
-    ] {
-        assert_eq!(rt;
-            (bb.cmp(&HipStr::borrowed(other)), bb.str_cmp(other)),
-            (order, order)
-        );
-    }
+/// Asserts how `bb` and another text are ordered.
+fn is_ordered<T: Text>(rt: &impl Abort, other: &'static str, order: Ordering) {
+    let bb = T::lent("bb");
+    assert_eq!(rt;
+        (bb.order(&T::lent(other)), bb.order_of(other)),
+        (order, order)
+    );
 }
 
-/// Adds `é` through the string that is lent, and answers its length then.
-fn adds<B: Backend>(alloc: Global, text: &mut HipStr<B>) -> Result<usize, Fail> {
-    let mut guard = text.mutate(alloc)?;
-    guard.as_mut_string().push_str("é")?;
-    let len = guard.as_string().len();
-    guard.finish(alloc).or(Err("no memory"))?;
-    Ok(len)
+fn order<T: Text>(rt: &impl Abort) {
+    is_ordered::<T>(rt, "bc", Ordering::Less);
+    is_ordered::<T>(rt, "ba", Ordering::Greater);
+    is_ordered::<T>(rt, "bb", Ordering::Equal);
 }
 
-fn guards<B: Backend>(rt: &impl Abort, alloc: Global) -> Result<(), Fail> {
-    let mut text = HipStr::<B>::from_str(alloc, "Hello, World!")?;
-    let len = adds(alloc, &mut text)?;
+fn guards<T: Text>(rt: &impl Abort, alloc: Global) -> Result<(), Fail> {
+    let mut text = T::of_str(alloc, "Hello, World!")?;
+    let len = text.add_by_guard(alloc, "é")?;
     assert_eq!(rt; len, 15);
     holds(rt, &text, "Hello, World!é", Kind::Inline);
     Ok(())
 }
 
-fn on<B: Backend>(rt: &impl Abort, alloc: Global) -> Result<(), Fail> {
-    makers::<B>(rt, alloc)?;
-    cows::<B>(rt, alloc)?;
-    strings::<B>(rt, alloc)?;
-    pushes::<B>(rt, alloc)
+fn on<T: Text>(rt: &impl Abort, alloc: Global) -> Result<(), Fail> {
+    makers::<T>(rt, alloc)?;
+    cows::<T>(rt, alloc)?;
+    strings::<T>(rt, alloc)?;
+    pushes::<T>(rt, alloc)
 }
 
-fn on_too<B: Backend>(rt: &impl Abort, alloc: Global) -> Result<(), Fail> {
-    cases::<B>(rt, alloc)?;
-    equality::<B>(rt, alloc)?;
-    order::<B>(rt);
-    guards::<B>(rt, alloc)
+fn on_too<T: Text>(rt: &impl Abort, alloc: Global) -> Result<(), Fail> {
+    cases::<T>(rt, alloc)?;
+    equality::<T>(rt, alloc)?;
+    order::<T>(rt);
+    guards::<T>(rt, alloc)
+}
+
+struct All;
+
+impl Tests for All {
+    fn on<T: Text>(rt: &impl Abort, alloc: Global) -> Result<(), Fail> {
+        on::<T>(rt, alloc)?;
+        on_too::<T>(rt, alloc)
+    }
 }
 
 #[test]
 fn on_rc(rt: HostRuntime) -> Result<(), Fail> {
-    on::<Rc>(&rt, rt.alloc())?;
-    on_too::<Rc>(&rt, rt.alloc())
+    on_backend::<All, Rc>(&rt, rt.alloc())
 }
 
 #[test]
 fn on_unique(rt: HostRuntime) -> Result<(), Fail> {
-    on::<Unique>(&rt, rt.alloc())?;
-    on_too::<Unique>(&rt, rt.alloc())
+    on_backend::<All, Unique>(&rt, rt.alloc())
 }
