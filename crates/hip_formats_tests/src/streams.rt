@@ -21,8 +21,8 @@ fn slow_source(rt: HostRuntime) {
             HipByt::<Rc>::deserialize_reader(rt.alloc(), &mut spring),
         );
         assert_eq!(&rt;
-            (read.as_slice(), spring.rest),
-            (&bytes[4..10_004], &b"z"[..])
+            (Some(read.as_slice()), spring.rest),
+            (bytes.get(4..10_004), &b"z"[..])
         );
     }
 }
