@@ -34,27 +34,28 @@ fn found_in_order<K: Ord + Drop>(
 /// Whether a set has it, once it has two.
 fn is_in_set<K: Hash + Eq + Drop>(
     alloc: Global,
-    keys: [K; 2],
+    first: K,
+    second: K,
     sought: &K,
 ) -> Result<bool, AllocError> {
     let mut set = HashSet::new(alloc);
-    let [first, second] = keys;
     set.insert(first)?;
     set.insert(second)?;
     Ok(set.contains(sought))
 }
 
-/// What a hash map says of a key, where it has another, and a set, where it has that and one more.
+/// What a hash map says of a key, where it has another, and a set, where it has the first and the second.
 fn told<K: Hash + Eq + Drop>(
     rt: &impl Abort,
     alloc: Global,
-    keys: [K; 3],
+    key: K,
+    first: K,
+    second: K,
     sought: &K,
 ) -> (Option<i32>, bool) {
-    let [key, first, second] = keys;
     (
         must(rt, found(alloc, key, sought)),
-        must(rt, is_in_set(alloc, [first, second], sought)),
+        must(rt, is_in_set(alloc, first, second, sought)),
     )
 }
 
@@ -79,9 +80,9 @@ fn path_of<B: Backend>(rt: &impl Abort, alloc: Global, text: &str) -> HipPath<'s
 
 fn paths<B: Backend>(rt: &impl Abort, alloc: Global) {
     for (key, path, is_found, _) in SOUGHT {
-        let second = path_of::<B>(rt, alloc, "b");
-        let keys = [HipPath::borrowed(key), path_of(rt, alloc, key), second];
-        let told = told(rt, alloc, keys, &HipPath::borrowed(path));
+        let (first, second) = (path_of::<B>(rt, alloc, key), path_of(rt, alloc, "b"));
+        let sought = HipPath::borrowed(path);
+        let told = told(rt, alloc, HipPath::borrowed(key), first, second, &sought);
         assert_eq!(rt; told, told_as(*is_found), "{path}");
     }
 }
@@ -100,9 +101,9 @@ fn name_of<B: Backend>(rt: &impl Abort, alloc: Global, text: &str) -> HipOsStr<'
 
 fn os_strings<B: Backend>(rt: &impl Abort, alloc: Global) {
     for (key, name, _, is_found) in SOUGHT {
-        let second = name_of::<B>(rt, alloc, "b");
-        let keys = [HipOsStr::borrowed(key), name_of(rt, alloc, key), second];
-        let told = told(rt, alloc, keys, &HipOsStr::borrowed(name));
+        let (first, second) = (name_of::<B>(rt, alloc, key), name_of(rt, alloc, "b"));
+        let sought = HipOsStr::borrowed(name);
+        let told = told(rt, alloc, HipOsStr::borrowed(key), first, second, &sought);
         assert_eq!(rt; told, told_as(*is_found), "{name}");
     }
 }
