@@ -1,7 +1,6 @@
 //! Order, equality and maps.
-use crate::groups::{Group, on};
+use crate::groups::{Group, on_rc, on_unique};
 use crate::support::{Bytes, must};
-use hipstr::{Rc, Unique};
 use std::alloc::Global;
 use std::cmp::Ordering;
 use std::process::Abort;
@@ -70,10 +69,10 @@ pub(crate) fn all<H: Bytes>(rt: &impl Abort, alloc: Global) {
 
 #[test]
 fn comparisons_on_rc(rt: HostRuntime) {
-    on::<Rc>(&rt, rt.alloc(), Group::Comparisons);
+    on_rc(&rt, rt.alloc(), Group::Comparisons);
 }
 
 #[test]
 fn comparisons_on_unique(rt: HostRuntime) {
-    on::<Unique>(&rt, rt.alloc(), Group::Comparisons);
+    on_unique(&rt, rt.alloc(), Group::Comparisons);
 }

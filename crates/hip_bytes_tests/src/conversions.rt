@@ -1,7 +1,7 @@
 //! Into vectors and borrowed-or-owned values, and back.
-use crate::groups::{Group, on};
+use crate::groups::{Group, on_rc, on_unique};
 use crate::support::{Bytes, LETTERS, is, must, must_refuse};
-use hipstr::{Kind, Rc, Unique};
+use hipstr::Kind;
 use std::alloc::Global;
 use std::borrow::CowSlice;
 use std::process::Abort;
@@ -82,12 +82,12 @@ pub(crate) fn all<H: Bytes>(rt: &impl Abort, alloc: Global) {
 
 #[test]
 fn conversions_on_rc(rt: HostRuntime) {
-    on::<Rc>(&rt, rt.alloc(), Group::Conversions);
+    on_rc(&rt, rt.alloc(), Group::Conversions);
 }
 
 #[test]
 fn conversions_on_unique(rt: HostRuntime) {
-    on::<Unique>(&rt, rt.alloc(), Group::Conversions);
+    on_unique(&rt, rt.alloc(), Group::Conversions);
 }
 
 pub(crate) fn handed_back_on<H: Bytes>(rt: &impl Abort, alloc: Global) {
@@ -98,6 +98,6 @@ pub(crate) fn handed_back_on<H: Bytes>(rt: &impl Abort, alloc: Global) {
 /// A body that always hands the value back is proved: no contract counts owners.
 #[test]
 fn into_vec_handed_back(rt: HostRuntime) {
-    on::<Rc>(&rt, rt.alloc(), Group::HandedBack);
-    on::<Unique>(&rt, rt.alloc(), Group::HandedBack);
+    on_rc(&rt, rt.alloc(), Group::HandedBack);
+    on_unique(&rt, rt.alloc(), Group::HandedBack);
 }

@@ -1,7 +1,7 @@
 //! Pushes, cuts in place and slices.
-use crate::groups::{Group, on};
+use crate::groups::{Group, on_rc, on_unique};
 use crate::support::{Bytes, LETTERS, holds, is, must};
-use hipstr::{Kind, Meter, Rc, Unique};
+use hipstr::{Kind, Meter};
 use std::alloc::{AllocError, Global};
 use std::ops::Bound;
 use std::process::Abort;
@@ -194,20 +194,20 @@ pub(crate) fn slices_on<H: Bytes>(rt: &impl Abort, alloc: Global) {
 
 #[test]
 fn in_place_on_rc(rt: HostRuntime) {
-    on::<Rc>(&rt, rt.alloc(), Group::InPlace);
+    on_rc(&rt, rt.alloc(), Group::InPlace);
 }
 
 #[test]
 fn in_place_on_unique(rt: HostRuntime) {
-    on::<Unique>(&rt, rt.alloc(), Group::InPlace);
+    on_unique(&rt, rt.alloc(), Group::InPlace);
 }
 
 #[test]
 fn slices_on_rc(rt: HostRuntime) {
-    on::<Rc>(&rt, rt.alloc(), Group::Slices);
+    on_rc(&rt, rt.alloc(), Group::Slices);
 }
 
 #[test]
 fn slices_on_unique(rt: HostRuntime) {
-    on::<Unique>(&rt, rt.alloc(), Group::Slices);
+    on_unique(&rt, rt.alloc(), Group::Slices);
 }

@@ -1,8 +1,7 @@
 //! Ranges that are refused: what the error tells, and its texts.
-use crate::groups::{Group, on};
-use crate::support::{Bytes, must};
+use crate::groups::{self, Group};
+use crate::support::{Bytes, Told, must};
 use hipstr::bytes::SliceErrorKind;
-use hipstr::{Rc, Unique};
 use std::alloc::Global;
 use std::ops::Bound;
 use std::process::Abort;
@@ -92,22 +91,20 @@ const REFUSED: &[Refused] = &[
 ];
 
 fn is_refused<H: Bytes>(rt: &impl Abort, alloc: Global, row: Refused) {
-    let Refused {
-        bounds: (low, high),
-        kind,
-        start,
-        end,
-        text,
-    } = row;
     let handle = must(rt, H::from_slice(alloc, b"abc"));
+    let (low, high) = row.bounds;
     let told = must(rt, handle.told(alloc, low, high));
-    let told = must(rt, told.ok_or("no range of three bytes"));
+    tells(rt, must(rt, told.ok_or("no range of three bytes")), row);
+}
+
+/// Asserts what the error tells.
+fn tells(rt: &impl Abort, told: Told, row: Refused) {
     assert_eq!(rt;
         (told.kind, told.start, told.end, told.range),
-        (kind, start, end, start..end)
+        (row.kind, row.start, row.end, row.start..row.end)
     );
     assert_eq!(rt; told.source.as_slice(), b"abc".as_slice());
-    assert_eq!(rt; told.text.as_str(), text);
+    assert_eq!(rt; told.text.as_str(), row.text);
 }
 
 fn refusals<H: Bytes>(rt: &impl Abort, alloc: Global) {
@@ -152,10 +149,10 @@ pub(crate) fn all<H: Bytes>(rt: &impl Abort, alloc: Global) {
 
 #[test]
 fn on_rc(rt: HostRuntime) {
-    on::<Rc>(&rt, rt.alloc(), Group::Errors);
+    groups::on_rc(&rt, rt.alloc(), Group::Errors);
 }
 
 #[test]
 fn on_unique(rt: HostRuntime) {
-    on::<Unique>(&rt, rt.alloc(), Group::Errors);
+    groups::on_unique(&rt, rt.alloc(), Group::Errors);
 }

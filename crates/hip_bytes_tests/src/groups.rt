@@ -4,8 +4,8 @@ use crate::support::Bytes;
 use crate::{
     comparisons, conversions, cuts, errors, guards, joins, makers, owned_room, spaces, writes,
 };
-use hipstr::Backend;
 use hipstr::bytes::HipByt;
+use hipstr::{Backend, Rc, Unique};
 use std::alloc::Global;
 use std::process::Abort;
 
@@ -48,7 +48,16 @@ fn run<H: Bytes>(rt: &impl Abort, alloc: Global, group: Group) {
     }
 }
 
-/// Runs a group on a backend.
-pub(crate) fn on<B: Backend>(rt: &impl Abort, alloc: Global, group: Group) {
+fn on<B: Backend>(rt: &impl Abort, alloc: Global, group: Group) {
     run::<HipByt<'static, B>>(rt, alloc, group);
+}
+
+/// Runs a group on `Rc`.
+pub(crate) fn on_rc(rt: &impl Abort, alloc: Global, group: Group) {
+    on::<Rc>(rt, alloc, group);
+}
+
+/// Runs a group on `Unique`.
+pub(crate) fn on_unique(rt: &impl Abort, alloc: Global, group: Group) {
+    on::<Unique>(rt, alloc, group);
 }

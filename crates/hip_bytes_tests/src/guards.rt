@@ -1,8 +1,8 @@
 //! Bytes that are taken out, or lent out by a guard, as a vector.
-use crate::groups::{Group, on};
+use crate::groups::{Group, on_rc, on_unique};
 use crate::support::{Bytes, LETTERS, holds, is, must, text_of};
 use hipstr::bytes::mutate;
-use hipstr::{Kind, Meter, Rc, Unique};
+use hipstr::{Kind, Meter};
 use std::alloc::Global;
 use std::process::Abort;
 
@@ -134,10 +134,10 @@ pub(crate) fn all<H: Bytes>(rt: &impl Abort, alloc: Global) {
 
 #[test]
 fn guards_on_rc(rt: HostRuntime) {
-    on::<Rc>(&rt, rt.alloc(), Group::Guards);
+    on_rc(&rt, rt.alloc(), Group::Guards);
 }
 
 #[test]
 fn guards_on_unique(rt: HostRuntime) {
-    on::<Unique>(&rt, rt.alloc(), Group::Guards);
+    on_unique(&rt, rt.alloc(), Group::Guards);
 }

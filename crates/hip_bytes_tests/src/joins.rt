@@ -1,8 +1,8 @@
 //! Repetitions, joins and room that is given back.
-use crate::groups::{Group, on};
+use crate::groups::{Group, on_rc, on_unique};
 use crate::support::{Bytes, LETTERS, holds, is, must};
 use hipstr::bytes::GrowFault;
-use hipstr::{Kind, Meter, Rc, Unique};
+use hipstr::{Kind, Meter};
 use std::alloc::Global;
 use std::process::Abort;
 
@@ -149,10 +149,10 @@ pub(crate) fn all<H: Bytes>(rt: &impl Abort, alloc: Global) {
 
 #[test]
 fn joins_on_rc(rt: HostRuntime) {
-    on::<Rc>(&rt, rt.alloc(), Group::Joins);
+    on_rc(&rt, rt.alloc(), Group::Joins);
 }
 
 #[test]
 fn joins_on_unique(rt: HostRuntime) {
-    on::<Unique>(&rt, rt.alloc(), Group::Joins);
+    on_unique(&rt, rt.alloc(), Group::Joins);
 }

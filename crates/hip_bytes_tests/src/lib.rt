@@ -20,8 +20,8 @@
 //!
 //! Most of what stands before a branch is what contracts say of handles, and a test needs none of it, since it compares while it runs. So
 //! tests call handles through the trait `support::Bytes`, whose methods say nothing, and `support::must` ends a test where a call was
-//! refused, in place of a `?`. A method costs one to three seconds and a test function as much; both crates of tests that stood here took
-//! three times as long. Each function that names a backend's byte string as `Bytes` takes 13 seconds more, so only `groups::on` does.
+//! refused, in place of a `?`. A method costs one to three seconds, and a test function as much. Each function that names a backend's byte
+//! string as `Bytes` takes 13 seconds more, so only `groups::on` does.
 //!
 //! A function in which a table stands costs more than the square of what the table borrows: 24 rows with two slices each 1.2 seconds,
 //! 48 rows 5, 94 rows 40. So a table has a function of its own that hands it out, and a long one several. A function that calls a map

@@ -1,7 +1,7 @@
 //! Makers, views and clones.
-use crate::groups::{Group, on};
+use crate::groups::{self, Group};
 use crate::support::{Bytes, LETTERS, holds, is, must, must_refuse};
-use hipstr::{Kind, Meter, Rc, Unique};
+use hipstr::{Kind, Meter};
 use std::alloc::Global;
 use std::process::Abort;
 
@@ -77,8 +77,11 @@ fn long_clone<H: Bytes>(rt: &impl Abort, alloc: Global) {
 
 fn lent_bytes<H: Bytes>(rt: &impl Abort) {
     let lent = H::from_static(LETTERS);
-    assert_eq!(rt; lent.as_borrowed(), Some(LETTERS));
-    assert_eq!(rt; lent.into_borrowed().ok(), Some(LETTERS));
+    let shown = lent.as_borrowed();
+    assert_eq!(rt;
+        (shown, lent.into_borrowed().ok()),
+        (Some(LETTERS), Some(LETTERS))
+    );
 }
 
 fn least_and_greatest_room<H: Bytes>(rt: &impl Abort, alloc: Global) {
@@ -98,10 +101,10 @@ pub(crate) fn all<H: Bytes>(rt: &impl Abort, alloc: Global) {
 
 #[test]
 fn on_rc(rt: HostRuntime) {
-    on::<Rc>(&rt, rt.alloc(), Group::Makers);
+    groups::on_rc(&rt, rt.alloc(), Group::Makers);
 }
 
 #[test]
 fn on_unique(rt: HostRuntime) {
-    on::<Unique>(&rt, rt.alloc(), Group::Makers);
+    groups::on_unique(&rt, rt.alloc(), Group::Makers);
 }

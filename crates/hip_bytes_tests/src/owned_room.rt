@@ -1,7 +1,7 @@
 //! What the owner of one handle copies as it grows, and what room it has then.
-use crate::groups::{Group, on};
+use crate::groups::{Group, on_unique};
 use crate::support::{Bytes, LETTERS, must};
-use hipstr::{Kind, Meter, Unique};
+use hipstr::{Kind, Meter};
 use std::alloc::Global;
 use std::process::Abort;
 
@@ -35,7 +35,7 @@ pub(crate) fn doubles<H: Bytes>(rt: &impl Abort, alloc: Global) {
 
 #[test]
 fn a_full_room_doubles(rt: HostRuntime) {
-    on::<Unique>(&rt, rt.alloc(), Group::Doubling);
+    on_unique(&rt, rt.alloc(), Group::Doubling);
 }
 
 pub(crate) fn grows_one_by_one<H: Bytes>(rt: &impl Abort, alloc: Global) {
@@ -49,7 +49,7 @@ pub(crate) fn grows_one_by_one<H: Bytes>(rt: &impl Abort, alloc: Global) {
 
 #[test]
 fn bytes_one_by_one(rt: HostRuntime) {
-    on::<Unique>(&rt, rt.alloc(), Group::OneByOne);
+    on_unique(&rt, rt.alloc(), Group::OneByOne);
 }
 
 pub(crate) fn goes_in_and_out<H: Bytes>(rt: &impl Abort, alloc: Global) {
@@ -63,7 +63,7 @@ pub(crate) fn goes_in_and_out<H: Bytes>(rt: &impl Abort, alloc: Global) {
 
 #[test]
 fn a_vector_goes_in_and_out(rt: HostRuntime) {
-    on::<Unique>(&rt, rt.alloc(), Group::InAndOut);
+    on_unique(&rt, rt.alloc(), Group::InAndOut);
 }
 
 /// Appends that fit, and a loan for writing, take no memory: the capacity stays.
@@ -78,5 +78,5 @@ pub(crate) fn is_filled<H: Bytes>(rt: &impl Abort, alloc: Global) {
 
 #[test]
 fn room_is_kept(rt: HostRuntime) {
-    on::<Unique>(&rt, rt.alloc(), Group::RoomKept);
+    on_unique(&rt, rt.alloc(), Group::RoomKept);
 }

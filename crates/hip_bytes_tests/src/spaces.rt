@@ -1,7 +1,7 @@
 //! The same 32 bytes by each maker: equal wherever they lie, and different from a part of them.
-use crate::groups::{Group, on};
+use crate::groups::{Group, on_rc, on_unique};
 use crate::support::{Bytes, holds, must};
-use hipstr::{Kind, Rc, Unique};
+use hipstr::Kind;
 use std::alloc::Global;
 use std::borrow::CowSlice;
 use std::process::Abort;
@@ -80,10 +80,10 @@ pub(crate) fn all<H: Bytes>(rt: &impl Abort, alloc: Global) {
 
 #[test]
 fn spaces_on_rc(rt: HostRuntime) {
-    on::<Rc>(&rt, rt.alloc(), Group::Spaces);
+    on_rc(&rt, rt.alloc(), Group::Spaces);
 }
 
 #[test]
 fn spaces_on_unique(rt: HostRuntime) {
-    on::<Unique>(&rt, rt.alloc(), Group::Spaces);
+    on_unique(&rt, rt.alloc(), Group::Spaces);
 }

@@ -1,7 +1,7 @@
 //! Bytes that are lent for writing, and ASCII case.
-use crate::groups::{Group, on};
+use crate::groups::{Group, on_rc, on_unique};
 use crate::support::{Bytes, LETTERS, holds, is, must};
-use hipstr::{Kind, Meter, Rc, Unique};
+use hipstr::{Kind, Meter};
 use std::alloc::Global;
 use std::process::Abort;
 
@@ -73,10 +73,10 @@ pub(crate) fn all<H: Bytes>(rt: &impl Abort, alloc: Global) {
 
 #[test]
 fn writes_on_rc(rt: HostRuntime) {
-    on::<Rc>(&rt, rt.alloc(), Group::Writes);
+    on_rc(&rt, rt.alloc(), Group::Writes);
 }
 
 #[test]
 fn writes_on_unique(rt: HostRuntime) {
-    on::<Unique>(&rt, rt.alloc(), Group::Writes);
+    on_unique(&rt, rt.alloc(), Group::Writes);
 }
