@@ -1,14 +1,10 @@
 //! Pushes, cuts in place and slices.
-ghost use Rattle.std.specs.Prelude.{◌≡◌, None};
-ghost use Rattle.hipstr.specs.Range.{slice_fault};
-
-use crate::support::{LETTERS, holds, is};
-use hipstr::bytes::HipByt;
-use hipstr::{Backend, Kind, Meter, Rc, Unique};
-use std::alloc::Global;
-use std::ops::{Bound, RangeBounds};
+use crate::groups::{Group, on_rc, on_unique};
+use crate::support::{Bytes, LETTERS, holds, is, must};
+use hipstr::{Kind, Meter};
+use std::alloc::{AllocError, Global};
+use std::ops::Bound;
 use std::process::Abort;
-use std::test::Fail;
 
 /// How a handle is made that calls then change.
 #[derive(Clone, Copy)]
@@ -72,144 +68,99 @@ const RUNS: &[(Start, &[Step])] = &[
     (Start::Room(42), ROOM_CLEARED),
 ];
 
-fn made<'b, B: Backend>(alloc: Global, start: Start) -> Result<HipByt<'b, B>, Fail> {
-    let handle = match start {
-        Start::Empty => HipByt::new(),
-        Start::Copied(bytes) => HipByt::from_slice(alloc, bytes)?,
-        Start::Borrowed(bytes) => HipByt::borrowed(bytes),
-        Start::Room(capacity) => HipByt::with_capacity(alloc, capacity)?,
-    };
-    Ok(handle)
+fn made<H: Bytes>(rt: &impl Abort, alloc: Global, start: Start) -> H {
+    match start {
+        Start::Empty => H::new(),
+        Start::Copied(bytes) => must(rt, H::from_slice(alloc, bytes)),
+        Start::Borrowed(bytes) => H::borrowed(bytes),
+        Start::Room(capacity) => must(rt, H::with_capacity(alloc, capacity)),
+    }
 }
 
-fn perform<B: Backend>(
-    rt: &impl Abort,
-    alloc: Global,
-    handle: &mut HipByt<B>,
-    call: Call,
-) -> Result<(), Fail> {
+fn perform<H: Bytes>(rt: &impl Abort, alloc: Global, handle: &mut H, call: Call) {
     match call {
-        Call::Push(byte) => handle.push(alloc, byte)?,
-        Call::PushSlice(bytes) => handle.push_slice(alloc, bytes)?,
+        Call::Push(byte) => must(rt, handle.push(alloc, byte)),
+        Call::PushSlice(bytes) => must(rt, handle.push_slice(alloc, bytes)),
         Call::Truncate(len) => handle.truncate(len),
         Call::Pop(answer) => assert_eq!(rt; handle.pop(), answer),
         Call::Clear => handle.clear(),
     }
-    Ok(())
 }
 
-fn runs<B: Backend>(rt: &impl Abort, alloc: Global) -> Result<(), Fail> {
+fn runs<H: Bytes>(rt: &impl Abort, alloc: Global) {
     for (start, steps) in RUNS {
-        let mut handle = made::<B>(alloc, *start)?;
+        let mut handle = made::<H>(rt, alloc, *start);
         for Step(call, items, kind) in *steps {
-            perform(rt, alloc, &mut handle, *call)?;
+            perform(rt, alloc, &mut handle, *call);
             holds(rt, &handle, items, *kind);
         }
     }
-    Ok(())
-}
-
-/// Pushes 61 bytes, and says how many were copied.
-fn pushed<B: Backend>(alloc: Global, room: &mut HipByt<B>) -> Result<u128, Fail> {
-    let mut meter = Meter::new();
-    room.push_slice_metered(alloc, &[b'a'; 30], &mut meter)?;
-    room.push_slice_metered(alloc, &[b'b'; 30], &mut meter)?;
-    room.push_metered(alloc, b'c', &mut meter)?;
-    Ok(meter.copied())
 }
 
 /// A sole owner is written in place: each byte is copied once.
-fn in_place<B: Backend>(rt: &impl Abort, alloc: Global) -> Result<(), Fail> {
-    let mut room = HipByt::<B>::with_capacity(alloc, 200)?;
-    let copied = pushed(alloc, &mut room)?;
-    assert_eq!(rt; (copied, room.len()), (61, 61));
-    Ok(())
+fn in_place<H: Bytes>(rt: &impl Abort, alloc: Global) {
+    let mut room = must(rt, H::with_capacity(alloc, 200));
+    let mut meter = Meter::new();
+    must(rt, room.push_slice_metered(alloc, &[b'a'; 30], &mut meter));
+    must(rt, room.push_slice_metered(alloc, &[b'b'; 30], &mut meter));
+    must(rt, room.push_metered(alloc, b'c', &mut meter));
+    assert_eq!(rt; (meter.copied(), room.len()), (61, 61));
 }
 
-fn room_is_kept<B: Backend>(rt: &impl Abort, alloc: Global) -> Result<(), Fail> {
-    let mut room = HipByt::<B>::with_capacity(alloc, 42)?;
+fn room_is_kept<H: Bytes>(rt: &impl Abort, alloc: Global) {
+    let mut room = must(rt, H::with_capacity(alloc, 42));
     room.clear();
     assert_eq!(rt;
         (room.is_normalized(), room.capacity() >= 42),
         (false, true)
     );
-    is(rt, room.slice(alloc, 0..0)?, b"", Kind::Inline);
-    Ok(())
+    is(rt, must(rt, room.slice(alloc, 0, 0)), b"", Kind::Inline);
 }
 
-fn lent_capacity<B: Backend>(rt: &impl Abort) {
-    let mut lent = HipByt::<B>::borrowed(&[b'a'; 30]);
+fn lent_capacity<H: Bytes>(rt: &impl Abort) {
+    let mut lent = H::borrowed(&[b'a'; 30]);
     lent.truncate(5);
     assert_eq!(rt; lent.capacity(), 5);
 }
 
-/// Asserts that the part of `abc` in a range holds these items.
-fn part_is<B: Backend, R: RangeBounds<usize>>(
-    rt: &impl Abort,
-    alloc: Global,
-    range: R,
-    items: &[u8],
-) -> Result<(), Fail>
-where
-    R: Drop,
-    requires bounds { R.has_bounds range }
-    requires valid { slice_fault (R.start_bound range) (R.end_bound range) 3 ≡ None }
-{
-    let part = HipByt::<B>::inline(b"abc").slice(alloc, range)?;
-    is(rt, part, items, Kind::Inline);
-    Ok(())
+/// Asserts that a part of three bytes was made, and what it holds.
+fn part_is<H: Bytes>(rt: &impl Abort, part: Result<H, AllocError>, items: &[u8]) {
+    is(rt, must(rt, part), items, Kind::Inline);
 }
 
-/// The same by the other name of the call.
-fn unchecked_part_is<B: Backend, R: RangeBounds<usize>>(
-    rt: &impl Abort,
-    alloc: Global,
-    range: R,
-    items: &[u8],
-) -> Result<(), Fail>
-where
-    R: Drop,
-    requires bounds { R.has_bounds range }
-    requires valid { slice_fault (R.start_bound range) (R.end_bound range) 3 ≡ None }
-{
-    let part = HipByt::<B>::inline(b"abc").slice_unchecked(alloc, range)?;
-    is(rt, part, items, Kind::Inline);
-    Ok(())
+fn slices<H: Bytes>(rt: &impl Abort, alloc: Global) {
+    let handle = must(rt, H::inline(b"abc"));
+    part_is(rt, handle.slice(alloc, 3, 3), b"");
+    part_is(rt, handle.slice_from(alloc, 3), b"");
+    part_is(rt, handle.slice_to(alloc, 0), b"");
+    part_is(rt, handle.slice_through(alloc, 1, 1), b"b");
+    part_is(rt, handle.slice_all(alloc), b"abc");
 }
 
-fn slices<B: Backend>(rt: &impl Abort, alloc: Global) -> Result<(), Fail> {
-    part_is::<B, _>(rt, alloc, 3..3, b"")?;
-    part_is::<B, _>(rt, alloc, 3.., b"")?;
-    part_is::<B, _>(rt, alloc, ..0, b"")?;
-    part_is::<B, _>(rt, alloc, 1..=1, b"b")?;
-    part_is::<B, _>(rt, alloc, .., b"abc")
-}
-
-fn unchecked_slices<B: Backend>(rt: &impl Abort, alloc: Global) -> Result<(), Fail> {
-    unchecked_part_is::<B, _>(rt, alloc, 1..1, b"")?;
-    unchecked_part_is::<B, _>(rt, alloc, ..=1, b"ab")
+fn unchecked_slices<H: Bytes>(rt: &impl Abort, alloc: Global) {
+    let handle = must(rt, H::inline(b"abc"));
+    part_is(rt, handle.unchecked(alloc, 1, 1), b"");
+    part_is(rt, handle.unchecked_through(alloc, 1), b"ab");
 }
 
 /// Of 23 bytes each is copied into the new handle.
-fn short_slice<B: Backend>(rt: &impl Abort, alloc: Global) -> Result<(), Fail> {
-    let letters = HipByt::<B>::from_slice(alloc, LETTERS)?;
+fn short_slice<H: Bytes>(rt: &impl Abort, alloc: Global) {
+    let letters = must(rt, H::from_slice(alloc, LETTERS));
     let mut meter = Meter::new();
-    let short = letters.slice_metered(alloc, 0..23, &mut meter)?;
+    let short = must(rt, letters.front(alloc, 23, &mut meter));
     drop(letters);
     is(rt, short, &LETTERS[..23], Kind::Inline);
     assert_eq!(rt; meter.copied(), 23);
-    Ok(())
 }
 
 /// Of 24 bytes none is copied where owners are shared, and the slice outlives what it was cut from.
-fn long_slice<B: Backend>(rt: &impl Abort, alloc: Global) -> Result<(), Fail> {
-    let letters = HipByt::<B>::from_slice(alloc, LETTERS)?;
+fn long_slice<H: Bytes>(rt: &impl Abort, alloc: Global) {
+    let letters = must(rt, H::from_slice(alloc, LETTERS));
     let mut meter = Meter::new();
-    let long = letters.slice_unchecked_metered(alloc, 0..24, &mut meter)?;
+    let long = must(rt, letters.front_unchecked(alloc, 24, &mut meter));
     drop(letters);
     is(rt, long, &LETTERS[..24], Kind::Allocated);
-    assert_eq!(rt; meter.copied(), if B::SHARES { 0 } else { 24 });
-    Ok(())
+    assert_eq!(rt; meter.copied(), if H::shares() { 0 } else { 24 });
 }
 
 /// Two bounds that are a range of `abc`, and the part.
@@ -218,49 +169,45 @@ const PARTS: &[(Bound<usize>, Bound<usize>, &[u8])] = &[
     (Bound::Excluded(2), Bound::Unbounded, b""),
 ];
 
-fn bounded_parts<B: Backend>(rt: &impl Abort, alloc: Global) -> Result<(), Fail> {
-    let handle = HipByt::<B>::inline(b"abc");
+fn bounded_parts<H: Bytes>(rt: &impl Abort, alloc: Global) {
+    let handle = must(rt, H::inline(b"abc"));
     for (low, high, items) in PARTS {
-        let Ok(part) = handle.try_slice_bounds(alloc, *low, *high) else {
-            return Err(Fail::from("a valid range"));
-        };
+        let part = must(rt, handle.part_of_bounds(alloc, *low, *high));
         is(rt, part, items, Kind::Inline);
     }
-    Ok(())
 }
 
-fn in_place_on<B: Backend>(rt: &impl Abort, alloc: Global) -> Result<(), Fail> {
-    runs::<B>(rt, alloc)?;
-    in_place::<B>(rt, alloc)?;
-    room_is_kept::<B>(rt, alloc)?;
-    lent_capacity::<B>(rt);
-    Ok(())
+pub(crate) fn in_place_on<H: Bytes>(rt: &impl Abort, alloc: Global) {
+    runs::<H>(rt, alloc);
+    in_place::<H>(rt, alloc);
+    room_is_kept::<H>(rt, alloc);
+    lent_capacity::<H>(rt);
 }
 
-fn slices_on<B: Backend>(rt: &impl Abort, alloc: Global) -> Result<(), Fail> {
-    slices::<B>(rt, alloc)?;
-    unchecked_slices::<B>(rt, alloc)?;
-    short_slice::<B>(rt, alloc)?;
-    long_slice::<B>(rt, alloc)?;
-    bounded_parts::<B>(rt, alloc)
-}
-
-#[test]
-fn in_place_on_rc(rt: HostRuntime) -> Result<(), Fail> {
-    in_place_on::<Rc>(&rt, rt.alloc())
+pub(crate) fn slices_on<H: Bytes>(rt: &impl Abort, alloc: Global) {
+    slices::<H>(rt, alloc);
+    unchecked_slices::<H>(rt, alloc);
+    short_slice::<H>(rt, alloc);
+    long_slice::<H>(rt, alloc);
+    bounded_parts::<H>(rt, alloc);
 }
 
 #[test]
-fn in_place_on_unique(rt: HostRuntime) -> Result<(), Fail> {
-    in_place_on::<Unique>(&rt, rt.alloc())
+fn in_place_on_rc(rt: HostRuntime) {
+    on_rc(&rt, rt.alloc(), Group::InPlace);
 }
 
 #[test]
-fn slices_on_rc(rt: HostRuntime) -> Result<(), Fail> {
-    slices_on::<Rc>(&rt, rt.alloc())
+fn in_place_on_unique(rt: HostRuntime) {
+    on_unique(&rt, rt.alloc(), Group::InPlace);
 }
 
 #[test]
-fn slices_on_unique(rt: HostRuntime) -> Result<(), Fail> {
-    slices_on::<Unique>(&rt, rt.alloc())
+fn slices_on_rc(rt: HostRuntime) {
+    on_rc(&rt, rt.alloc(), Group::Slices);
+}
+
+#[test]
+fn slices_on_unique(rt: HostRuntime) {
+    on_unique(&rt, rt.alloc(), Group::Slices);
 }

@@ -1,10 +1,10 @@
 //! Ranges that are refused: what the error tells, and its texts.
-use hipstr::bytes::{HipByt, SliceErrorKind, SliceRefusal};
-use hipstr::{Backend, Rc, Unique};
+use crate::groups::{self, Group};
+use crate::support::{Bytes, Told, must};
+use hipstr::bytes::SliceErrorKind;
 use std::alloc::Global;
 use std::ops::Bound;
 use std::process::Abort;
-use std::test::Fail;
 
 /// Two bounds that are no range of `abc`, and what the error tells of them.
 #[derive(Clone, Copy)]
@@ -90,97 +90,69 @@ const REFUSED: &[Refused] = &[
     },
 ];
 
-fn is_refused<B: Backend>(rt: &impl Abort, alloc: Global, row: Refused) -> Result<(), Fail> {
-    let Refused {
-        bounds: (low, high),
-        kind,
-        start,
-        end,
-        text,
-    } = row;
-    let handle = HipByt::<B>::from_slice(alloc, b"abc")?;
-    let Err(SliceRefusal::Slice(error)) = handle.try_slice_bounds(alloc, low, high) else {
-        return Err(Fail::from("no range of three bytes"));
-    };
+fn is_refused<H: Bytes>(rt: &impl Abort, alloc: Global, row: Refused) {
+    let handle = must(rt, H::from_slice(alloc, b"abc"));
+    let (low, high) = row.bounds;
+    let told = must(rt, handle.told(alloc, low, high));
+    tells(rt, must(rt, told.ok_or("no range of three bytes")), row);
+}
+
+/// Asserts what the error tells.
+fn tells(rt: &impl Abort, told: Told, row: Refused) {
     assert_eq!(rt;
-        (error.kind(), error.start(), error.end(), error.range()),
-        (kind, start, end, start..end)
+        (told.kind, told.start, told.end, told.range),
+        (row.kind, row.start, row.end, row.start..row.end)
     );
-    assert_eq!(rt; error.source().as_slice(), b"abc".as_slice());
-    assert_eq!(rt; format!(in alloc; "{error}")?.as_str(), text);
-    Ok(())
+    assert_eq!(rt; told.source.as_slice(), b"abc".as_slice());
+    assert_eq!(rt; told.text.as_str(), row.text);
 }
 
-fn refusals<B: Backend>(rt: &impl Abort, alloc: Global) -> Result<(), Fail> {
+fn refusals<H: Bytes>(rt: &impl Abort, alloc: Global) {
     for row in REFUSED {
-        is_refused::<B>(rt, alloc, *row)?;
+        is_refused::<H>(rt, alloc, *row);
     }
-    Ok(())
-}
-
-/// Whether two values refuse two ranges by equal errors.
-fn refuse_alike<B: Backend>(
-    alloc: Global,
-    first: &HipByt<B>,
-    start: usize,
-    second: &HipByt<B>,
-    other_start: usize,
-) -> bool {
-    let Err(SliceRefusal::Slice(error)) = first.try_slice(alloc, start..) else {
-        return false;
-    };
-    let Err(SliceRefusal::Slice(other)) = second.try_slice(alloc, other_start..) else {
-        return false;
-    };
-    error == other
 }
 
 /// Errors are equal by what was tried and by the bytes, wherever these lie.
-fn equal_refusals<B: Backend>(rt: &impl Abort, alloc: Global) -> Result<(), Fail> {
-    let copied = HipByt::<B>::from_slice(alloc, b"abc")?;
-    let lent = HipByt::<B>::borrowed(b"abc");
-    let another = HipByt::<B>::borrowed(b"abd");
+fn equal_refusals<H: Bytes>(rt: &impl Abort, alloc: Global) {
+    let copied = must(rt, H::from_slice(alloc, b"abc"));
+    let (lent, another) = (H::borrowed(b"abc"), H::borrowed(b"abd"));
     assert_eq!(rt;
         (
-            refuse_alike(alloc, &copied, 4, &lent, 4),
-            refuse_alike(alloc, &copied, 4, &lent, 5),
-            refuse_alike(alloc, &lent, 4, &another, 4),
+            copied.refuses_alike(alloc, 4, &lent, 4),
+            copied.refuses_alike(alloc, 4, &lent, 5),
+            lent.refuses_alike(alloc, 4, &another, 4),
         ),
         (true, false, false)
     );
-    Ok(())
 }
 
-fn refused_debug<B: Backend>(rt: &impl Abort, alloc: Global) -> Result<(), Fail> {
-    let handle = HipByt::<B>::inline(b"abc");
-    let Err(SliceRefusal::Slice(error)) = handle.try_slice(alloc, 0..4) else {
-        return Err(Fail::from("no range of three bytes"));
-    };
-    let debug = format!(in alloc; "{error:?}")?;
+fn refused_debug<H: Bytes>(rt: &impl Abort, alloc: Global) {
+    let said = must(rt, must(rt, H::inline(b"abc")).error_said(alloc, 0..4));
+    let said = must(rt, said.ok_or("no range of three bytes"));
     assert_eq!(rt;
-        debug.as_str(),
+        said.as_str(),
         "SliceError { kind: EndOutOfBounds, start: 0, end: 4, bytes: [97, 98, 99] }"
     );
-    Ok(())
 }
 
-fn inclusive_range<B: Backend>(rt: &impl Abort, alloc: Global) {
-    assert!(rt; HipByt::<B>::inline(b"abc").try_slice(alloc, 0..=1).is_ok());
+fn inclusive_range<H: Bytes>(rt: &impl Abort, alloc: Global) {
+    assert!(rt; must(rt, H::inline(b"abc")).has_two(alloc));
 }
 
-fn on<B: Backend>(rt: &impl Abort, alloc: Global) -> Result<(), Fail> {
-    refusals::<B>(rt, alloc)?;
-    equal_refusals::<B>(rt, alloc)?;
-    inclusive_range::<B>(rt, alloc);
-    refused_debug::<B>(rt, alloc)
-}
-
-#[test]
-fn on_rc(rt: HostRuntime) -> Result<(), Fail> {
-    on::<Rc>(&rt, rt.alloc())
+pub(crate) fn all<H: Bytes>(rt: &impl Abort, alloc: Global) {
+    refusals::<H>(rt, alloc);
+    equal_refusals::<H>(rt, alloc);
+    inclusive_range::<H>(rt, alloc);
+    refused_debug::<H>(rt, alloc);
 }
 
 #[test]
-fn on_unique(rt: HostRuntime) -> Result<(), Fail> {
-    on::<Unique>(&rt, rt.alloc())
+fn on_rc(rt: HostRuntime) {
+    groups::on_rc(&rt, rt.alloc(), Group::Errors);
+}
+
+#[test]
+fn on_unique(rt: HostRuntime) {
+    groups::on_unique(&rt, rt.alloc(), Group::Errors);
 }

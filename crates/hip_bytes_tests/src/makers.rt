@@ -1,14 +1,12 @@
 //! Makers, views and clones.
-use crate::support::{LETTERS, holds, is};
-use hipstr::bytes::HipByt;
-use hipstr::{Backend, Kind, Meter, Rc, Unique};
+use crate::groups::{self, Group};
+use crate::support::{Bytes, LETTERS, holds, is, must, must_refuse};
+use hipstr::{Kind, Meter};
 use std::alloc::Global;
-use std::convert::AsSlice;
 use std::process::Abort;
-use std::test::Fail;
 
 /// Asserts where a handle that owns `len` bytes keeps them.
-fn is_by_length<B: Backend>(rt: &impl Abort, handle: &HipByt<B>, len: usize) {
+fn is_by_length<H: Bytes>(rt: &impl Abort, handle: H, len: usize) {
     let is_short = len <= 23;
     assert_eq!(rt;
         (
@@ -19,107 +17,94 @@ fn is_by_length<B: Backend>(rt: &impl Abort, handle: &HipByt<B>, len: usize) {
         ),
         (len, is_short, !is_short, false)
     );
+    has_room(rt, handle, is_short);
+}
+
+fn has_room<H: Bytes>(rt: &impl Abort, handle: H, is_short: bool) {
+    let (is_normalized, room) = (handle.is_normalized(), handle.capacity());
     assert_eq!(rt;
-        (
-            handle.is_normalized(),
-            handle.capacity() >= 23,
-            handle.capacity() == 23
-        ),
+        (is_normalized, room >= 23, room == 23),
         (true, true, is_short)
     );
 }
 
 const LETTERS_A: [&[u8]; 3] = [&[b'a'; 22], &[b'a'; 23], &[b'a'; 24]];
 
-fn copied<B: Backend>(rt: &impl Abort, alloc: Global, bytes: &[u8]) -> Result<(), Fail> {
-    assert_eq!(rt; HipByt::<B>::try_inline(bytes).is_some(), bytes.len() <= 23);
-    let copied = HipByt::<B>::from_slice(alloc, bytes)?;
-    is_by_length(rt, &copied, bytes.len());
-    Ok(())
-}
-
-fn taken<B: Backend>(rt: &impl Abort, alloc: Global, bytes: &[u8]) -> Result<(), Fail> {
-    let vec = bytes.to_vec(alloc)?;
-    let taken = HipByt::<B>::from_vec(alloc, vec).or(Err("no memory"))?;
-    is_by_length(rt, &taken, bytes.len());
-    Ok(())
-}
-
-fn lengths_and_kinds<B: Backend>(rt: &impl Abort, alloc: Global) -> Result<(), Fail> {
+fn lengths_and_kinds<H: Bytes>(rt: &impl Abort, alloc: Global) {
     for bytes in LETTERS_A {
-        copied::<B>(rt, alloc, bytes)?;
-        taken::<B>(rt, alloc, bytes)?;
+        let len = bytes.len();
+        assert_eq!(rt; H::try_inline(bytes).is_some(), len <= 23);
+        is_by_length(rt, must(rt, H::from_slice(alloc, bytes)), len);
+        let vec = must(rt, bytes.to_vec(alloc));
+        is_by_length(rt, must(rt, H::from_vec(alloc, vec)), len);
     }
-    Ok(())
 }
 
-fn inline_values<B: Backend>(rt: &impl Abort) {
-    is(rt, HipByt::<B>::default(), b"", Kind::Inline);
+fn inline_values<H: Bytes>(rt: &impl Abort) {
+    is(rt, H::default(), b"", Kind::Inline);
+    let handle = must(rt, H::inline(b"abc"));
     assert_eq!(rt;
-        (
-            HipByt::<B>::inline_capacity(),
-            AsSlice::as_slice(&HipByt::<B>::inline(b"abc"))
-        ),
+        (H::inline_capacity(), handle.by_trait()),
         (23, b"abc".as_slice())
     );
 }
 
-fn short_clone<B: Backend>(rt: &impl Abort, alloc: Global) -> Result<(), Fail> {
+fn short_clone<H: Bytes>(rt: &impl Abort, alloc: Global) {
     let mut meter = Meter::new();
-    let clone = HipByt::<B>::from_slice(alloc, b"a")?.clone_metered(alloc, &mut meter)?;
+    let handle = must(rt, H::from_slice(alloc, b"a"));
+    let clone = must(rt, handle.clone_metered(alloc, &mut meter));
+    drop(handle);
     is(rt, clone, b"a", Kind::Inline);
     assert_eq!(rt; meter.copied(), 1);
-    Ok(())
 }
 
 const STARS: &[u8] = &[b'*'; 42];
 
 /// A clone outlives what it was cloned from, and is no borrowed value.
-fn long_clone<B: Backend>(rt: &impl Abort, alloc: Global) -> Result<(), Fail> {
-    let clone = HipByt::<B>::from_slice(alloc, STARS)?.clone(alloc)?;
+fn long_clone<H: Bytes>(rt: &impl Abort, alloc: Global) {
+    let handle = must(rt, H::from_slice(alloc, STARS));
+    let clone = must(rt, handle.clone(alloc));
+    drop(handle);
     holds(rt, &clone, STARS, Kind::Allocated);
-    is_not_borrowed(rt, clone, STARS)
+    assert!(rt; clone.as_borrowed().is_none());
+    is(
+        rt,
+        must_refuse(rt, clone.into_borrowed()),
+        STARS,
+        Kind::Allocated,
+    );
 }
 
-fn is_not_borrowed<B: Backend>(
-    rt: &impl Abort,
-    handle: HipByt<B>,
-    items: &[u8],
-) -> Result<(), Fail> {
-    assert!(rt; handle.as_borrowed().is_none());
-    let back = handle.into_borrowed().err().ok_or("it isn't borrowed")?;
-    is(rt, back, items, Kind::Allocated);
-    Ok(())
+fn lent_bytes<H: Bytes>(rt: &impl Abort) {
+    let lent = H::from_static(LETTERS);
+    let shown = lent.as_borrowed();
+    assert_eq!(rt;
+        (shown, lent.into_borrowed().ok()),
+        (Some(LETTERS), Some(LETTERS))
+    );
 }
 
-fn lent_bytes<B: Backend>(rt: &impl Abort) {
-    let lent = HipByt::<B>::from_static(LETTERS);
-    assert_eq!(rt; lent.as_borrowed(), Some(LETTERS));
-    assert_eq!(rt; lent.into_borrowed().ok(), Some(LETTERS));
-}
-
-fn least_and_greatest_room<B: Backend>(rt: &impl Abort, alloc: Global) -> Result<(), Fail> {
-    assert!(rt; HipByt::<B>::with_capacity(alloc, usize::MAX).is_err());
-    let least = HipByt::<B>::with_capacity(alloc, 23)?;
+fn least_and_greatest_room<H: Bytes>(rt: &impl Abort, alloc: Global) {
+    assert!(rt; H::with_capacity(alloc, usize::MAX).is_err());
+    let least = must(rt, H::with_capacity(alloc, 23));
     is(rt, least, b"", Kind::Inline);
-    Ok(())
 }
 
-fn on<B: Backend>(rt: &impl Abort, alloc: Global) -> Result<(), Fail> {
-    lengths_and_kinds::<B>(rt, alloc)?;
-    inline_values::<B>(rt);
-    short_clone::<B>(rt, alloc)?;
-    long_clone::<B>(rt, alloc)?;
-    lent_bytes::<B>(rt);
-    least_and_greatest_room::<B>(rt, alloc)
-}
-
-#[test]
-fn on_rc(rt: HostRuntime) -> Result<(), Fail> {
-    on::<Rc>(&rt, rt.alloc())
+pub(crate) fn all<H: Bytes>(rt: &impl Abort, alloc: Global) {
+    lengths_and_kinds::<H>(rt, alloc);
+    inline_values::<H>(rt);
+    short_clone::<H>(rt, alloc);
+    long_clone::<H>(rt, alloc);
+    lent_bytes::<H>(rt);
+    least_and_greatest_room::<H>(rt, alloc);
 }
 
 #[test]
-fn on_unique(rt: HostRuntime) -> Result<(), Fail> {
-    on::<Unique>(&rt, rt.alloc())
+fn on_rc(rt: HostRuntime) {
+    groups::on_rc(&rt, rt.alloc(), Group::Makers);
+}
+
+#[test]
+fn on_unique(rt: HostRuntime) {
+    groups::on_unique(&rt, rt.alloc(), Group::Makers);
 }

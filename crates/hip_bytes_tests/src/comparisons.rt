@@ -1,0 +1,78 @@
+//! Order, equality and maps.
+use crate::groups::{Group, on_rc, on_unique};
+use crate::support::{Bytes, must};
+use std::alloc::Global;
+use std::cmp::Ordering;
+use std::process::Abort;
+
+/// Values compare by their bytes, wherever these lie.
+fn order<H: Bytes>(rt: &impl Abort, alloc: Global) {
+    let lent = H::borrowed(b"abc");
+    let copied = must(rt, H::from_slice(alloc, b"abd"));
+    assert_eq!(rt;
+        (
+            lent.cmp(&lent),
+            lent.cmp(&copied),
+            copied.cmp(&lent),
+            lent.is_less(&copied)
+        ),
+        (Ordering::Equal, Ordering::Less, Ordering::Greater, true)
+    );
+}
+
+fn order_of_slices<H: Bytes>(rt: &impl Abort) {
+    let lent = H::borrowed(b"abc");
+    assert_eq!(rt;
+        (
+            lent.cmp_slice(b"abc"),
+            lent.cmp_slice(b"abd"),
+            lent.eq_slice(b"abd")
+        ),
+        (Ordering::Equal, Ordering::Less, false)
+    );
+}
+
+fn other_backend<H: Bytes>(rt: &impl Abort, alloc: Global) {
+    let copied = must(rt, H::from_slice(alloc, b"abd"));
+    assert_eq!(rt;
+        (copied.eq_with(b"abc"), copied.cmp_with(b"abc")),
+        (false, Ordering::Greater)
+    );
+}
+
+fn debug<H: Bytes>(rt: &impl Abort, alloc: Global) {
+    let said = must(rt, H::borrowed(b"abc").said(alloc));
+    assert_eq!(rt; said.as_str(), "[97, 98, 99]");
+}
+
+fn found_by_hash<H: Bytes>(rt: &impl Abort, alloc: Global) {
+    let key = must(rt, H::inline(b"abc"));
+    let (same, other) = (H::borrowed(b"abc"), H::borrowed(b"abd"));
+    let ages = key.found_by_hash(alloc, &same, &other);
+    assert_eq!(rt; ages, Some((Some(7), None)));
+}
+
+fn found_by_order<H: Bytes>(rt: &impl Abort, alloc: Global) {
+    let key = must(rt, H::inline(b"abc"));
+    let age = key.found_by_order(alloc, &H::borrowed(b"abc"));
+    assert_eq!(rt; age, Some(7));
+}
+
+pub(crate) fn all<H: Bytes>(rt: &impl Abort, alloc: Global) {
+    order::<H>(rt, alloc);
+    order_of_slices::<H>(rt);
+    other_backend::<H>(rt, alloc);
+    debug::<H>(rt, alloc);
+    found_by_hash::<H>(rt, alloc);
+    found_by_order::<H>(rt, alloc);
+}
+
+#[test]
+fn comparisons_on_rc(rt: HostRuntime) {
+    on_rc(&rt, rt.alloc(), Group::Comparisons);
+}
+
+#[test]
+fn comparisons_on_unique(rt: HostRuntime) {
+    on_unique(&rt, rt.alloc(), Group::Comparisons);
+}

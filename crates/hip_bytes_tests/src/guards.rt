@@ -1,0 +1,143 @@
+//! Bytes that are taken out, or lent out by a guard, as a vector.
+use crate::groups::{Group, on_rc, on_unique};
+use crate::support::{Bytes, LETTERS, holds, is, must, text_of};
+use hipstr::bytes::mutate;
+use hipstr::{Kind, Meter};
+use std::alloc::Global;
+use std::process::Abort;
+
+/// Takes the bytes out, which leaves none, and puts them back with more behind them.
+fn takes_and_puts<H: Bytes>(rt: &impl Abort, alloc: Global, handle: &mut H, addition: &[u8]) {
+    let mut meter = Meter::new();
+    let (mut vec, block) = must(rt, handle.lend_vec_metered(alloc, &mut meter));
+    holds(rt, handle, b"", Kind::Inline);
+    must(rt, vec.extend_from_slice(addition));
+    must(rt, handle.put_back_metered(alloc, block, vec, &mut meter));
+}
+
+fn takes_a_vector<H: Bytes>(rt: &impl Abort, alloc: Global) {
+    let mut handle = must(rt, H::from_slice(alloc, b"Hello, World!"));
+    takes_and_puts(rt, alloc, &mut handle, b"!");
+    holds(rt, &handle, b"Hello, World!!", Kind::Inline);
+    takes_and_puts(rt, alloc, &mut handle, LETTERS);
+    is(
+        rt,
+        handle,
+        b"Hello, World!!abcdefghijklmnopqrstuvwxyz",
+        Kind::Allocated,
+    );
+}
+
+/// Adds the byte through the vector that is lent, and asserts what the handle then holds.
+fn adds<H: Bytes>(
+    rt: &impl Abort,
+    alloc: Global,
+    handle: &mut H,
+    byte: u8,
+    items: &[u8],
+    kind: Kind,
+) {
+    let mut guard = must(rt, handle.mutate(alloc));
+    must(rt, guard.as_mut_vec().push(byte));
+    let len = guard.as_vec().len();
+    must(rt, guard.finish(alloc));
+    assert_eq!(rt; len, items.len());
+    holds(rt, handle, items, kind);
+}
+
+/// Adds a byte to the vector that is lent, and never writes it back: the handle is left with none.
+fn lets_go<H: Bytes>(rt: &impl Abort, alloc: Global, handle: &mut H) {
+    {
+        let mut guard = must(rt, mutate(handle, alloc));
+        must(rt, guard.as_mut_vec().push(b'!'));
+    }
+    holds(rt, handle, b"", Kind::Inline);
+}
+
+/// Cuts the vector that is lent to five bytes.
+fn shortens<H: Bytes>(rt: &impl Abort, alloc: Global, handle: &mut H) {
+    let mut guard = must(rt, handle.mutate(alloc));
+    guard.as_mut_vec().truncate(5);
+    must(rt, guard.finish(alloc));
+}
+
+fn lends_a_vector<H: Bytes>(rt: &impl Abort, alloc: Global) {
+    let mut handle = must(rt, H::from_slice(alloc, b"Hello, World!"));
+    adds(
+        rt,
+        alloc,
+        &mut handle,
+        b'!',
+        b"Hello, World!!",
+        Kind::Inline,
+    );
+    lets_go(rt, alloc, &mut handle);
+}
+
+fn shows_a_vector<H: Bytes>(rt: &impl Abort, alloc: Global) {
+    let mut handle = must(rt, H::inline(b"ab"));
+    let guard = must(rt, handle.mutate(alloc));
+    let text = must(rt, text_of(alloc, &guard));
+    assert_eq!(rt; text.as_str(), "[97, 98]");
+}
+
+const MANY: &[u8] = &[b'a'; 42];
+
+const ONE_MORE: &[u8] = b"aaaaaaaaaaaaaaaaaaaaaaaaaaaaaaaaaaaaaaaaaab";
+
+/// What is written through a guard doesn't show in a clone.
+fn lends_a_shared_list<H: Bytes>(rt: &impl Abort, alloc: Global) {
+    let mut handle = must(rt, H::from_slice(alloc, MANY));
+    let clone = must(rt, handle.clone(alloc));
+    adds(rt, alloc, &mut handle, b'b', ONE_MORE, Kind::Allocated);
+    holds(rt, &clone, MANY, Kind::Allocated);
+    lets_go(rt, alloc, &mut handle);
+    is(rt, clone, MANY, Kind::Allocated);
+}
+
+const LETTERS_AND_ONE: &[u8] = b"abcdefghijklmnopqrstuvwxyz1";
+
+const TAIL_AND_TWO: &[u8] = b"bcdefghijklmnopqrstuvwxyz12";
+
+const TAIL_AND_THREE: &[u8] = b"bcdefghijklmnopqrstuvwxy3";
+
+/// The letters and a digit, all but the first, of which no other handle is left.
+fn sole_tail<H: Bytes>(rt: &impl Abort, alloc: Global) -> H {
+    let mut handle = must(rt, H::from_slice(alloc, LETTERS));
+    adds(
+        rt,
+        alloc,
+        &mut handle,
+        b'1',
+        LETTERS_AND_ONE,
+        Kind::Allocated,
+    );
+    must(rt, handle.tail(alloc, 1))
+}
+
+fn lends_a_sole_list<H: Bytes>(rt: &impl Abort, alloc: Global) {
+    let mut tail = sole_tail::<H>(rt, alloc);
+    adds(rt, alloc, &mut tail, b'2', TAIL_AND_TWO, Kind::Allocated);
+    tail.truncate(24);
+    adds(rt, alloc, &mut tail, b'3', TAIL_AND_THREE, Kind::Allocated);
+    shortens(rt, alloc, &mut tail);
+    is(rt, tail, b"bcdef", Kind::Inline);
+}
+
+pub(crate) fn all<H: Bytes>(rt: &impl Abort, alloc: Global) {
+    takes_a_vector::<H>(rt, alloc);
+    lends_a_vector::<H>(rt, alloc);
+    shows_a_vector::<H>(rt, alloc);
+    lends_a_shared_list::<H>(rt, alloc);
+    lends_a_sole_list::<H>(rt, alloc);
+}
+
+#[test]
+fn guards_on_rc(rt: HostRuntime) {
+    on_rc(&rt, rt.alloc(), Group::Guards);
+}
+
+#[test]
+fn guards_on_unique(rt: HostRuntime) {
+    on_unique(&rt, rt.alloc(), Group::Guards);
+}
