@@ -1,4 +1,4 @@
-# Prints a random script for hip_play: `awk -v lines=N -v seed=S -f script.awk`. The same numbers give the same script.
+# Prints a random script for hip_play: `awk -v lines=N -v seed=S -f script.awk`. The same numbers give the same script, by the same awk.
 function below(n) { return int(rand() * n) }
 
 function pick(words, at) { at = split(words, among, " "); return among[1 + below(at)] }
@@ -35,6 +35,7 @@ function how(which) {
 }
 
 function steps(k, word) {
+    if (!below(20)) return "-"
     word = ""
     for (k = 1 + below(6); 0 < k; k--) word = word (below(3) ? "F" : "B")
     return word

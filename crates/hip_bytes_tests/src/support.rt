@@ -17,7 +17,7 @@ pub(crate) const LETTERS: &[u8] = b"abcdefghijklmnopqrstuvwxyz";
 
 const NO_PART: &str = "no such part";
 
-/// The value, or the end of the test where there is none.
+/// The value, or the end of the test where it was refused. A test with no way out but this is a straight line, and cheap to prove.
 pub(crate) fn must<T, E: Drop>(rt: &impl Abort, outcome: Result<T, E>) -> T {
     match outcome {
         Ok(value) => value,

@@ -1,9 +1,9 @@
 //! Comparisons of bytes, many at a time.
 //!
 //! Up to 128 bytes two blocks of the same width cover both byte strings, the second ending where they end; beyond that blocks of 128 and
-//! of 64 are taken one after another. An order first compares up to 16 bytes as numbers; that part (`read_short`, `read_u64_be`,
-//! `read_u32_be`, `order_unequal`) is adapted from the kit's core, `src/cmp/bytes.rt`, with its proofs.
-ghost use Rattle.std.specs.Prelude.{◌≡◌, ◌≢◌, ◌↔◌, ◌+◌, ◌*◌, ◌<◌, ◌≤◌, nat_eq, length, IsTrue, min};
+//! of 64 are taken one after another. An order compares the first eight bytes as a number, and up to 16 as two; how these are read
+//! (`read_short`, `read_u64_be`, `read_u32_be`) is adapted from the kit's core, `src/cmp/bytes.rt`, with its proofs.
+ghost use Rattle.std.specs.Prelude.{◌≡◌, ◌↔◌, ◌+◌, ◌*◌, ◌<◌, ◌≤◌, nat_eq, length, IsTrue, min};
 ghost use Rattle.std.specs.Cmp.Lexicographic.{pointwise, slice_cmp};
 ghost use Rattle.std.specs.Ordering.{nat_cmp};
 ghost use Rattle.std.specs.Simd.Lanes.{chunk};
@@ -133,7 +133,7 @@ fn alike(a: &[u8], b: &[u8], n: usize) -> usize
     ensures { IsAlikeRun a.now b.now 0 n result }
 {
     match n {
-        0..=32 => alike_by_ends::<16>(a, b, n),
+        16..=32 => alike_by_ends::<16>(a, b, n),
         33..=64 => alike_by_ends::<32>(a, b, n),
         _ => alike_by_ends::<64>(a, b, n),
     }
@@ -213,19 +213,6 @@ fn read_short(a: &[u8], b: &[u8], n: usize) -> (u64, u64)
     (x, y)
 }
 
-// How two numbers that differ stand to each other.
-#[inline(always)]
-fn order_unequal(x: u64, y: u64) -> Ordering
-    requires { x ≢ y }
-    ensures { result ≡ nat_cmp x y }
-{
-    if x < y {
-        Ordering::Less
-    } else {
-        Ordering::Greater
-    }
-}
-
 // The order where up to seven bytes are in both.
 #[inline(always)]
 fn order_short(a: &[u8], b: &[u8], both: usize) -> Ordering
@@ -235,7 +222,7 @@ fn order_short(a: &[u8], b: &[u8], both: usize) -> Ordering
 {
     let (x, y) = read_short(a, b, both);
     if x != y {
-        return order_unequal(x, y);
+        return x.cmp(&y);
     }
     a.len().cmp(&b.len())
 }
@@ -251,14 +238,14 @@ pub fn order(a: &[u8], b: &[u8]) -> Ordering
     }
     let (x, y) = (read_u64_be(a, 0), read_u64_be(b, 0));
     if x != y {
-        return order_unequal(x, y);
+        return x.cmp(&y);
     }
     if both > 16 {
         return order_by_blocks(a, b, both);
     }
     let (z, w) = (read_u64_be(a, both - 8), read_u64_be(b, both - 8));
     if z != w {
-        return order_unequal(z, w);
+        return z.cmp(&w);
     }
     a.len().cmp(&b.len())
 }
