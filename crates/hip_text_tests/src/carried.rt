@@ -1,135 +1,122 @@
 //! What hipstr's own tests ask of texts, and the worked rows.
-use crate::text::{Bytes, Tests, Text, is, on_backend, reads};
-use hip_text::{Kind, Rc, Unique};
+use crate::groups::{self, Group};
+use crate::text::{Bytes, Text, is, must, reads};
+use hip_text::{Kind, Meter};
 use std::alloc::Global;
 use std::borrow::CowStr;
 use std::cmp::Ordering;
 use std::process::Abort;
-use std::test::Fail;
 
 const LETTERS: &str = "abcdefghijklmnopqrstuvwxyz";
 
 const LONG: &str = "aaaaaaaaaaaaaaaaaaaaaaaaaaaaaaaaaaaaaaaaaa";
 
-/// How many ways there are to make a text.
-const WAYS: usize = 3;
-
-/// A text by `from_string`, one that is copied, or one that is lent, as it was made, and where its bytes lie.
-fn made<T: Text>(alloc: Global, way: usize) -> Result<(T, &'static str, Kind), Fail> {
-    Ok(match way {
-        0 => {
-            let string = String::from_str(alloc, LONG)?;
-            (T::of_string(alloc, string)?, LONG, Kind::Allocated)
-        }
-        1 => (T::of_str(alloc, "abc")?, "abc", Kind::Inline),
-        _ => (T::lent("abc"), "abc", Kind::Borrowed),
-    })
+/// How a text is made.
+#[derive(Clone, Copy)]
+enum Way {
+    Taken,
+    Copied,
+    Lent,
 }
 
-fn into_strings<T: Text>(rt: &impl Abort, alloc: Global) -> Result<(), Fail> {
-    for way in 0..WAYS {
-        let (value, text, kind) = made::<T>(alloc, way)?;
-        let was = value.place();
-        let string = value.copied(alloc)?;
-        assert_eq!(rt; (string.as_str(), was), (text, kind));
+/// A way, the text that it makes here, and where its bytes lie then.
+const WAYS: &[(Way, &str, Kind)] = &[
+    (Way::Taken, LONG, Kind::Allocated),
+    (Way::Copied, "abc", Kind::Inline),
+    (Way::Lent, "abc", Kind::Borrowed),
+];
+
+/// A text that was made in that way.
+fn made<T: Text>(rt: &impl Abort, alloc: Global, way: Way, text: &'static str) -> T {
+    match way {
+        Way::Taken => must(
+            rt,
+            T::from_string(alloc, must(rt, String::from_str(alloc, text))),
+        ),
+        Way::Copied => must(rt, T::from_str(alloc, text)),
+        Way::Lent => T::borrowed(text),
     }
-    Ok(())
 }
 
-fn into_bytes<T: Text>(rt: &impl Abort, alloc: Global) -> Result<(), Fail> {
-    for way in 0..WAYS {
-        let (value, text, kind) = made::<T>(alloc, way)?;
-        let bytes = value.bytes();
-        let was = bytes.place();
-        let vec = bytes.copied(alloc)?;
-        assert_eq!(rt; (vec.as_slice(), was), (text.as_bytes(), kind));
+fn into_strings<T: Text>(rt: &impl Abort, alloc: Global) {
+    for (way, text, kind) in WAYS {
+        let value = made::<T>(rt, alloc, *way, text);
+        assert_eq!(rt; value.kind(), *kind);
+        let string = must(rt, value.into_string_copied(alloc));
+        reads(rt, string.as_str(), text);
     }
-    Ok(())
 }
 
-fn into_lent_cow<T: Text>(rt: &impl Abort, alloc: Global) -> Result<(), Fail> {
-    let CowStr::Borrowed(lent) = T::of_static("abc").cow(alloc)? else {
-        return Err(Fail::from("it was copied"));
-    };
-    reads(rt, lent, "abc");
-    Ok(())
+fn into_bytes<T: Text>(rt: &impl Abort, alloc: Global) {
+    for (way, text, kind) in WAYS {
+        let bytes = made::<T>(rt, alloc, *way, text).into_bytes();
+        assert_eq!(rt; bytes.kind(), *kind);
+        let vec = must(rt, bytes.into_vec_copied(alloc));
+        let wanted = text.as_bytes();
+        assert_eq!(rt; vec.as_slice(), wanted);
+    }
 }
 
-fn into_owned_cow<T: Text>(rt: &impl Abort, alloc: Global) -> Result<(), Fail> {
-    let CowStr::Owned(owned) = T::of_str(alloc, "abc")?.cow(alloc)? else {
-        return Err(Fail::from("it wasn't copied"));
-    };
-    reads(rt, owned.as_str(), "abc");
-    Ok(())
+fn into_cows<T: Text>(rt: &impl Abort, alloc: Global) {
+    match must(rt, T::from_static("abc").into_cow(alloc)) {
+        CowStr::Borrowed(lent) => reads(rt, lent, "abc"),
+        CowStr::Owned(_) => panic!(rt; "it was copied"),
+    }
+    match must(rt, must(rt, T::from_str(alloc, "abc")).into_cow(alloc)) {
+        CowStr::Owned(owned) => reads(rt, owned.as_str(), "abc"),
+        CowStr::Borrowed(_) => panic!(rt; "it wasn't copied"),
+    }
 }
 
-/// Asserts that bytes are a text of the letters.
-fn is_letters<T: Text>(rt: &impl Abort, bytes: T::Bytes) -> Result<(), Fail> {
-    let text = T::of_utf8(bytes).or(Err("it isn't UTF-8"))?;
+fn from_bytes<T: Text>(rt: &impl Abort, alloc: Global) {
+    let lent = T::Bytes::borrowed(LETTERS.as_bytes());
+    let text = must(rt, T::from_utf8(must(rt, lent.clone(alloc))));
     is(rt, text, LETTERS, Kind::Borrowed);
-    Ok(())
+    is(rt, must(rt, T::from_utf8(lent)), LETTERS, Kind::Borrowed);
 }
 
-fn from_bytes<T: Text>(rt: &impl Abort, alloc: Global) -> Result<(), Fail> {
-    let lent = T::Bytes::lent(LETTERS.as_bytes());
-    is_letters::<T>(rt, lent.cloned(alloc)?)?;
-    is_letters::<T>(rt, lent)
-}
-
-fn from_slices<T: Text>(rt: &impl Abort, alloc: Global) -> Result<(), Fail> {
-    let copied = T::of_slice(alloc, LETTERS.as_bytes()).or(Err("no text"))?;
+fn from_slices<T: Text>(rt: &impl Abort, alloc: Global) {
+    let copied = must(rt, T::try_from_slice(alloc, LETTERS.as_bytes()));
     is(rt, copied, LETTERS, Kind::Allocated);
-    Ok(())
 }
 
-fn from_vectors<T: Text>(rt: &impl Abort, alloc: Global) -> Result<(), Fail> {
-    let vec = Vec::from_slice(alloc, LONG.as_bytes())?;
-    let taken = T::of_vector(alloc, vec).or(Err("no text"))?;
+fn from_vectors<T: Text>(rt: &impl Abort, alloc: Global) {
+    let vec = must(rt, Vec::from_slice(alloc, LONG.as_bytes()));
+    let taken = must(rt, T::try_from_vec(alloc, vec));
     is(rt, taken, LONG, Kind::Allocated);
-    Ok(())
 }
 
 /// Texts compare by their bytes, wherever these lie.
-fn order<T: Text>(rt: &impl Abort, alloc: Global) -> Result<(), Fail> {
-    let bb = T::lent("bb");
-    let string = String::from_str(alloc, "bc")?;
+fn order<T: Text>(rt: &impl Abort, alloc: Global) {
+    let bb = T::borrowed("bb");
+    let string = must(rt, String::from_str(alloc, "bc"));
     let bc = string.as_str();
     assert_eq!(rt;
-        (
-            bb.order(&bb),
-            T::order_lent("bb", bc),
-            T::order_lent(bc, "bb"),
-            bb.order_of(bc)
-        ),
-        (
-            Ordering::Equal,
-            Ordering::Less,
-            Ordering::Greater,
-            Ordering::Less
-        )
+        (bb.cmp(&bb), T::cmp_borrowed("bb", bc)),
+        (Ordering::Equal, Ordering::Less)
     );
-    Ok(())
+    assert_eq!(rt;
+        (T::cmp_borrowed(bc, "bb"), bb.str_cmp(bc)),
+        (Ordering::Greater, Ordering::Less)
+    );
 }
 
-fn equality<T: Text>(rt: &impl Abort, alloc: Global) -> Result<(), Fail> {
-    for way in 0..WAYS {
-        let (value, text, _) = made::<T>(alloc, way)?;
-        let clone = value.cloned(alloc)?;
-        assert_eq!(rt; (value.is(&clone), value.is_on_unique(text)), (true, true));
+fn equality<T: Text>(rt: &impl Abort, alloc: Global) {
+    for (way, text, _) in WAYS {
+        let value = made::<T>(rt, alloc, *way, text);
+        let clone = must(rt, value.clone(alloc));
+        assert_eq!(rt; (value.is_equal(&clone), value.eq_with(text)), (true, true));
     }
-    Ok(())
 }
 
 /// A slice outlives its source, and copies what fits the handle.
-fn outlives<T: Text>(rt: &impl Abort, alloc: Global) -> Result<(), Fail> {
-    let source = T::of_str(alloc, "Hello John")?;
-    let (name, copied) = source.rest(alloc, 6)?;
+fn outlives<T: Text>(rt: &impl Abort, alloc: Global) {
+    let source = must(rt, T::from_str(alloc, "Hello John"));
+    let mut meter = Meter::new();
+    let name = must(rt, source.tail(alloc, 6, &mut meter));
     drop(source);
-    assert_eq!(rt;
-        (name.text(), name.place(), copied),
-        ("John", Kind::Inline, 4)
-    );
-    Ok(())
+    assert_eq!(rt; meter.copied(), 4);
+    is(rt, name, "John", Kind::Inline);
 }
 
 /// What is pushed at the limit of the handle, how long the text is then, and where it lies.
@@ -142,89 +129,51 @@ const AT_THE_LIMIT: &[Pushed] = &[
     (22, 'é', 24, Kind::Allocated),
 ];
 
-fn is_pushed<T: Text>(rt: &impl Abort, alloc: Global, row: Pushed) -> Result<(), Fail> {
-    let (count, c, len, kind) = row;
-    let mut text = T::lent("a").repeated(alloc, count)?;
-    text.add_char(alloc, c)?;
-    assert_eq!(rt;
-        (text.size(), text.place(), text.take_last()),
-        (len, kind, Some(c))
-    );
-    Ok(())
-}
-
-fn pushes<T: Text>(rt: &impl Abort, alloc: Global) -> Result<(), Fail> {
-    for row in AT_THE_LIMIT {
-        is_pushed::<T>(rt, alloc, *row)?;
-    }
-    Ok(())
-}
-
-fn shortens<T: Text>(rt: &impl Abort, alloc: Global) -> Result<(), Fail> {
-    let mut text = T::of_str(alloc, "aé😀")?;
-    text.shorten(9)?;
-    text.shorten(7)?;
-    assert_eq!(rt;
-        (
-            text.take_last(),
-            text.take_last(),
-            text.take_last(),
-            text.take_last()
-        ),
-        (Some('😀'), Some('é'), Some('a'), None)
-    );
-    Ok(())
-}
-
-fn shortens_at_a_boundary<T: Text>(rt: &impl Abort, alloc: Global) -> Result<(), Fail> {
-    let mut text = T::of_str(alloc, "aé😀")?;
-    text.shorten(3)?;
-    reads(rt, text.text(), "aé");
-    Ok(())
-}
-
-fn on<T: Text>(rt: &impl Abort, alloc: Global) -> Result<(), Fail> {
-    into_strings::<T>(rt, alloc)?;
-    into_bytes::<T>(rt, alloc)?;
-    into_lent_cow::<T>(rt, alloc)?;
-    into_owned_cow::<T>(rt, alloc)
-}
-
-fn on_bytes<T: Text>(rt: &impl Abort, alloc: Global) -> Result<(), Fail> {
-    from_bytes::<T>(rt, alloc)?;
-    from_slices::<T>(rt, alloc)?;
-    from_vectors::<T>(rt, alloc)
-}
-
-fn on_too<T: Text>(rt: &impl Abort, alloc: Global) -> Result<(), Fail> {
-    order::<T>(rt, alloc)?;
-    equality::<T>(rt, alloc)?;
-    outlives::<T>(rt, alloc)
-}
-
-fn on_changes<T: Text>(rt: &impl Abort, alloc: Global) -> Result<(), Fail> {
-    pushes::<T>(rt, alloc)?;
-    shortens::<T>(rt, alloc)?;
-    shortens_at_a_boundary::<T>(rt, alloc)
-}
-
-struct All;
-
-impl Tests for All {
-    fn on<T: Text>(rt: &impl Abort, alloc: Global) -> Result<(), Fail> {
-        on::<T>(rt, alloc)?;
-        on_bytes::<T>(rt, alloc)?;
-        on_too::<T>(rt, alloc)?;
-        on_changes::<T>(rt, alloc)
+fn pushes<T: Text>(rt: &impl Abort, alloc: Global) {
+    for (count, c, len, kind) in AT_THE_LIMIT {
+        let mut text = must(rt, T::borrowed("a").repeat(alloc, *count));
+        must(rt, text.push(alloc, *c));
+        assert_eq!(rt;
+            (text.len(), text.kind(), text.pop()),
+            (*len, *kind, Some(*c))
+        );
     }
 }
 
-#[test]
-fn on_rc(rt: HostRuntime) -> Result<(), Fail> {
-    on_backend::<All, Rc>(&rt, rt.alloc())
+fn shortens<T: Text>(rt: &impl Abort, alloc: Global) {
+    let mut text = must(rt, T::from_str(alloc, "aé😀"));
+    for len in [9, 7] {
+        must(rt, text.shorten(len));
+        reads(rt, text.as_str(), "aé😀");
+    }
+    for last in [Some('😀'), Some('é'), Some('a'), None] {
+        assert_eq!(rt; text.pop(), last);
+    }
+    let mut text = must(rt, T::from_str(alloc, "aé😀"));
+    must(rt, text.shorten(3));
+    reads(rt, text.as_str(), "aé");
+}
+
+pub(crate) fn all<T: Text>(rt: &impl Abort, alloc: Global) {
+    into_strings::<T>(rt, alloc);
+    into_bytes::<T>(rt, alloc);
+    into_cows::<T>(rt, alloc);
+    from_bytes::<T>(rt, alloc);
+    from_slices::<T>(rt, alloc);
+    from_vectors::<T>(rt, alloc);
+    order::<T>(rt, alloc);
+    equality::<T>(rt, alloc);
+    outlives::<T>(rt, alloc);
+    pushes::<T>(rt, alloc);
+    shortens::<T>(rt, alloc);
 }
 
 #[test]
-fn on_unique(rt: HostRuntime) -> Result<(), Fail> {
-    on_backend::<All, Unique>(&rt, rt.alloc())
+fn on_rc(rt: HostRuntime) {
+    groups::on_rc(&rt, rt.alloc(), Group::Carried);
+}
+
+#[test]
+fn on_unique(rt: HostRuntime) {
+    groups::on_unique(&rt, rt.alloc(), Group::Carried);
 }

@@ -1,9 +1,9 @@
 //! Bytes that are UTF-8, that aren't, and their repair.
-use crate::text::{Bytes, Refusal, Tests, Text, error_of, on_backend, reads};
-use hip_text::{Kind, Rc, Unique};
+use crate::groups::{self, Group};
+use crate::text::{Bytes, Refusal, Text, must, must_refuse, reads};
+use hip_text::Kind;
 use std::alloc::Global;
 use std::process::Abort;
-use std::test::Fail;
 
 /// Both ends of each class of characters.
 const ACCEPTED: &[&[u8]] = &[
@@ -67,89 +67,67 @@ const REPAIRED: &[Repaired] = &[
     (b"\xE2(\xA1", "\u{FFFD}(\u{FFFD}"),
 ];
 
-fn accepts<T: Text>(rt: &impl Abort, alloc: Global, bytes: &'static [u8]) -> Result<(), Fail> {
-    let text = T::of_utf8(T::Bytes::lent(bytes)).or(Err("it isn't UTF-8"))?;
-    let is_copied = T::of_slice(alloc, bytes).is_ok();
-    assert_eq!(rt;
-        (text.encoded(), text.place(), is_copied),
-        (bytes, Kind::Borrowed, true)
-    );
-    Ok(())
-}
-
-fn refuses<T: Text>(rt: &impl Abort, row: Refused) -> Result<(), Fail> {
-    let (bytes, front, len) = row;
-    let error = error_of::<T>(T::Bytes::lent(bytes))?;
-    assert_eq!(rt; (error.cause(), error.slice()), ((front, len), bytes));
-    Ok(())
-}
-
-fn repairs<T: Text>(rt: &impl Abort, alloc: Global, row: Repaired) -> Result<(), Fail> {
-    let repaired = T::of_utf8_lossy(alloc, T::Bytes::lent(row.0))?;
-    reads(rt, repaired.text(), row.1);
-    Ok(())
-}
-
-fn tables_on<T: Text>(rt: &impl Abort, alloc: Global) -> Result<(), Fail> {
+fn accepts<T: Text>(rt: &impl Abort, alloc: Global) {
     for bytes in ACCEPTED {
-        accepts::<T>(rt, alloc, bytes)?;
+        let text = must(rt, T::from_utf8(T::Bytes::borrowed(bytes)));
+        assert_eq!(rt; (text.as_bytes(), text.kind()), (*bytes, Kind::Borrowed));
+        let copied = must(rt, T::try_from_slice(alloc, bytes));
+        assert_eq!(rt; copied.as_bytes(), *bytes);
     }
-    for row in REFUSED {
-        refuses::<T>(rt, *row)?;
+}
+
+fn refuses<T: Text>(rt: &impl Abort) {
+    for (bytes, front, len) in REFUSED {
+        let error = must_refuse(rt, T::from_utf8(T::Bytes::borrowed(bytes)));
+        assert_eq!(rt; (error.cause(), error.as_bytes()), ((*front, *len), *bytes));
     }
-    for row in REPAIRED {
-        repairs::<T>(rt, alloc, *row)?;
+}
+
+fn repairs<T: Text>(rt: &impl Abort, alloc: Global) {
+    for (bytes, text) in REPAIRED {
+        let repaired = must(rt, T::from_utf8_lossy(alloc, T::Bytes::borrowed(bytes)));
+        reads(rt, repaired.as_str(), text);
     }
-    Ok(())
 }
 
 /// Seven faults fit the handle itself, eight don't.
-fn repairs_by_length<T: Text>(rt: &impl Abort, alloc: Global) -> Result<(), Fail> {
+fn repairs_by_length<T: Text>(rt: &impl Abort, alloc: Global) {
     for (len, kind) in [(7, Kind::Inline), (8, Kind::Allocated)] {
-        let faults = T::Bytes::lent(b"\xFF").repeated(alloc, len)?;
-        let repaired = T::of_utf8_lossy(alloc, faults)?;
-        assert_eq!(rt; (repaired.size(), repaired.place()), (3 * len, kind));
+        let faults = must(rt, T::Bytes::borrowed(b"\xFF").repeat(alloc, len));
+        let repaired = must(rt, T::from_utf8_lossy(alloc, faults));
+        assert_eq!(rt; (repaired.len(), repaired.kind()), (3 * len, kind));
     }
-    Ok(())
 }
 
-fn prints_itself<T: Text>(rt: &impl Abort, alloc: Global) -> Result<(), Fail> {
-    let error = error_of::<T>(T::Bytes::lent(b"abc\xFF"))?;
+fn prints_itself<T: Text>(rt: &impl Abort, alloc: Global) {
+    let error = must_refuse(rt, T::from_utf8(T::Bytes::borrowed(b"abc\xFF")));
     reads(
         rt,
-        error.debugged(alloc)?.as_str(),
+        must(rt, error.debugged(alloc)).as_str(),
         "FromUtf8Error { bytes: [97, 98, 99, 255], error: Utf8Error { valid_up_to: 3, error_len: Some(1) } }",
     );
-    Ok(())
-}
-
-fn prints_a_cut<T: Text>(rt: &impl Abort, alloc: Global) -> Result<(), Fail> {
-    let cut = error_of::<T>(T::Bytes::lent(b"a\xC3"))?;
+    let cut = must_refuse(rt, T::from_utf8(T::Bytes::borrowed(b"a\xC3")));
     reads(
         rt,
-        cut.said(alloc)?.as_str(),
+        must(rt, cut.shown(alloc)).as_str(),
         "incomplete utf-8 byte sequence from index 1",
     );
-    Ok(())
 }
 
-struct All;
-
-impl Tests for All {
-    fn on<T: Text>(rt: &impl Abort, alloc: Global) -> Result<(), Fail> {
-        tables_on::<T>(rt, alloc)?;
-        repairs_by_length::<T>(rt, alloc)?;
-        prints_itself::<T>(rt, alloc)?;
-        prints_a_cut::<T>(rt, alloc)
-    }
+pub(crate) fn all<T: Text>(rt: &impl Abort, alloc: Global) {
+    accepts::<T>(rt, alloc);
+    refuses::<T>(rt);
+    repairs::<T>(rt, alloc);
+    repairs_by_length::<T>(rt, alloc);
+    prints_itself::<T>(rt, alloc);
 }
 
 #[test]
-fn on_rc(rt: HostRuntime) -> Result<(), Fail> {
-    on_backend::<All, Rc>(&rt, rt.alloc())
+fn on_rc(rt: HostRuntime) {
+    groups::on_rc(&rt, rt.alloc(), Group::Decoding);
 }
 
 #[test]
-fn on_unique(rt: HostRuntime) -> Result<(), Fail> {
-    on_backend::<All, Unique>(&rt, rt.alloc())
+fn on_unique(rt: HostRuntime) {
+    groups::on_unique(&rt, rt.alloc(), Group::Decoding);
 }

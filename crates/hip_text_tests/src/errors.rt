@@ -1,10 +1,10 @@
 //! Ranges that are refused, and bytes that aren't a text.
-use crate::text::{Bytes, Refusal, Tests, Text, error_of, is, on_backend, reads};
-use hip_text::{BytesFault, Kind, Rc, SliceErrorKind, Unique};
+use crate::groups::{self, Group};
+use crate::text::{Bytes, Refusal, Text, is, must, must_refuse, reads};
+use hip_text::{BytesFault, Kind, SliceErrorKind};
 use std::alloc::Global;
 use std::ops::Bound;
 use std::process::Abort;
-use std::test::Fail;
 
 /// Two bounds that are no range of `aéz` (the bytes 61 C3 A9 7A), and what the error tells of them.
 #[derive(Clone, Copy)]
@@ -42,102 +42,83 @@ const REFUSED: &[Refused] = &[
     },
 ];
 
-fn refuses<T: Text>(rt: &impl Abort, alloc: Global, row: Refused) -> Result<(), Fail> {
-    let (low, high) = row.bounds;
-    let (kind, said) = T::lent("aéz").refusal(alloc, low, high)?;
-    assert_eq!(rt; (kind, said.as_str()), (row.kind, row.text));
-    Ok(())
+fn refuses<T: Text>(rt: &impl Abort, alloc: Global) {
+    let text = T::borrowed("aéz");
+    for row in REFUSED {
+        let (low, high) = row.bounds;
+        let refusal = must(rt, text.refusal(alloc, low, high));
+        let (kind, said) = must(rt, refusal.ok_or("it is a range"));
+        assert_eq!(rt; (kind, said.as_str()), (row.kind, row.text));
+    }
 }
 
 /// Bytes that aren't a text come back from the error as they were.
-fn is_kept<T: Text>(rt: &impl Abort, bytes: T::Bytes, kind: Kind) -> Result<(), Fail> {
-    let error = error_of::<T>(bytes)?;
-    let (front, _) = error.cause();
-    let back = error.back();
+fn is_kept<T: Text>(rt: &impl Abort, bytes: T::Bytes, kind: Kind) {
+    let error = must_refuse(rt, T::from_utf8(bytes));
+    assert_eq!(rt; error.cause(), (3, Some(1)));
+    let back = error.into_bytes();
     assert_eq!(rt;
-        (front, back.place(), back.holds(b"abc\xFF")),
-        (3, kind, true)
+        (back.as_slice(), back.kind()),
+        (b"abc\xFF".as_slice(), kind)
     );
-    Ok(())
 }
 
-fn not_utf8<T: Text>(rt: &impl Abort, alloc: Global) -> Result<(), Fail> {
-    let bytes = T::Bytes::of_slice(alloc, b"abc\xFF")?;
-    is_kept::<T>(rt, bytes, Kind::Inline)
+/// Alone, and with an owner that has room.
+fn not_utf8<T: Text>(rt: &impl Abort, alloc: Global) {
+    let bytes = must(rt, T::Bytes::from_slice(alloc, b"abc\xFF"));
+    is_kept::<T>(rt, bytes, Kind::Inline);
+    let mut roomy = must(rt, T::Bytes::with_capacity(alloc, 42));
+    must(rt, roomy.push_slice(alloc, b"abc\xFF"));
+    is_kept::<T>(rt, roomy, Kind::Allocated);
 }
 
-/// As the last, where the bytes lie with an owner that has room.
-fn not_utf8_with_room<T: Text>(rt: &impl Abort, alloc: Global) -> Result<(), Fail> {
-    let roomy = T::Bytes::with_room(alloc, 42, b"abc\xFF")?;
-    is_kept::<T>(rt, roomy, Kind::Allocated)
-}
-
-fn text_of_the_error<T: Text>(rt: &impl Abort, alloc: Global) -> Result<(), Fail> {
-    let bytes = T::Bytes::of_slice(alloc, b"abc\xFFc")?;
-    let said = error_of::<T>(bytes)?.said(alloc)?;
+fn text_of_the_error<T: Text>(rt: &impl Abort, alloc: Global) {
+    let bytes = must(rt, T::Bytes::from_slice(alloc, b"abc\xFFc"));
+    let error = must_refuse(rt, T::from_utf8(bytes));
     reads(
         rt,
-        said.as_str(),
+        must(rt, error.shown(alloc)).as_str(),
         "invalid utf-8 sequence of 1 bytes from index 3",
     );
-    Ok(())
 }
 
 fn not_utf8_in_a_slice<T: Text>(rt: &impl Abort, alloc: Global) {
-    let refused = T::of_slice(alloc, b"abc\x80").err();
-    assert_eq!(rt; refused, Some(BytesFault::NotUtf8));
+    let fault = must_refuse(rt, T::try_from_slice(alloc, b"abc\x80"));
+    assert_eq!(rt; fault, BytesFault::NotUtf8);
 }
 
-fn not_utf8_in_a_vector<T: Text>(rt: &impl Abort, alloc: Global) -> Result<(), Fail> {
-    let vec = Vec::from_slice(alloc, b"abc\x80")?;
-    let (fault, back) = T::of_vector(alloc, vec).err().ok_or("it is UTF-8")?;
+fn not_utf8_in_a_vector<T: Text>(rt: &impl Abort, alloc: Global) {
+    let vec = must(rt, Vec::from_slice(alloc, b"abc\x80"));
+    let (fault, back) = must_refuse(rt, T::try_from_vec(alloc, vec));
     assert_eq!(rt;
         (fault, back.as_slice()),
         (BytesFault::NotUtf8, b"abc\x80".as_slice())
     );
-    Ok(())
 }
 
-fn repaired<T: Text>(rt: &impl Abort, alloc: Global) -> Result<(), Fail> {
-    let broken = T::Bytes::of_slice(alloc, b"a\xFFb")?;
-    is(
-        rt,
-        T::of_utf8_lossy(alloc, broken)?,
-        "a\u{FFFD}b",
-        Kind::Inline,
-    );
-    Ok(())
-}
-
-fn whole_as_it_was<T: Text>(rt: &impl Abort, alloc: Global) -> Result<(), Fail> {
-    let whole = T::of_utf8_lossy(alloc, T::Bytes::lent(b"abc"))?;
+fn repaired<T: Text>(rt: &impl Abort, alloc: Global) {
+    let broken = must(rt, T::Bytes::from_slice(alloc, b"a\xFFb"));
+    let text = must(rt, T::from_utf8_lossy(alloc, broken));
+    is(rt, text, "a\u{FFFD}b", Kind::Inline);
+    let whole = must(rt, T::from_utf8_lossy(alloc, T::Bytes::borrowed(b"abc")));
     is(rt, whole, "abc", Kind::Borrowed);
-    Ok(())
 }
 
-struct All;
-
-impl Tests for All {
-    fn on<T: Text>(rt: &impl Abort, alloc: Global) -> Result<(), Fail> {
-        for row in REFUSED {
-            refuses::<T>(rt, alloc, *row)?;
-        }
-        not_utf8::<T>(rt, alloc)?;
-        not_utf8_with_room::<T>(rt, alloc)?;
-        text_of_the_error::<T>(rt, alloc)?;
-        not_utf8_in_a_slice::<T>(rt, alloc);
-        not_utf8_in_a_vector::<T>(rt, alloc)?;
-        repaired::<T>(rt, alloc)?;
-        whole_as_it_was::<T>(rt, alloc)
-    }
+pub(crate) fn all<T: Text>(rt: &impl Abort, alloc: Global) {
+    refuses::<T>(rt, alloc);
+    not_utf8::<T>(rt, alloc);
+    text_of_the_error::<T>(rt, alloc);
+    not_utf8_in_a_slice::<T>(rt, alloc);
+    not_utf8_in_a_vector::<T>(rt, alloc);
+    repaired::<T>(rt, alloc);
 }
 
 #[test]
-fn on_rc(rt: HostRuntime) -> Result<(), Fail> {
-    on_backend::<All, Rc>(&rt, rt.alloc())
+fn on_rc(rt: HostRuntime) {
+    groups::on_rc(&rt, rt.alloc(), Group::Errors);
 }
 
 #[test]
-fn on_unique(rt: HostRuntime) -> Result<(), Fail> {
-    on_backend::<All, Unique>(&rt, rt.alloc())
+fn on_unique(rt: HostRuntime) {
+    groups::on_unique(&rt, rt.alloc(), Group::Errors);
 }

@@ -2,6 +2,7 @@
 //! that come from elsewhere. On either backend.
 //!
 //! - `text`: what they ask of texts and of bytes.
+//! - `groups`: the files below, run on a backend.
 //! - `makers`: makers, conversions, pushes, `pop`, case, comparisons and guards.
 //! - `carried`: what hipstr's own tests ask, and the worked rows.
 //! - `decoding`: bytes that are UTF-8, that aren't, and their repair.
@@ -15,6 +16,8 @@ mod carried;
 mod decoding;
 #[cfg(test)]
 mod errors;
+#[cfg(test)]
+mod groups;
 #[cfg(test)]
 mod made;
 #[cfg(test)]

@@ -1,9 +1,9 @@
 //! Joins and repetitions, and texts of units of UTF-16.
-use crate::text::{Bytes, Refusal, Tests, Text, error_of, on_backend, reads};
-use hip_text::{GrowFault, Rc, Unique, Utf16Fault};
+use crate::groups::{self, Group};
+use crate::text::{Bytes, Refusal, Text, is, must, must_refuse, reads};
+use hip_text::{GrowFault, Kind, Meter, Utf16Fault};
 use std::alloc::Global;
 use std::process::Abort;
-use std::test::Fail;
 
 /// Texts, what stands between them, and what they make.
 type Joined = (&'static [&'static str], &'static str, &'static str);
@@ -22,31 +22,33 @@ const JOINED: &[Joined] = &[
     ),
 ];
 
-fn joins<T: Text>(rt: &impl Abort, alloc: Global, row: Joined) -> Result<(), Fail> {
-    let (texts, sep, whole) = row;
-    reads(rt, T::joined(alloc, texts, sep)?.text(), whole);
-    reads(rt, T::gathered(alloc, texts, sep)?.text(), whole);
-    Ok(())
+fn joins<T: Text>(rt: &impl Abort, alloc: Global) {
+    for (texts, sep, whole) in JOINED {
+        let joined = must(rt, T::join_slices(alloc, texts, sep));
+        reads(rt, joined.as_str(), whole);
+        let gathered = must(rt, T::joined(alloc, texts, sep));
+        reads(rt, gathered.as_str(), whole);
+    }
 }
 
-fn concatenates<T: Text>(rt: &impl Abort, alloc: Global) -> Result<(), Fail> {
-    let (whole, copied) = T::concatenated(alloc, &["é", "", "z"])?;
-    assert_eq!(rt; (whole.text(), copied), ("éz", 3));
-    Ok(())
+fn concatenates<T: Text>(rt: &impl Abort, alloc: Global) {
+    let mut meter = Meter::new();
+    let whole = must(
+        rt,
+        T::concat_slices_metered(alloc, &["é", "", "z"], &mut meter),
+    );
+    assert_eq!(rt; (whole.as_str(), meter.copied()), ("éz", 3));
+    let whole = must(rt, T::concat(alloc, ["é", "", "z"]));
+    reads(rt, whole.as_str(), "éz");
 }
 
-fn concatenates_items<T: Text>(rt: &impl Abort, alloc: Global) -> Result<(), Fail> {
-    let whole = T::concatenated_items(alloc, ["é", "", "z"])?;
-    reads(rt, whole.text(), "éz");
-    Ok(())
-}
-
-fn repeats<T: Text>(rt: &impl Abort, alloc: Global) -> Result<(), Fail> {
-    let text = T::of_str(alloc, "é")?;
-    let repeated = text.repeated(alloc, 3)?;
-    let fault = text.repeated(alloc, usize::MAX).err();
-    assert_eq!(rt; (repeated.text(), fault), ("ééé", Some(GrowFault::TooLong)));
-    Ok(())
+fn repeats<T: Text>(rt: &impl Abort, alloc: Global) {
+    let text = must(rt, T::from_str(alloc, "é"));
+    is(rt, must(rt, text.repeat(alloc, 3)), "ééé", Kind::Inline);
+    let fault = must_refuse(rt, text.repeat(alloc, usize::MAX));
+    assert_eq!(rt; fault, GrowFault::TooLong);
+    let twice = must(rt, T::borrowed("é-").repeat(alloc, 2));
+    is(rt, twice, "é-é-", Kind::Inline);
 }
 
 /// Units that are UTF-16, and their text.
@@ -78,84 +80,56 @@ const UNPAIRED: &[Unpaired] = &[
     (&[0xDC00, 0xD800], 0, "\u{FFFD}\u{FFFD}"),
 ];
 
-fn reads_units<T: Text>(rt: &impl Abort, alloc: Global, row: Spelt) -> Result<(), Fail> {
-    let (units, text) = row;
-    let read = T::of_utf16(alloc, units).or(Err("an unpaired surrogate"))?;
-    reads(rt, read.text(), text);
-    reads(rt, T::of_utf16_lossy(alloc, units)?.text(), text);
-    Ok(())
+fn reads_units<T: Text>(rt: &impl Abort, alloc: Global) {
+    for (units, text) in SPELT {
+        let read = must(rt, T::from_utf16(alloc, units));
+        reads(rt, read.as_str(), text);
+        let read = must(rt, T::from_utf16_lossy(alloc, units));
+        reads(rt, read.as_str(), text);
+    }
 }
 
-fn refuses_units<T: Text>(rt: &impl Abort, alloc: Global, row: Unpaired) -> Result<(), Fail> {
-    let (units, at, text) = row;
+fn refuses_units<T: Text>(rt: &impl Abort, alloc: Global) {
+    for (units, at, text) in UNPAIRED {
+        let fault = must_refuse(rt, T::from_utf16(alloc, units));
+        assert_eq!(rt; fault, Utf16Fault::Unpaired(*at));
+        let read = must(rt, T::from_utf16_lossy(alloc, units));
+        reads(rt, read.as_str(), text);
+    }
+}
+
+/// Errors are equal by their bytes, wherever these lie.
+fn compares_errors<T: Text>(rt: &impl Abort, alloc: Global) {
+    let copied = must(rt, T::Bytes::from_slice(alloc, b"a\xFF"));
+    let copied = must_refuse(rt, T::from_utf8(copied));
+    let same = must_refuse(rt, T::from_utf8(T::Bytes::borrowed(b"a\xFF")));
+    let other = must_refuse(rt, T::from_utf8(T::Bytes::borrowed(b"b\xFF")));
     assert_eq!(rt;
-        T::of_utf16(alloc, units).err(),
-        Some(Utf16Fault::Unpaired(at))
+        (copied.is_equal(&same), copied.is_other(&same)),
+        (true, false)
     );
-    reads(rt, T::of_utf16_lossy(alloc, units)?.text(), text);
-    Ok(())
-}
-
-/// Asserts whether an error is that of `a` and a byte that begins no character.
-fn is_equal<T: Text>(rt: &impl Abort, error: &T::Error, is_equal: bool) -> Result<(), Fail> {
-    let lent = error_of::<T>(T::Bytes::lent(b"a\xFF"))?;
     assert_eq!(rt;
-        (error.is(&lent), error.is_other(&lent)),
-        (is_equal, !is_equal)
+        (other.is_equal(&same), other.is_other(&same)),
+        (false, true)
     );
-    Ok(())
+    assert!(rt; must(rt, same.clone(alloc)).is_equal(&same));
 }
 
-fn compares_errors<T: Text>(rt: &impl Abort, alloc: Global) -> Result<(), Fail> {
-    let copied = error_of::<T>(T::Bytes::of_slice(alloc, b"a\xFF")?)?;
-    is_equal::<T>(rt, &copied, true)?;
-    let other = error_of::<T>(T::Bytes::lent(b"b\xFF"))?;
-    is_equal::<T>(rt, &other, false)
-}
-
-fn compares_a_clone<T: Text>(rt: &impl Abort, alloc: Global) -> Result<(), Fail> {
-    let error = error_of::<T>(T::Bytes::lent(b"a\xFF"))?;
-    let clone = error.cloned(alloc)?;
-    assert!(rt; clone.is(&error));
-    Ok(())
-}
-
-fn on<T: Text>(rt: &impl Abort, alloc: Global) -> Result<(), Fail> {
-    for row in JOINED {
-        joins::<T>(rt, alloc, *row)?;
-    }
-    concatenates::<T>(rt, alloc)?;
-    concatenates_items::<T>(rt, alloc)?;
-    repeats::<T>(rt, alloc)?;
-    compares_errors::<T>(rt, alloc)?;
-    compares_a_clone::<T>(rt, alloc)
-}
-
-fn units_on<T: Text>(rt: &impl Abort, alloc: Global) -> Result<(), Fail> {
-    for row in SPELT {
-        reads_units::<T>(rt, alloc, *row)?;
-    }
-    for row in UNPAIRED {
-        refuses_units::<T>(rt, alloc, *row)?;
-    }
-    Ok(())
-}
-
-struct All;
-
-impl Tests for All {
-    fn on<T: Text>(rt: &impl Abort, alloc: Global) -> Result<(), Fail> {
-        on::<T>(rt, alloc)?;
-        units_on::<T>(rt, alloc)
-    }
+pub(crate) fn all<T: Text>(rt: &impl Abort, alloc: Global) {
+    joins::<T>(rt, alloc);
+    concatenates::<T>(rt, alloc);
+    repeats::<T>(rt, alloc);
+    compares_errors::<T>(rt, alloc);
+    reads_units::<T>(rt, alloc);
+    refuses_units::<T>(rt, alloc);
 }
 
 #[test]
-fn on_rc(rt: HostRuntime) -> Result<(), Fail> {
-    on_backend::<All, Rc>(&rt, rt.alloc())
+fn on_rc(rt: HostRuntime) {
+    groups::on_rc(&rt, rt.alloc(), Group::Made);
 }
 
 #[test]
-fn on_unique(rt: HostRuntime) -> Result<(), Fail> {
-    on_backend::<All, Unique>(&rt, rt.alloc())
+fn on_unique(rt: HostRuntime) {
+    groups::on_unique(&rt, rt.alloc(), Group::Made);
 }

@@ -1,174 +1,189 @@
-//! What the tests ask of texts, of bytes, and of bytes that aren't a text. The methods say nothing of their answers, so that a test knows
-//! nothing but what it compares.
+//! What the tests ask of texts, of bytes, and of bytes that aren't a text. The calls are by their own names where nothing else is said, and
+//! say nothing of their answers, so that a test knows nothing but what it compares.
 use hip_text::{
     Backend, BytesFault, FromUtf8Error, GrowFault, HipByt, HipStr, Kind, Meter, SliceErrorKind,
     SliceRefusal, Unique, Utf16Fault,
 };
-use std::alloc::Global;
+use std::alloc::{AllocError, Global};
 use std::borrow::CowStr;
 use std::cmp::Ordering;
 use std::fmt;
 use std::ops::Bound;
 use std::process::Abort;
-use std::test::Fail;
 
 pub trait Text: Drop {
     type Bytes: Bytes;
 
-    type Error: Refusal;
+    type Error: Refusal<Bytes = Self::Bytes>;
 
-    fn empty() -> Self;
+    fn new() -> Self;
 
-    fn of_static(text: &'static str) -> Self;
+    fn from_static(text: &'static str) -> Self;
 
-    fn lent(text: &'static str) -> Self;
+    fn borrowed(text: &'static str) -> Self;
 
-    fn of_str(alloc: Global, text: &str) -> Result<Self, Fail>;
+    fn from_str(alloc: Global, text: &str) -> Result<Self, AllocError>;
 
-    fn of_string(alloc: Global, string: String) -> Result<Self, Fail>;
+    fn from_string(alloc: Global, string: String) -> Result<Self, String>;
 
-    fn of_cow(alloc: Global, cow: CowStr<'static>) -> Result<Self, Fail>;
+    fn from_cow(alloc: Global, cow: CowStr<'static>) -> Result<Self, CowStr<'static>>;
 
-    fn of_utf8(bytes: Self::Bytes) -> Result<Self, Self::Error>;
+    fn from_utf8(bytes: Self::Bytes) -> Result<Self, Self::Error>;
 
-    fn of_utf8_lossy(alloc: Global, bytes: Self::Bytes) -> Result<Self, Fail>;
+    fn from_utf8_lossy(alloc: Global, bytes: Self::Bytes) -> Result<Self, Self::Bytes>;
 
-    fn of_slice(alloc: Global, bytes: &[u8]) -> Result<Self, BytesFault>;
+    fn try_from_slice(alloc: Global, bytes: &[u8]) -> Result<Self, BytesFault>;
 
-    fn of_vector(alloc: Global, vec: Vec<u8>) -> Result<Self, (BytesFault, Vec<u8>)>;
+    fn try_from_vec(alloc: Global, vec: Vec<u8>) -> Result<Self, (BytesFault, Vec<u8>)>;
 
-    fn of_utf16(alloc: Global, units: &[u16]) -> Result<Self, Utf16Fault>;
+    fn from_utf16(alloc: Global, units: &[u16]) -> Result<Self, Utf16Fault>;
 
-    fn of_utf16_lossy(alloc: Global, units: &[u16]) -> Result<Self, Fail>;
+    fn from_utf16_lossy(alloc: Global, units: &[u16]) -> Result<Self, AllocError>;
 
-    fn joined(alloc: Global, texts: &[&str], sep: &str) -> Result<Self, Fail>;
+    fn join_slices(alloc: Global, texts: &[&str], sep: &str) -> Result<Self, GrowFault>;
 
-    /// As `joined`, from an iterator.
-    fn gathered(alloc: Global, texts: &[&str], sep: &str) -> Result<Self, Fail>;
+    /// By `join`.
+    fn joined(alloc: Global, texts: &[&str], sep: &str) -> Result<Self, GrowFault>;
 
-    /// Texts one behind the other, and how many bytes were copied.
-    fn concatenated(alloc: Global, texts: &[&str]) -> Result<(Self, u128), Fail>;
+    fn concat_slices_metered(
+        alloc: Global,
+        texts: &[&str],
+        meter: &mut Meter,
+    ) -> Result<Self, GrowFault>;
 
-    /// As `concatenated`, from the iterator of an array.
-    fn concatenated_items(alloc: Global, texts: [&'static str; 3]) -> Result<Self, Fail>;
+    fn concat(alloc: Global, texts: [&'static str; 3]) -> Result<Self, GrowFault>;
 
-    fn repeated(&self, alloc: Global, n: usize) -> Result<Self, GrowFault>;
+    fn repeat(&self, alloc: Global, n: usize) -> Result<Self, GrowFault>;
 
-    fn cloned(&self, alloc: Global) -> Result<Self, Fail>;
+    fn clone(&self, alloc: Global) -> Result<Self, AllocError>;
 
-    fn part(&self, alloc: Global, start: usize, end: usize) -> Result<Self, Fail>;
+    /// The part in a range, by `slice`. What is no part is refused here as where there is no memory, and in the next.
+    fn part(&self, alloc: Global, start: usize, end: usize) -> Result<Self, AllocError>;
 
-    /// What lies from `start` on, and how many bytes were copied.
-    fn rest(&self, alloc: Global, start: usize) -> Result<(Self, u128), Fail>;
+    /// The part from a place on, by `slice_metered`.
+    fn tail(&self, alloc: Global, start: usize, meter: &mut Meter) -> Result<Self, AllocError>;
 
-    /// Why these bounds are no range of the text, by its kind and in words.
+    /// Why two bounds are no range of the text, by its kind and in words, by `try_slice_bounds`; none where they are one.
     fn refusal(
         &self,
         alloc: Global,
         low: Bound<usize>,
         high: Bound<usize>,
-    ) -> Result<(SliceErrorKind, String), Fail>;
+    ) -> Result<Option<(SliceErrorKind, String)>, AllocError>;
 
-    fn text(&self) -> &str;
+    fn as_str(&self) -> &str;
 
-    fn encoded(&self) -> &[u8];
+    fn as_bytes(&self) -> &[u8];
 
-    fn size(&self) -> usize;
+    fn len(&self) -> usize;
 
-    fn place(&self) -> Kind;
+    fn kind(&self) -> Kind;
 
-    fn copied(self, alloc: Global) -> Result<String, Fail>;
+    fn into_string(self, alloc: Global) -> Result<String, Self>;
 
-    fn own_string(self, alloc: Global) -> Result<String, Self>;
+    fn into_string_copied(self, alloc: Global) -> Result<String, Self>;
 
-    fn cow(self, alloc: Global) -> Result<CowStr<'static>, Fail>;
+    fn into_cow(self, alloc: Global) -> Result<CowStr<'static>, Self>;
 
-    fn bytes(self) -> Self::Bytes;
+    fn into_bytes(self) -> Self::Bytes;
 
-    fn add(&mut self, alloc: Global, text: &str) -> Result<(), Fail>;
+    fn push_str(&mut self, alloc: Global, addition: &str) -> Result<(), AllocError>;
 
-    fn add_char(&mut self, alloc: Global, c: char) -> Result<(), Fail>;
+    fn push(&mut self, alloc: Global, c: char) -> Result<(), AllocError>;
 
-    /// Adds through the string that is lent, and answers its length then.
-    fn add_by_guard(&mut self, alloc: Global, text: &str) -> Result<usize, Fail>;
+    /// Adds to the string that `mutate` lends, and answers its length then.
+    fn push_by_guard(&mut self, alloc: Global, addition: &str) -> Result<usize, &'static str>;
 
-    fn shorten(&mut self, len: usize) -> Result<(), Fail>;
+    /// By `truncate`, where there is a boundary.
+    fn shorten(&mut self, len: usize) -> Result<(), &'static str>;
 
-    fn take_last(&mut self) -> Option<char>;
+    fn pop(&mut self) -> Option<char>;
 
-    fn upper(&self, alloc: Global) -> Result<Self, Fail>;
+    fn to_ascii_uppercase(&self, alloc: Global) -> Result<Self, AllocError>;
 
-    fn lower(&self, alloc: Global) -> Result<Self, Fail>;
+    fn to_ascii_lowercase(&self, alloc: Global) -> Result<Self, AllocError>;
 
-    fn is(&self, other: &Self) -> bool;
+    /// By `==`.
+    fn is_equal(&self, other: &Self) -> bool;
 
-    fn is_text(&self, text: &str) -> bool;
+    fn str_eq(&self, other: &str) -> bool;
 
-    /// Whether a text of the other backend is equal.
-    fn is_on_unique(&self, text: &str) -> bool;
+    /// Whether it is equal to a text of `Unique`, by `eq_with`.
+    fn eq_with(&self, other: &str) -> bool;
 
-    fn order(&self, other: &Self) -> Ordering;
+    fn cmp(&self, other: &Self) -> Ordering;
 
-    fn order_of(&self, text: &str) -> Ordering;
+    fn str_cmp(&self, other: &str) -> Ordering;
 
-    /// How two texts that are lent are ordered.
-    fn order_lent(left: &str, right: &str) -> Ordering;
+    /// How two texts that are lent are ordered, by `cmp`.
+    fn cmp_borrowed(left: &str, right: &str) -> Ordering;
 }
 
 pub trait Bytes: Drop {
-    fn lent(bytes: &'static [u8]) -> Self;
+    fn borrowed(bytes: &'static [u8]) -> Self;
 
-    fn of_slice(alloc: Global, bytes: &[u8]) -> Result<Self, Fail>;
+    fn from_slice(alloc: Global, bytes: &[u8]) -> Result<Self, AllocError>;
 
-    /// As `of_slice`, in a handle that has room for more.
-    fn with_room(alloc: Global, capacity: usize, bytes: &[u8]) -> Result<Self, Fail>;
+    fn with_capacity(alloc: Global, capacity: usize) -> Result<Self, AllocError>;
 
-    fn cloned(&self, alloc: Global) -> Result<Self, Fail>;
+    fn push_slice(&mut self, alloc: Global, addition: &[u8]) -> Result<(), AllocError>;
 
-    fn repeated(&self, alloc: Global, n: usize) -> Result<Self, Fail>;
+    fn clone(&self, alloc: Global) -> Result<Self, AllocError>;
 
-    fn place(&self) -> Kind;
+    fn repeat(&self, alloc: Global, n: usize) -> Result<Self, GrowFault>;
 
-    fn holds(&self, bytes: &[u8]) -> bool;
+    fn kind(&self) -> Kind;
 
-    fn copied(self, alloc: Global) -> Result<Vec<u8>, Fail>;
+    fn as_slice(&self) -> &[u8];
+
+    fn into_vec_copied(self, alloc: Global) -> Result<Vec<u8>, Self>;
 }
 
 pub trait Refusal: Drop {
     type Bytes: Bytes;
 
-    fn slice(&self) -> &[u8];
+    fn as_bytes(&self) -> &[u8];
 
-    /// Where the longest front that is UTF-8 ends, and how long what is wrong there is, where it doesn't just end.
+    /// Where the longest front that is UTF-8 ends, and how long what is wrong there is, where it doesn't just end: what `utf8_error` tells.
     fn cause(&self) -> (usize, Option<usize>);
 
-    fn back(self) -> Self::Bytes;
+    fn into_bytes(self) -> Self::Bytes;
 
-    fn cloned(&self, alloc: Global) -> Result<Self, Fail>;
+    fn clone(&self, alloc: Global) -> Result<Self, AllocError>;
 
-    fn is(&self, other: &Self) -> bool;
+    /// By `==`.
+    fn is_equal(&self, other: &Self) -> bool;
 
+    /// By `!=`.
     fn is_other(&self, other: &Self) -> bool;
 
-    fn said(&self, alloc: Global) -> Result<String, Fail>;
+    /// As `Display` shows it.
+    fn shown(&self, alloc: Global) -> Result<String, AllocError>;
 
-    fn debugged(&self, alloc: Global) -> Result<String, Fail>;
+    /// As `Debug` shows it.
+    fn debugged(&self, alloc: Global) -> Result<String, AllocError>;
 }
 
-/// The tests of one file, of any texts.
-pub trait Tests {
-    fn on<T: Text>(rt: &impl Abort, alloc: Global) -> Result<(), Fail>;
+/// The value, or the end of the test where it was refused. A test with no way out but this is a straight line, and cheap to prove.
+pub(crate) fn must<T, E: Drop>(rt: &impl Abort, outcome: Result<T, E>) -> T {
+    match outcome {
+        Ok(value) => value,
+        Err(_) => panic!(rt; "a call was refused"),
+    }
 }
 
-/// Runs them on texts of one backend.
-pub(crate) fn on_backend<X: Tests, B: Backend>(rt: &impl Abort, alloc: Global) -> Result<(), Fail> {
-    X::on::<HipStr<'static, B>>(rt, alloc)
+/// What a refused call answers, or the end of the test where it wasn't refused.
+pub(crate) fn must_refuse<T: Drop, E>(rt: &impl Abort, outcome: Result<T, E>) -> E {
+    match outcome {
+        Ok(_) => panic!(rt; "a call wasn't refused"),
+        Err(error) => error,
+    }
 }
 
 /// Asserts what a text holds, and where.
 pub(crate) fn holds<T: Text>(rt: &impl Abort, text: &T, items: &str, kind: Kind) {
     assert_eq!(rt;
-        (text.text(), text.size(), text.place()),
+        (text.as_str(), text.len(), text.kind()),
         (items, items.len(), kind)
     );
 }
@@ -183,19 +198,14 @@ pub(crate) fn reads(rt: &impl Abort, string: &str, wanted: &str) {
     assert_eq!(rt; string, wanted);
 }
 
-/// Why bytes aren't a text.
-pub(crate) fn error_of<T: Text>(bytes: T::Bytes) -> Result<T::Error, Fail> {
-    Ok(T::of_utf8(bytes).err().ok_or("it is UTF-8")?)
-}
-
 /// A value as `Display` shows it.
-fn said_of<T: fmt::Display>(alloc: Global, value: &T) -> Result<String, Fail> {
-    Ok(format!(in alloc; "{value}")?)
+fn shown_of<T: fmt::Display>(alloc: Global, value: &T) -> Result<String, AllocError> {
+    format!(in alloc; "{value}")
 }
 
 /// A value as `Debug` shows it.
-fn debugged_of<T: fmt::Debug>(alloc: Global, value: &T) -> Result<String, Fail> {
-    Ok(format!(in alloc; "{value:?}")?)
+fn debugged_of<T: fmt::Debug>(alloc: Global, value: &T) -> Result<String, AllocError> {
+    format!(in alloc; "{value:?}")
 }
 
 impl<B: Backend> Text for HipStr<'static, B> {
@@ -203,103 +213,97 @@ impl<B: Backend> Text for HipStr<'static, B> {
 
     type Error = FromUtf8Error<'static, B>;
 
-    fn empty() -> Self {
-        Self::new()
+    fn new() -> Self {
+        HipStr::new()
     }
 
-    fn of_static(text: &'static str) -> Self {
-        Self::from_static(text)
+    fn from_static(text: &'static str) -> Self {
+        HipStr::from_static(text)
     }
 
-    fn lent(text: &'static str) -> Self {
-        Self::borrowed(text)
+    fn borrowed(text: &'static str) -> Self {
+        HipStr::borrowed(text)
     }
 
-    fn of_str(alloc: Global, text: &str) -> Result<Self, Fail> {
-        Ok(Self::from_str(alloc, text)?)
+    fn from_str(alloc: Global, text: &str) -> Result<Self, AllocError> {
+        HipStr::from_str(alloc, text)
     }
 
-    fn of_string(alloc: Global, string: String) -> Result<Self, Fail> {
-        match Self::from_string(alloc, string) {
-            Ok(made) => Ok(made),
-            Err(_) => Err(Fail::from("no memory")),
-        }
+    fn from_string(alloc: Global, string: String) -> Result<Self, String> {
+        HipStr::from_string(alloc, string)
     }
 
-    fn of_cow(alloc: Global, cow: CowStr<'static>) -> Result<Self, Fail> {
-        match Self::from_cow(alloc, cow) {
-            Ok(made) => Ok(made),
-            Err(_) => Err(Fail::from("no memory")),
-        }
+    fn from_cow(alloc: Global, cow: CowStr<'static>) -> Result<Self, CowStr<'static>> {
+        HipStr::from_cow(alloc, cow)
     }
 
-    fn of_utf8(bytes: HipByt<'static, B>) -> Result<Self, FromUtf8Error<'static, B>> {
-        Self::from_utf8(bytes)
+    fn from_utf8(bytes: HipByt<'static, B>) -> Result<Self, FromUtf8Error<'static, B>> {
+        HipStr::from_utf8(bytes)
     }
 
-    fn of_utf8_lossy(alloc: Global, bytes: HipByt<'static, B>) -> Result<Self, Fail> {
-        match Self::from_utf8_lossy(alloc, bytes) {
-            Ok(made) => Ok(made),
-            Err(_) => Err(Fail::from("no memory")),
-        }
+    fn from_utf8_lossy(
+        alloc: Global,
+        bytes: HipByt<'static, B>,
+    ) -> Result<Self, HipByt<'static, B>> {
+        HipStr::from_utf8_lossy(alloc, bytes)
     }
 
-    fn of_slice(alloc: Global, bytes: &[u8]) -> Result<Self, BytesFault> {
-        Self::try_from_slice(alloc, bytes)
+    fn try_from_slice(alloc: Global, bytes: &[u8]) -> Result<Self, BytesFault> {
+        HipStr::try_from_slice(alloc, bytes)
     }
 
-    fn of_vector(alloc: Global, vec: Vec<u8>) -> Result<Self, (BytesFault, Vec<u8>)> {
-        Self::try_from_vec(alloc, vec)
+    fn try_from_vec(alloc: Global, vec: Vec<u8>) -> Result<Self, (BytesFault, Vec<u8>)> {
+        HipStr::try_from_vec(alloc, vec)
     }
 
-    fn of_utf16(alloc: Global, units: &[u16]) -> Result<Self, Utf16Fault> {
-        Self::from_utf16(alloc, units)
+    fn from_utf16(alloc: Global, units: &[u16]) -> Result<Self, Utf16Fault> {
+        HipStr::from_utf16(alloc, units)
     }
 
-    fn of_utf16_lossy(alloc: Global, units: &[u16]) -> Result<Self, Fail> {
-        Ok(Self::from_utf16_lossy(alloc, units)?)
+    fn from_utf16_lossy(alloc: Global, units: &[u16]) -> Result<Self, AllocError> {
+        HipStr::from_utf16_lossy(alloc, units)
     }
 
-    fn joined(alloc: Global, texts: &[&str], sep: &str) -> Result<Self, Fail> {
-        Ok(Self::join_slices(alloc, texts, sep)?)
+    fn join_slices(alloc: Global, texts: &[&str], sep: &str) -> Result<Self, GrowFault> {
+        HipStr::join_slices(alloc, texts, sep)
     }
 
-    fn gathered(alloc: Global, texts: &[&str], sep: &str) -> Result<Self, Fail> {
-        Ok(Self::join(alloc, texts.iter().copied(), sep)?)
+    fn joined(alloc: Global, texts: &[&str], sep: &str) -> Result<Self, GrowFault> {
+        HipStr::join(alloc, texts.iter().copied(), sep)
     }
 
-    fn concatenated(alloc: Global, texts: &[&str]) -> Result<(Self, u128), Fail> {
-        let mut meter = Meter::new();
-        let whole = Self::concat_slices_metered(alloc, texts, &mut meter)?;
-        Ok((whole, meter.copied()))
+    fn concat_slices_metered(
+        alloc: Global,
+        texts: &[&str],
+        meter: &mut Meter,
+    ) -> Result<Self, GrowFault> {
+        HipStr::concat_slices_metered(alloc, texts, meter)
     }
 
-    fn concatenated_items(alloc: Global, texts: [&'static str; 3]) -> Result<Self, Fail> {
-        Ok(Self::concat(alloc, texts)?)
+    fn concat(alloc: Global, texts: [&'static str; 3]) -> Result<Self, GrowFault> {
+        HipStr::concat(alloc, texts)
     }
 
-    fn repeated(&self, alloc: Global, n: usize) -> Result<Self, GrowFault> {
+    fn repeat(&self, alloc: Global, n: usize) -> Result<Self, GrowFault> {
         self.repeat(alloc, n)
     }
 
-    fn cloned(&self, alloc: Global) -> Result<Self, Fail> {
-        Ok(self.clone(alloc)?)
+    fn clone(&self, alloc: Global) -> Result<Self, AllocError> {
+        self.clone(alloc)
     }
 
-    fn part(&self, alloc: Global, start: usize, end: usize) -> Result<Self, Fail> {
+    fn part(&self, alloc: Global, start: usize, end: usize) -> Result<Self, AllocError> {
         if self.try_slice(alloc, start..end).is_err() {
-            return Err(Fail::from("it is no range"));
+            return Err(AllocError);
         }
-        Ok(self.slice(alloc, start..end)?)
+        self.slice(alloc, start..end)
     }
 
-    fn rest(&self, alloc: Global, start: usize) -> Result<(Self, u128), Fail> {
+    fn tail(&self, alloc: Global, start: usize, meter: &mut Meter) -> Result<Self, AllocError> {
         if self.try_slice(alloc, start..).is_err() {
-            return Err(Fail::from("it is no range"));
+            return Err(AllocError);
         }
-        let mut meter = Meter::new();
-        let rest = self.slice_metered(alloc, start.., &mut meter)?;
-        Ok((rest, meter.copied()))
+        self.slice_metered(alloc, start.., meter)
     }
 
     fn refusal(
@@ -307,158 +311,151 @@ impl<B: Backend> Text for HipStr<'static, B> {
         alloc: Global,
         low: Bound<usize>,
         high: Bound<usize>,
-    ) -> Result<(SliceErrorKind, String), Fail> {
+    ) -> Result<Option<(SliceErrorKind, String)>, AllocError> {
         let Err(SliceRefusal::Slice(error)) = self.try_slice_bounds(alloc, low, high) else {
-            return Err(Fail::from("it was sliced"));
+            return Ok(None);
         };
-        Ok((error.kind(), said_of(alloc, &error)?))
+        Ok(Some((error.kind(), shown_of(alloc, &error)?)))
     }
 
-    fn text(&self) -> &str {
+    fn as_str(&self) -> &str {
         self.as_str()
     }
 
-    fn encoded(&self) -> &[u8] {
+    fn as_bytes(&self) -> &[u8] {
         self.as_bytes()
     }
 
-    fn size(&self) -> usize {
+    fn len(&self) -> usize {
         self.len()
     }
 
-    fn place(&self) -> Kind {
+    fn kind(&self) -> Kind {
         self.kind()
     }
 
-    fn copied(self, alloc: Global) -> Result<String, Fail> {
-        match self.into_string_copied(alloc) {
-            Ok(made) => Ok(made),
-            Err(_) => Err(Fail::from("no memory")),
-        }
-    }
-
-    fn own_string(self, alloc: Global) -> Result<String, Self> {
+    fn into_string(self, alloc: Global) -> Result<String, Self> {
         self.into_string(alloc)
     }
 
-    fn cow(self, alloc: Global) -> Result<CowStr<'static>, Fail> {
-        match self.into_cow(alloc) {
-            Ok(made) => Ok(made),
-            Err(_) => Err(Fail::from("no memory")),
-        }
+    fn into_string_copied(self, alloc: Global) -> Result<String, Self> {
+        self.into_string_copied(alloc)
     }
 
-    fn bytes(self) -> HipByt<'static, B> {
+    fn into_cow(self, alloc: Global) -> Result<CowStr<'static>, Self> {
+        self.into_cow(alloc)
+    }
+
+    fn into_bytes(self) -> HipByt<'static, B> {
         HipByt::from(self)
     }
 
-    fn add(&mut self, alloc: Global, text: &str) -> Result<(), Fail> {
-        Ok(self.push_str(alloc, text)?)
+    fn push_str(&mut self, alloc: Global, addition: &str) -> Result<(), AllocError> {
+        self.push_str(alloc, addition)
     }
 
-    fn add_char(&mut self, alloc: Global, c: char) -> Result<(), Fail> {
-        Ok(self.push(alloc, c)?)
+    fn push(&mut self, alloc: Global, c: char) -> Result<(), AllocError> {
+        self.push(alloc, c)
     }
 
-    fn add_by_guard(&mut self, alloc: Global, text: &str) -> Result<usize, Fail> {
-        let mut guard = self.mutate(alloc)?;
-        let added = guard.as_mut_string().push_str(text).is_ok();
+    fn push_by_guard(&mut self, alloc: Global, addition: &str) -> Result<usize, &'static str> {
+        let mut guard = self.mutate(alloc).or(Err("no memory"))?;
+        let added = guard.as_mut_string().push_str(addition).is_ok();
         let len = guard.as_string().len();
         if guard.finish(alloc).is_ok() & added {
             Ok(len)
         } else {
-            Err(Fail::from("no memory"))
+            Err("no memory")
         }
     }
 
-    fn shorten(&mut self, len: usize) -> Result<(), Fail> {
+    fn shorten(&mut self, len: usize) -> Result<(), &'static str> {
         if len < self.len() && !self.as_str().is_char_boundary(len) {
-            return Err(Fail::from("it is no boundary"));
+            return Err("it is no boundary");
         }
         self.truncate(len);
         Ok(())
     }
 
-    fn take_last(&mut self) -> Option<char> {
+    fn pop(&mut self) -> Option<char> {
         self.pop()
     }
 
-    fn upper(&self, alloc: Global) -> Result<Self, Fail> {
-        Ok(self.to_ascii_uppercase(alloc)?)
+    fn to_ascii_uppercase(&self, alloc: Global) -> Result<Self, AllocError> {
+        self.to_ascii_uppercase(alloc)
     }
 
-    fn lower(&self, alloc: Global) -> Result<Self, Fail> {
-        Ok(self.to_ascii_lowercase(alloc)?)
+    fn to_ascii_lowercase(&self, alloc: Global) -> Result<Self, AllocError> {
+        self.to_ascii_lowercase(alloc)
     }
 
-    fn is(&self, other: &Self) -> bool {
+    fn is_equal(&self, other: &Self) -> bool {
         self == other
     }
 
-    fn is_text(&self, text: &str) -> bool {
-        self.str_eq(text)
+    fn str_eq(&self, other: &str) -> bool {
+        self.str_eq(other)
     }
 
-    fn is_on_unique(&self, text: &str) -> bool {
-        self.eq_with(&HipStr::<Unique>::borrowed(text))
+    fn eq_with(&self, other: &str) -> bool {
+        self.eq_with(&HipStr::<Unique>::borrowed(other))
     }
 
-    fn order(&self, other: &Self) -> Ordering {
-        self.cmp(other)
+    fn cmp(&self, other: &Self) -> Ordering {
+        Ord::cmp(self, other)
     }
 
-    fn order_of(&self, text: &str) -> Ordering {
-        self.str_cmp(text)
+    fn str_cmp(&self, other: &str) -> Ordering {
+        self.str_cmp(other)
     }
 
-    fn order_lent(left: &str, right: &str) -> Ordering {
-        HipStr::<B>::borrowed(left).cmp(&HipStr::borrowed(right))
+    fn cmp_borrowed(left: &str, right: &str) -> Ordering {
+        Ord::cmp(&HipStr::<B>::borrowed(left), &HipStr::borrowed(right))
     }
 }
 
 impl<B: Backend> Bytes for HipByt<'static, B> {
-    fn lent(bytes: &'static [u8]) -> Self {
-        Self::borrowed(bytes)
+    fn borrowed(bytes: &'static [u8]) -> Self {
+        HipByt::borrowed(bytes)
     }
 
-    fn of_slice(alloc: Global, bytes: &[u8]) -> Result<Self, Fail> {
-        Ok(Self::from_slice(alloc, bytes)?)
+    fn from_slice(alloc: Global, bytes: &[u8]) -> Result<Self, AllocError> {
+        HipByt::from_slice(alloc, bytes)
     }
 
-    fn with_room(alloc: Global, capacity: usize, bytes: &[u8]) -> Result<Self, Fail> {
-        let mut roomy = Self::with_capacity(alloc, capacity)?;
-        roomy.push_slice(alloc, bytes)?;
-        Ok(roomy)
+    fn with_capacity(alloc: Global, capacity: usize) -> Result<Self, AllocError> {
+        HipByt::with_capacity(alloc, capacity)
     }
 
-    fn cloned(&self, alloc: Global) -> Result<Self, Fail> {
-        Ok(self.clone(alloc)?)
+    fn push_slice(&mut self, alloc: Global, addition: &[u8]) -> Result<(), AllocError> {
+        self.push_slice(alloc, addition)
     }
 
-    fn repeated(&self, alloc: Global, n: usize) -> Result<Self, Fail> {
-        Ok(self.repeat(alloc, n)?)
+    fn clone(&self, alloc: Global) -> Result<Self, AllocError> {
+        self.clone(alloc)
     }
 
-    fn place(&self) -> Kind {
+    fn repeat(&self, alloc: Global, n: usize) -> Result<Self, GrowFault> {
+        self.repeat(alloc, n)
+    }
+
+    fn kind(&self) -> Kind {
         self.kind()
     }
 
-    fn holds(&self, bytes: &[u8]) -> bool {
-        self.eq_slice(bytes)
+    fn as_slice(&self) -> &[u8] {
+        self.as_slice()
     }
 
-    fn copied(self, alloc: Global) -> Result<Vec<u8>, Fail> {
-        match self.into_vec_copied(alloc) {
-            Ok(made) => Ok(made),
-            Err(_) => Err(Fail::from("no memory")),
-        }
+    fn into_vec_copied(self, alloc: Global) -> Result<Vec<u8>, Self> {
+        self.into_vec_copied(alloc)
     }
 }
 
 impl<B: Backend> Refusal for FromUtf8Error<'static, B> {
     type Bytes = HipByt<'static, B>;
 
-    fn slice(&self) -> &[u8] {
+    fn as_bytes(&self) -> &[u8] {
         self.as_bytes()
     }
 
@@ -467,15 +464,15 @@ impl<B: Backend> Refusal for FromUtf8Error<'static, B> {
         (cause.valid_up_to(), cause.error_len())
     }
 
-    fn back(self) -> HipByt<'static, B> {
+    fn into_bytes(self) -> HipByt<'static, B> {
         self.into_bytes()
     }
 
-    fn cloned(&self, alloc: Global) -> Result<Self, Fail> {
-        Ok(self.clone(alloc)?)
+    fn clone(&self, alloc: Global) -> Result<Self, AllocError> {
+        self.clone(alloc)
     }
 
-    fn is(&self, other: &Self) -> bool {
+    fn is_equal(&self, other: &Self) -> bool {
         self == other
     }
 
@@ -483,11 +480,11 @@ impl<B: Backend> Refusal for FromUtf8Error<'static, B> {
         self != other
     }
 
-    fn said(&self, alloc: Global) -> Result<String, Fail> {
-        said_of(alloc, self)
+    fn shown(&self, alloc: Global) -> Result<String, AllocError> {
+        shown_of(alloc, self)
     }
 
-    fn debugged(&self, alloc: Global) -> Result<String, Fail> {
+    fn debugged(&self, alloc: Global) -> Result<String, AllocError> {
         debugged_of(alloc, self)
     }
 }
