@@ -6,9 +6,7 @@ ghost use Rattle.hip_raw.specs.Sources.{failed_writes, writer_of};
 ghost use Rattle.hip_raw.specs.Sink.{unwritten};
 ghost use Rattle.hip_raw.specs.Transfer.{CountsRefusal};
 
-use crate::filling::Filling;
 use crate::io_fault::IoFault;
-use crate::meter::Meter;
 use std::alloc::{AllocError, Global};
 use std::io::Write;
 use std::marker::Model;
@@ -41,7 +39,7 @@ pub trait ByteSink {
 /// Writes into a vector. A write that finds no memory fails, and each other one takes all its bytes.
 #[derive(Drop)]
 pub struct VecSink {
-    filling: Filling,
+    vec: Vec<u8>,
     failures: u64,
 }
 
@@ -50,7 +48,7 @@ impl Model for VecSink {
 
     ghost Value = { Sink };
 
-    ghost view = { λ sink. record { items = sink.filling.items; failures = sink.failures } };
+    ghost view = { λ sink. record { items = sink.vec.items; failures = sink.failures } };
 }
 
 impl VecSink {
@@ -60,7 +58,7 @@ impl VecSink {
         ensures { result ≡ unwritten }
     {
         VecSink {
-            filling: Filling::new(alloc),
+            vec: Vec::new(alloc),
             failures: 0,
         }
     }
@@ -70,7 +68,7 @@ impl VecSink {
     pub fn into_vec(self) -> Vec<u8>
         ensures { result.items ≡ self.items }
     {
-        self.filling.into_vec()
+        self.vec
     }
 }
 
@@ -85,7 +83,7 @@ impl ByteSink for VecSink {
 
     #[inline]
     fn write(&mut self, bytes: &[u8]) -> Result<usize, IoFault> {
-        match self.filling.push_slice(bytes, &mut Meter::new()) {
+        match self.vec.extend_from_slice(bytes) {
             Ok(()) => Ok(bytes.len()),
             Err(AllocError) => {
                 self.failures = self.failures.saturating_add(1);
