@@ -1,7 +1,7 @@
 //! Comparisons of bytes, many at a time.
 //!
-//! Up to 128 bytes two blocks of the same width cover both byte strings, the second ending where they end; beyond that blocks of 128 and
-//! of 64 are taken one after another. An order compares the first eight bytes as a number, and up to 16 as two; how these are read
+//! Up to 128 bytes two blocks of the same width cover both byte strings, the second ending where they end; beyond that stretches of 256
+//! bytes and blocks of 64 are taken one after another. An order compares the first eight bytes as a number, and up to 16 as two; how these are read
 //! (`read_short`, `read_u64_be`, `read_u32_be`) is adapted from the kit's core, `src/cmp/bytes.rt`, with its proofs.
 ghost use Rattle.std.specs.Prelude.{◌≡◌, ◌↔◌, ◌+◌, ◌*◌, ◌<◌, ◌≤◌, nat_eq, length, IsTrue, min};
 ghost use Rattle.std.specs.Cmp.Lexicographic.{pointwise, slice_cmp};
@@ -66,6 +66,18 @@ fn equal_by_blocks(a: &[u8], b: &[u8]) -> bool
     alike_by_blocks(a, b, a.len()) == a.len()
 }
 
+// Whether the 256 bytes from `i` on are the same.
+#[inline(always)]
+fn alike_stretch(a: &[u8], b: &[u8], i: usize) -> bool
+    requires within { (i + 256 ≤ length a.now) × (i + 256 ≤ length b.now) }
+    ensures { IsTrue result ↔ Alike a.now b.now i (i + 256) }
+{
+    alike_at::<64>(a, b, i)
+        & alike_at::<64>(a, b, i + 64)
+        & alike_at::<64>(a, b, i + 128)
+        & alike_at::<64>(a, b, i + 192)
+}
+
 // How many of the N bytes from `i` on are the same, from the first. With two lanes `trailing_zeros` of a mask, compared with 2, was
 // compiled to a wrong answer by clang, so the least block has four.
 #[inline(always)]
@@ -109,8 +121,8 @@ fn alike_by_blocks(a: &[u8], b: &[u8], n: usize) -> usize
     ensures { IsAlikeRun a.now b.now 0 n result }
 {
     let mut at = 0;
-    while 128 <= n - at && (alike_at::<64>(a, b, at) & alike_at::<64>(a, b, at + 64)) {
-        at += 128;
+    while 256 <= n - at && alike_stretch(a, b, at) {
+        at += 256;
     }
     if at == n {
         return n;

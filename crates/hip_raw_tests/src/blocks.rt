@@ -1,13 +1,19 @@
-//! Comparisons and ASCII case at each place of bytes of each length up to two blocks of 64 and a rest, beside loops that go byte by
-//! byte.
+//! Comparisons and ASCII case at each place of bytes of each length up to two blocks of 64 and a rest, beside loops that go byte by byte;
+//! comparisons of some longer ones too.
 ghost use Rattle.std.specs.Prelude.{◌≤◌};
 
 use hip_raw::{equal, make_ascii_lowercase, make_ascii_uppercase, order};
 use std::cmp::Ordering;
 use std::process::Abort;
 
-/// The most bytes.
+/// The most bytes of which each length is tried.
 const LONGEST: usize = 130;
+
+/// Lengths of up to two stretches of 256 bytes, with blocks and rests behind them.
+const LONGER: &[usize] = &[256, 257, 321, 512, 600];
+
+/// The last of these.
+const COMPARED: usize = 600;
 
 /// Whether the bytes are the same, as a plain loop tells it.
 fn plainly_equal(a: &[u8], b: &[u8]) -> bool {
@@ -42,24 +48,44 @@ fn compares(rt: &impl Abort, a: &[u8], b: &[u8]) {
 }
 
 /// Bytes that go on from 7, so that no two near each other are the same.
-fn counted() -> [u8; LONGEST] {
-    let mut bytes = [7u8; LONGEST];
-    for i in 1..LONGEST {
+fn counted() -> [u8; COMPARED] {
+    let mut bytes = [7u8; COMPARED];
+    for i in 1..COMPARED {
         bytes[i] = bytes[i - 1].wrapping_add(29);
     }
     bytes
+}
+
+/// Asserts this of so many bytes and those that differ from them at one place.
+fn one_byte_differs_of(rt: &impl Abort, bytes: &[u8; COMPARED], len: usize) {
+    let len = len.min(COMPARED);
+    compares(rt, &bytes[..len], &bytes[..len]);
+    for at in 0..len {
+        let mut other = *bytes;
+        other[at] = other[at].wrapping_add(100);
+        compares(rt, &bytes[..len], &other[..len]);
+    }
 }
 
 #[test]
 fn one_byte_differs(rt: HostRuntime) {
     let bytes = counted();
     for len in 0..=LONGEST {
-        compares(&rt, &bytes[..len], &bytes[..len]);
-        for at in 0..len {
-            let mut other = bytes;
-            other[at] = other[at].wrapping_add(100);
-            compares(&rt, &bytes[..len], &other[..len]);
-        }
+        one_byte_differs_of(&rt, &bytes, len);
+    }
+    for len in LONGER {
+        one_byte_differs_of(&rt, &bytes, *len);
+    }
+}
+
+/// Asserts this where the first of two places has the lesser byte, and the other one the greater.
+fn two_bytes_differ_of(rt: &impl Abort, bytes: &[u8; COMPARED], len: usize) {
+    let len = len.min(COMPARED);
+    for at in 0..len {
+        let mut other = *bytes;
+        other[at] = 0;
+        other[len - 1 - at] = 0xFF;
+        compares(rt, &bytes[..len], &other[..len]);
     }
 }
 
@@ -67,13 +93,16 @@ fn one_byte_differs(rt: HostRuntime) {
 fn two_bytes_differ(rt: HostRuntime) {
     let bytes = counted();
     for len in 0..=LONGEST {
-        for at in 0..len {
-            let mut other = bytes;
-            other[at] = 0;
-            other[len - 1 - at] = 0xFF;
-            compares(&rt, &bytes[..len], &other[..len]);
-        }
+        two_bytes_differ_of(&rt, &bytes, len);
     }
+    for len in LONGER {
+        two_bytes_differ_of(&rt, &bytes, *len);
+    }
+}
+
+/// So many bytes from the front.
+fn front_of(bytes: &[u8; COMPARED], len: usize) -> &[u8] {
+    &bytes[..len.min(COMPARED)]
 }
 
 #[test]
@@ -81,7 +110,12 @@ fn one_ends_before_the_other(rt: HostRuntime) {
     let bytes = counted();
     for len in 0..=LONGEST {
         for front in 0..len {
-            compares(&rt, &bytes[..len], &bytes[..front]);
+            compares(&rt, front_of(&bytes, len), front_of(&bytes, front));
+        }
+    }
+    for len in LONGER {
+        for front in LONGER {
+            compares(&rt, front_of(&bytes, *len), front_of(&bytes, *front));
         }
     }
 }
