@@ -227,7 +227,7 @@ const TURNS: &[End] = &[End::Front, End::Back, End::Back, End::Front, End::Front
 pub(crate) fn must<T, E: Drop>(rt: &impl Abort, outcome: Result<T, E>) -> T {
     match outcome {
         Ok(value) => value,
-        Err(_) => panic!(rt; "it was refused"),
+        Err(_) => panic!(rt; "a call was refused"),
     }
 }
 

@@ -5,8 +5,7 @@ use hip_text::{Backend, HipStr, Rc, Unique};
 use std::alloc::Global;
 use std::process::Abort;
 
-/// A text and its form, after the specification of Borsh: the length as four bytes, the least first, and then the bytes. That of `123` is in
-/// hipstr's own tests, which compare it with the crate borsh.
+/// A text, its form as the crate borsh 1.8.1 writes it (`borsh::to_vec`), and where its bytes lie once it is read.
 type Form = (&'static str, &'static [u8], Kind);
 
 fn forms() -> &'static [Form] {
@@ -15,6 +14,12 @@ fn forms() -> &'static [Form] {
         ("123", b"\x03\x00\x00\x00\x31\x32\x33", Kind::Inline),
         ("abc", b"\x03\x00\x00\x00\x61\x62\x63", Kind::Inline),
         ("é", b"\x02\x00\x00\x00\xC3\xA9", Kind::Inline),
+        (
+            "漢字",
+            b"\x06\x00\x00\x00\xE6\xBC\xA2\xE5\xAD\x97",
+            Kind::Inline,
+        ),
+        ("😀", b"\x04\x00\x00\x00\xF0\x9F\x98\x80", Kind::Inline),
         (
             "aaaaaaaaaaaaaaaaaaaaaaa",
             b"\x17\x00\x00\x00aaaaaaaaaaaaaaaaaaaaaaa",
@@ -32,6 +37,29 @@ fn forms() -> &'static [Form] {
         ),
     ]
 }
+
+/// Bytes that are no text, or none that can be seen, and their form by the same crate.
+const BYTES: &[(&[u8], &[u8])] = &[
+    (b"\x00", b"\x01\x00\x00\x00\x00"),
+    (b"a\xC3", b"\x02\x00\x00\x00\x61\xC3"),
+    (b"\x80\x00\x7F", b"\x03\x00\x00\x00\x80\x00\x7F"),
+    (
+        b"\xFF\xFF\xFF\xFF\xFF",
+        b"\x05\x00\x00\x00\xFF\xFF\xFF\xFF\xFF",
+    ),
+];
+
+/// How many bytes there are, and the first four of their form by the same crate, before the bytes themselves.
+const LENGTHS: &[(usize, [u8; 4])] = &[
+    (255, [255, 0, 0, 0]),
+    (256, [0, 1, 0, 0]),
+    (300, [44, 1, 0, 0]),
+    (4096, [0, 16, 0, 0]),
+    (4097, [1, 16, 0, 0]),
+    (65535, [255, 255, 0, 0]),
+    (65536, [0, 0, 1, 0]),
+    (70000, [112, 17, 1, 0]),
+];
 
 /// The form of bytes that are lent.
 fn form_of<B: Backend>(alloc: Global, bytes: &[u8]) -> Option<Vec<u8>> {
@@ -105,6 +133,46 @@ fn texts<B: Backend>(rt: &impl Abort, alloc: Global) {
 fn texts_on_either(rt: HostRuntime) {
     texts::<Rc>(&rt, rt.alloc());
     texts::<Unique>(&rt, rt.alloc());
+}
+
+/// Bytes are written and read by their form, whatever they are.
+fn bytes<B: Backend>(rt: &impl Abort, alloc: Global) {
+    for (bytes, form) in BYTES {
+        let written = form_of::<B>(alloc, bytes);
+        assert_eq!(rt; written.as_deref(), Some(*form));
+        let mut source = SliceSource::new(form);
+        let read = must(rt, HipByt::<B>::deserialize_reader(alloc, &mut source));
+        assert_eq!(rt; read.as_slice(), *bytes);
+    }
+}
+
+#[test]
+fn bytes_on_either(rt: HostRuntime) {
+    bytes::<Rc>(&rt, rt.alloc());
+    bytes::<Unique>(&rt, rt.alloc());
+}
+
+/// So are many, whose lengths take more than a byte.
+fn lengths<B: Backend>(rt: &impl Abort, alloc: Global) {
+    for (len, head) in LENGTHS {
+        let many = must(rt, HipByt::<B>::borrowed(b"\xFF").repeat(alloc, *len));
+        let mut sink = VecSink::new(alloc);
+        must(rt, many.serialize(&mut sink));
+        let form = sink.into_vec();
+        assert_eq!(rt;
+            (form.as_slice().get(..4), form.len()),
+            (Some(head.as_slice()), len + 4)
+        );
+        let mut source = SliceSource::new(form.as_slice());
+        let read = must(rt, HipByt::<B>::deserialize_reader(alloc, &mut source));
+        assert_eq!(rt; (read == many, source.rest().len()), (true, 0));
+    }
+}
+
+#[test]
+fn lengths_on_either(rt: HostRuntime) {
+    lengths::<Rc>(&rt, rt.alloc());
+    lengths::<Unique>(&rt, rt.alloc());
 }
 
 /// What is answered, and how many bytes are left.

@@ -5,6 +5,6 @@ use std::process::Abort;
 pub(crate) fn must<T, E: Drop>(rt: &impl Abort, outcome: Result<T, E>) -> T {
     match outcome {
         Ok(value) => value,
-        Err(_) => panic!(rt; "it was refused"),
+        Err(_) => panic!(rt; "a call was refused"),
     }
 }

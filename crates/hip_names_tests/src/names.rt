@@ -1,7 +1,7 @@
 //! What hipstr's own tests ask of OS strings and of paths, each by its own calls.
-use crate::name::{Name, must};
-use hip_names::{HipOsStr, HipPath, Kind, Rc, Unique};
-use std::alloc::{AllocError, Global};
+use crate::name::{Name, must, must_refuse};
+use hip_names::{Backend, HipOsStr, HipPath, Kind, Rc, Unique};
+use std::alloc::Global;
 use std::cmp::Ordering;
 use std::process::Abort;
 
@@ -9,25 +9,38 @@ const LETTERS: &str = "abcdefghijklmnopqrstuvwxyz";
 
 const LONG: &str = "aaaaaaaaaaaaaaaaaaaaaaaaaaaaaaaaaaaaaaaaaa";
 
-/// How many ways there are to make a name.
-const WAYS: usize = 3;
+/// How a name is made.
+#[derive(Clone, Copy)]
+enum Way {
+    Taken,
+    Copied,
+    Lent,
+}
 
-/// A name by `from_string`, one that is copied, or one that is lent, what it was made of, and where its bytes lie.
-fn made<N: Name>(rt: &impl Abort, alloc: Global, way: usize) -> (N, &'static str, Kind) {
+/// A way, the text of the name that it makes here, and where its bytes lie then.
+const WAYS: &[(Way, &str, Kind)] = &[
+    (Way::Taken, LONG, Kind::Allocated),
+    (Way::Copied, "abc", Kind::Inline),
+    (Way::Lent, "abc", Kind::Borrowed),
+];
+
+/// A name that was made in that way.
+fn made<N: Name>(rt: &impl Abort, alloc: Global, way: Way, text: &'static str) -> N {
     match way {
-        0 => {
-            let string = must(rt, String::from_str(alloc, LONG));
-            let name = must(rt, N::of_string(alloc, string));
-            (name, LONG, Kind::Allocated)
-        }
-        1 => (must(rt, N::of_str(alloc, "abc")), "abc", Kind::Inline),
-        _ => (N::of_static("abc"), "abc", Kind::Borrowed),
+        Way::Taken => taken(rt, alloc, text),
+        Way::Copied => must(rt, N::from_str(alloc, text)),
+        Way::Lent => N::from_static(text),
     }
+}
+
+fn taken<N: Name>(rt: &impl Abort, alloc: Global, text: &str) -> N {
+    let string = must(rt, String::from_str(alloc, text));
+    must(rt, N::from_string(alloc, string))
 }
 
 /// Asserts what a name holds, and where.
 fn is<N: Name>(rt: &impl Abort, name: N, text: &str, kind: Kind) {
-    assert_eq!(rt; (name.bytes(), name.place()), (text.as_bytes(), kind));
+    assert_eq!(rt; (name.bytes(), name.kind()), (text.as_bytes(), kind));
 }
 
 fn is_vector(rt: &impl Abort, vec: Vec<u8>, text: &str) {
@@ -35,18 +48,23 @@ fn is_vector(rt: &impl Abort, vec: Vec<u8>, text: &str) {
 }
 
 fn makers<N: Name>(rt: &impl Abort, alloc: Global) {
-    for way in 0..WAYS {
-        let (name, text, kind) = made::<N>(rt, alloc, way);
-        let clone = must(rt, name.cloned(alloc));
-        is(rt, name, text, kind);
-        is(rt, clone, text, kind);
+    for (way, text, kind) in WAYS {
+        let name = made::<N>(rt, alloc, *way, text);
+        let clone = must(rt, name.clone(alloc));
+        is(rt, name, text, *kind);
+        is(rt, clone, text, *kind);
     }
 }
 
 fn plain<N: Name>(rt: &impl Abort) {
-    is(rt, N::empty(), "", Kind::Inline);
-    is(rt, N::of_static(LETTERS), LETTERS, Kind::Borrowed);
-    is(rt, N::of_static("0123456789"), "0123456789", Kind::Borrowed);
+    is(rt, N::new(), "", Kind::Inline);
+    is(rt, N::from_static(LETTERS), LETTERS, Kind::Borrowed);
+    is(
+        rt,
+        N::from_static("0123456789"),
+        "0123456789",
+        Kind::Borrowed,
+    );
 }
 
 /// How many bytes are copied, and where they lie then.
@@ -65,52 +83,42 @@ fn lengths<N: Name>(rt: &impl Abort, alloc: Global) {
         for _ in 0..*len {
             must(rt, text.push('a'));
         }
-        let name = must(rt, N::of_str(alloc, text.as_str()));
+        let name = must(rt, N::from_str(alloc, text.as_str()));
         is(rt, name, text.as_str(), *kind);
     }
 }
 
 /// A long one gives its vector, any other is handed back.
 fn into_vectors<N: Name>(rt: &impl Abort, alloc: Global) {
-    for way in 0..WAYS {
-        let (name, text, kind) = made::<N>(rt, alloc, way);
-        match name.into_vector(alloc) {
-            Ok(vec) => is_vector(rt, vec, text),
-            Err(back) => is(rt, back, text, kind),
-        }
-    }
-    let (long, text, _) = made::<N>(rt, alloc, 0);
-    is_vector(
-        rt,
-        must(rt, long.into_vector(alloc).or(Err(AllocError))),
-        text,
-    );
+    let vec = must(rt, taken::<N>(rt, alloc, LONG).into_vec(alloc));
+    is_vector(rt, vec, LONG);
+    let back = must_refuse(rt, must(rt, N::from_str(alloc, "abc")).into_vec(alloc));
+    is(rt, back, "abc", Kind::Inline);
+    let back = must_refuse(rt, N::from_static("abc").into_vec(alloc));
+    is(rt, back, "abc", Kind::Borrowed);
 }
 
 fn into_copies<N: Name>(rt: &impl Abort, alloc: Global) {
-    for way in 0..WAYS {
-        let (name, text, _) = made::<N>(rt, alloc, way);
-        is_vector(rt, must(rt, name.into_copy(alloc)), text);
+    for (way, text, _) in WAYS {
+        let name = made::<N>(rt, alloc, *way, text);
+        is_vector(rt, must(rt, name.into_vec_copied(alloc)), text);
     }
 }
 
 /// A long one is a text, in the same owner.
 fn into_texts<N: Name>(rt: &impl Abort, alloc: Global) {
-    let (name, text, _) = made::<N>(rt, alloc, 0);
-    let vec = must(rt, name.into_text(alloc).or(Err(AllocError)));
-    is_vector(rt, vec, text);
+    let name = taken::<N>(rt, alloc, LONG);
+    is_vector(rt, must(rt, name.into_vec_by_text(alloc)), LONG);
 }
 
 fn borrows<N: Name>(rt: &impl Abort, alloc: Global) {
-    for way in 0..WAYS {
-        let (name, text, kind) = made::<N>(rt, alloc, way);
-        let lent = name.lent().is_some();
-        assert_eq!(rt; lent, kind == Kind::Borrowed);
-        match name.into_lent() {
-            Ok(bytes) => assert_eq!(rt; (bytes, lent), (text.as_bytes(), true)),
-            Err(back) => is(rt, back, text, kind),
-        }
-    }
+    let lent = N::from_static("abc");
+    assert_eq!(rt; lent.as_borrowed(), Some(b"abc".as_slice()));
+    assert_eq!(rt; must(rt, lent.into_borrowed()), b"abc".as_slice());
+    let copied = must(rt, N::from_str(alloc, "abc"));
+    assert!(rt; copied.as_borrowed().is_none());
+    let back = must_refuse(rt, copied.into_borrowed());
+    is(rt, back, "abc", Kind::Inline);
 }
 
 fn rooms<N: Name>(rt: &impl Abort, alloc: Global) {
@@ -118,30 +126,30 @@ fn rooms<N: Name>(rt: &impl Abort, alloc: Global) {
     for _ in 0..10 {
         must(rt, string.push_str("abc"));
     }
-    let taken = must(rt, N::of_string(alloc, string));
-    let (copied, lent) = (must(rt, N::of_str(alloc, "abc")), N::of_static("abc"));
+    let taken = must(rt, N::from_string(alloc, string));
+    let (copied, lent) = (must(rt, N::from_str(alloc, "abc")), N::from_static("abc"));
     assert_eq!(rt;
-        (copied.room(), lent.room(), taken.room() >= 30),
+        (copied.capacity(), lent.capacity(), taken.capacity() >= 30),
         (23, 3, true)
     );
 }
 
 fn shrinks<N: Name>(rt: &impl Abort, alloc: Global) {
     for (text, room) in [("abc", 23), (LONG, 42)] {
-        let mut name = must(rt, N::of_str(alloc, text));
-        must(rt, name.shrink(alloc, 4));
-        must(rt, name.shrink_all(alloc));
-        assert_eq!(rt; name.room() >= room, true);
-        is_vector(rt, must(rt, name.into_copy(alloc)), text);
+        let mut name = must(rt, N::from_str(alloc, text));
+        must(rt, name.shrink_to(alloc, 4));
+        must(rt, name.shrink_to_fit(alloc));
+        assert_eq!(rt; name.capacity() >= room, true);
+        is_vector(rt, must(rt, name.into_vec_copied(alloc)), text);
     }
 }
 
 fn shrinks_lent<N: Name>(rt: &impl Abort, alloc: Global) {
-    let mut name = N::of_static("abc");
-    must(rt, name.shrink(alloc, 0));
-    let room = name.room();
-    must(rt, name.shrink_all(alloc));
-    assert_eq!(rt; (room, name.room()), (3, 3));
+    let mut name = N::from_static("abc");
+    must(rt, name.shrink_to(alloc, 0));
+    let room = name.capacity();
+    must(rt, name.shrink_to_fit(alloc));
+    assert_eq!(rt; (room, name.capacity()), (3, 3));
 }
 
 /// Two names, and how they are ordered as paths.
@@ -159,13 +167,13 @@ const ORDERED: &[(&str, &str, Ordering)] = &[
 
 fn orders<N: Name>(rt: &impl Abort, alloc: Global) {
     for (left, right, order) in ORDERED {
-        let name = must(rt, N::of_str(alloc, left));
+        let name = must(rt, N::from_str(alloc, left));
         let bytes = right.as_bytes();
         assert_eq!(rt;
             (
-                name.stands_to(bytes),
-                name.has_path(bytes),
-                name.has_bytes(bytes)
+                name.path_cmp(bytes),
+                name.path_eq(bytes),
+                name.os_str_eq(bytes)
             ),
             (*order, order.is_eq(), left == right)
         );
@@ -174,15 +182,14 @@ fn orders<N: Name>(rt: &impl Abort, alloc: Global) {
 
 /// A long name is equal to its bytes, as bytes and as a path.
 fn equalities<N: Name>(rt: &impl Abort, alloc: Global) {
-    let (long, text, _) = made::<N>(rt, alloc, 0);
-    let bytes = text.as_bytes();
-    assert_eq!(rt; (long.has_bytes(bytes), long.has_path(bytes)), (true, true));
+    let (long, bytes) = (taken::<N>(rt, alloc, LONG), LONG.as_bytes());
+    assert_eq!(rt; (long.os_str_eq(bytes), long.path_eq(bytes)), (true, true));
 }
 
 fn guards<N: Name>(rt: &impl Abort, alloc: Global) {
-    for way in 1..WAYS {
-        let (mut name, _, _) = made::<N>(rt, alloc, way);
-        must(rt, name.add(alloc, "/def"));
+    for way in [Way::Copied, Way::Lent] {
+        let mut name = made::<N>(rt, alloc, way, "abc");
+        must(rt, name.push_by_guard(alloc, "/def"));
         is(rt, name, "abc/def", Kind::Inline);
     }
 }
@@ -191,9 +198,9 @@ fn guards<N: Name>(rt: &impl Abort, alloc: Global) {
 fn guards_of_clones<N: Name>(rt: &impl Abort, alloc: Global) {
     let mut string = must(rt, String::with_capacity(alloc, 42));
     must(rt, string.push_str(LETTERS));
-    let mut name = must(rt, N::of_string(alloc, string));
-    let clone = must(rt, name.cloned(alloc));
-    must(rt, name.add(alloc, "/0123456789"));
+    let mut name = must(rt, N::from_string(alloc, string));
+    let clone = must(rt, name.clone(alloc));
+    must(rt, name.push_by_guard(alloc, "/0123456789"));
     is(
         rt,
         name,
@@ -204,8 +211,11 @@ fn guards_of_clones<N: Name>(rt: &impl Abort, alloc: Global) {
 }
 
 fn debugs<N: Name>(rt: &impl Abort, alloc: Global) {
-    let mut name = N::of_static("abc");
-    let (said, guard) = (must(rt, name.said(alloc)), must(rt, name.guard_said(alloc)));
+    let mut name = N::from_static("abc");
+    let (said, guard) = (
+        must(rt, name.debugged(alloc)),
+        must(rt, name.guard_debugged(alloc)),
+    );
     assert_eq!(rt;
         (said.as_str(), guard.as_str()),
         ("\"abc\"", "[97, 98, 99]")
@@ -213,14 +223,11 @@ fn debugs<N: Name>(rt: &impl Abort, alloc: Global) {
 }
 
 fn owns<N: Name>(rt: &impl Abort, alloc: Global) {
-    for way in 0..WAYS {
-        let (name, text, _) = made::<N>(rt, alloc, way);
-        let kind = if way == 0 {
-            Kind::Allocated
-        } else {
-            Kind::Inline
-        };
-        is(rt, must(rt, name.owned(alloc)), text, kind);
+    let long = taken::<N>(rt, alloc, LONG);
+    is(rt, must(rt, long.into_owned(alloc)), LONG, Kind::Allocated);
+    for way in [Way::Copied, Way::Lent] {
+        let name = made::<N>(rt, alloc, way, "abc");
+        is(rt, must(rt, name.into_owned(alloc)), "abc", Kind::Inline);
     }
 }
 
@@ -255,22 +262,33 @@ fn on<N: Name>(rt: &impl Abort, alloc: Global) {
     on_changes::<N>(rt, alloc);
 }
 
+// The proof that a name is what the tests ask of it costs many seconds in each function that needs it, so one function does for both
+// backends.
+
+fn os_strings<B: Backend>(rt: &impl Abort, alloc: Global) {
+    on::<HipOsStr<'static, B>>(rt, alloc);
+}
+
+fn paths<B: Backend>(rt: &impl Abort, alloc: Global) {
+    on::<HipPath<'static, B>>(rt, alloc);
+}
+
 #[test]
 fn os_strings_on_rc(rt: HostRuntime) {
-    on::<HipOsStr<'static, Rc>>(&rt, rt.alloc());
+    os_strings::<Rc>(&rt, rt.alloc());
 }
 
 #[test]
 fn os_strings_on_unique(rt: HostRuntime) {
-    on::<HipOsStr<'static, Unique>>(&rt, rt.alloc());
+    os_strings::<Unique>(&rt, rt.alloc());
 }
 
 #[test]
 fn paths_on_rc(rt: HostRuntime) {
-    on::<HipPath<'static, Rc>>(&rt, rt.alloc());
+    paths::<Rc>(&rt, rt.alloc());
 }
 
 #[test]
 fn paths_on_unique(rt: HostRuntime) {
-    on::<HipPath<'static, Unique>>(&rt, rt.alloc());
+    paths::<Unique>(&rt, rt.alloc());
 }
