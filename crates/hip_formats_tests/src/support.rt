@@ -8,3 +8,11 @@ pub(crate) fn must<T, E: Drop>(rt: &impl Abort, outcome: Result<T, E>) -> T {
         Err(_) => panic!(rt; "a call was refused"),
     }
 }
+
+/// What a refused call answers, or the end of the test where it wasn't refused.
+pub(crate) fn must_refuse<T: Drop, E>(rt: &impl Abort, outcome: Result<T, E>) -> E {
+    match outcome {
+        Ok(_) => panic!(rt; "a call wasn't refused"),
+        Err(error) => error,
+    }
+}
