@@ -1,133 +1,86 @@
-//! Calls that one type alone has, conversions between types, and components by themselves.
-use crate::name::{must, text_of};
-use hip_names::{Backend, Component, HipByt, HipOsStr, HipPath, HipStr, Rc, Unique, components_eq};
-use std::alloc::{AllocError, Global};
+//! Conversions between types, rooms, orders of OS strings and of paths, and components by themselves.
+use crate::name::{Name, OsStr, compared, must, must_refuse, text_of};
+use hip_names::{Backend, Component, HipByt, HipOsStr, HipPath, Rc, Unique, components_eq};
+use std::alloc::Global;
 use std::borrow::{CowSlice, CowStr};
 use std::cmp::Ordering;
 use std::process::Abort;
 
 const LETTERS: &str = "abcdefghijklmnopqrstuvwxyz";
 
-fn is_name<B: Backend>(rt: &impl Abort, name: HipOsStr<B>, text: &str) {
-    assert_eq!(rt;
-        (name.as_os_str(), name.len()),
-        (text.as_bytes(), text.len())
-    );
+fn is<N: Name>(rt: &impl Abort, name: N, text: &str) {
+    assert_eq!(rt; name.bytes(), text.as_bytes());
 }
 
-fn is_path<B: Backend>(rt: &impl Abort, path: HipPath<B>, text: &str) {
-    assert_eq!(rt;
-        (path.as_path(), path.as_os_str()),
-        (text.as_bytes(), text.as_bytes())
-    );
+/// Of a text that is lent, and of one that is owned.
+fn from_texts<N: Name>(rt: &impl Abort, alloc: Global) {
+    let string = must(rt, String::from_str(alloc, LETTERS));
+    let (of_clone, of_text) = must(rt, N::from_texts(alloc, CowStr::Owned(string)));
+    is(rt, of_clone, LETTERS);
+    is(rt, of_text, LETTERS);
+    let (of_clone, of_text) = must(rt, N::from_texts(alloc, CowStr::Borrowed(LETTERS)));
+    is(rt, of_clone, LETTERS);
+    is(rt, of_text, LETTERS);
 }
 
-/// The letters, as a text that is lent or one that is owned.
-fn letters<'b, B: Backend>(rt: &impl Abort, alloc: Global, owned: bool) -> HipStr<'b, B> {
-    let cow = if owned {
-        CowStr::Owned(must(rt, String::from_str(alloc, LETTERS)))
-    } else {
-        CowStr::Borrowed(LETTERS)
-    };
-    must(rt, HipStr::from_cow(alloc, cow).or(Err(AllocError)))
-}
-
-fn names_of_texts<B: Backend>(rt: &impl Abort, alloc: Global) {
-    for owned in [true, false] {
-        let text = letters::<B>(rt, alloc, owned);
-        is_name(rt, HipOsStr::from(must(rt, text.clone(alloc))), LETTERS);
-        is_name(rt, HipOsStr::from(text), LETTERS);
+/// A lent name becomes a lent `Cow`, a copied one an owned one.
+fn into_cows<N: Name>(rt: &impl Abort, alloc: Global) {
+    match must(rt, N::from_static("abc").into_cow(alloc)) {
+        CowSlice::Borrowed(bytes) => assert_eq!(rt; bytes, b"abc".as_slice()),
+        CowSlice::Owned(_) => panic!(rt; "it was copied"),
     }
-}
-
-fn paths_of_texts<B: Backend>(rt: &impl Abort, alloc: Global) {
-    for owned in [true, false] {
-        let text = letters::<B>(rt, alloc, owned);
-        is_path(rt, HipPath::from(must(rt, text.clone(alloc))), LETTERS);
-        is_path(rt, HipPath::from(text), LETTERS);
+    match must(rt, must(rt, N::from_str(alloc, "abc")).into_cow(alloc)) {
+        CowSlice::Owned(vec) => assert_eq!(rt; vec.as_slice(), b"abc".as_slice()),
+        CowSlice::Borrowed(_) => panic!(rt; "it wasn't copied"),
     }
-}
-
-/// From bytes to an OS string, to a path, and back.
-fn there_and_back<B: Backend>(rt: &impl Abort, alloc: Global) {
-    let bytes = must(rt, HipByt::<B>::from_slice(alloc, LETTERS.as_bytes()));
-    let path = HipPath::from(HipOsStr::from(bytes));
-    is_path(rt, must(rt, path.clone(alloc)), LETTERS);
-    is_name(rt, HipOsStr::from(must(rt, path.clone(alloc))), LETTERS);
-    let bytes = HipByt::from(path.into_os_str());
-    assert_eq!(rt; bytes.eq_slice(LETTERS.as_bytes()), true);
-}
-
-fn long_path_gives_its_vector<B: Backend>(rt: &impl Abort, alloc: Global) {
-    let path = must(rt, HipPath::<B>::from_str(alloc, LETTERS));
-    let vec = must(rt, path.into_os_string(alloc).or(Err(AllocError)));
-    assert_eq!(rt; vec.as_slice(), LETTERS.as_bytes());
-}
-
-/// A lent name becomes a lent `Cow`.
-fn into_lent_cow<B: Backend>(rt: &impl Abort, alloc: Global) {
-    let name = HipPath::<B>::from_static("abc").into_os_str();
-    let Ok(CowSlice::Borrowed(bytes)) = name.into_bytes().into_cow(alloc) else {
-        panic!(rt; "it was copied");
-    };
-    assert_eq!(rt; bytes, b"abc".as_slice());
-}
-
-/// A copied one becomes an owned `Cow`.
-fn into_owned_cow<B: Backend>(rt: &impl Abort, alloc: Global) {
-    let name = must(rt, HipOsStr::<B>::from_str(alloc, "abc"));
-    let Ok(CowSlice::Owned(vec)) = name.into_bytes().into_cow(alloc) else {
-        panic!(rt; "it wasn't copied");
-    };
-    assert_eq!(rt; vec.as_slice(), b"abc".as_slice());
-}
-
-fn rooms<B: Backend>(rt: &impl Abort, alloc: Global) {
-    let mut name = must(rt, HipOsStr::<B>::with_capacity(alloc, 42));
-    let (empty, roomy) = (name.is_empty(), name.capacity() >= 42);
-    for _ in 0..42 {
-        must(rt, name.push(alloc, "A"));
-    }
-    assert_eq!(rt;
-        (empty, roomy, name.os_str_eq(&[b'A'; 42])),
-        (true, true, true)
-    );
-}
-
-fn no_room<B: Backend>(rt: &impl Abort, alloc: Global) {
-    let name = must(rt, HipOsStr::<B>::with_capacity(alloc, 0));
-    let limits = (
-        HipOsStr::<B>::inline_capacity(),
-        HipPath::<B>::inline_capacity(),
-    );
-    assert_eq!(rt;
-        (name.is_empty(), name.capacity(), limits),
-        (true, 23, (23, 23))
-    );
-}
-
-/// Room for 24 bytes is given back where there are fewer.
-fn shrinks<B: Backend>(rt: &impl Abort, alloc: Global) {
-    let mut name = must(rt, HipOsStr::<B>::with_capacity(alloc, 24));
-    must(rt, name.push(alloc, "a"));
-    let mut path = HipPath::from(name);
-    must(rt, path.shrink_to(alloc, 0));
-    assert_eq!(rt; (path.capacity(), path.as_path()), (23, b"a".as_slice()));
-}
-
-fn shrinks_to_fit<B: Backend>(rt: &impl Abort, alloc: Global) {
-    let mut path = HipPath::from(must(rt, HipOsStr::<B>::with_capacity(alloc, 24)));
-    must(rt, path.shrink_to_fit(alloc));
-    assert_eq!(rt; path.capacity(), 23);
 }
 
 /// What is lent may be let go once the name is its own.
-fn owns<B: Backend>(rt: &impl Abort, alloc: Global) {
+fn owns<N: Name>(rt: &impl Abort, alloc: Global) {
     let stars = must(rt, String::from_str(alloc, "******"));
-    let lent = HipOsStr::<B>::borrowed(stars.get(..2).unwrap_or(""));
-    let owned = must(rt, lent.into_owned(alloc).or(Err(AllocError)));
+    let lent = must(rt, stars.get(..2).ok_or("fewer than two"));
+    let owned = must(rt, N::owned_from(alloc, lent));
     drop(stars);
-    is_name(rt, owned, "**");
+    is(rt, owned, "**");
+}
+
+fn no_room<N: Name>(rt: &impl Abort, alloc: Global) {
+    let name = must(rt, N::with_capacity(alloc, 0));
+    assert_eq!(rt; (name.capacity(), N::inline_capacity()), (23, 23));
+    is(rt, name, "");
+}
+
+fn shrinks_to_fit<N: Name>(rt: &impl Abort, alloc: Global) {
+    let mut name = must(rt, N::with_capacity(alloc, 24));
+    must(rt, name.shrink_to_fit(alloc));
+    assert_eq!(rt; name.capacity(), 23);
+}
+
+/// These, of an OS string or of a path.
+pub(crate) fn of_either<N: Name>(rt: &impl Abort, alloc: Global) {
+    from_texts::<N>(rt, alloc);
+    into_cows::<N>(rt, alloc);
+    owns::<N>(rt, alloc);
+    no_room::<N>(rt, alloc);
+    shrinks_to_fit::<N>(rt, alloc);
+}
+
+fn rooms<N: OsStr>(rt: &impl Abort, alloc: Global) {
+    let mut name = must(rt, N::with_capacity(alloc, 42));
+    assert_eq!(rt; (name.is_empty(), name.capacity() >= 42), (true, true));
+    for _ in 0..42 {
+        must(rt, name.push(alloc, "A"));
+    }
+    assert_eq!(rt; (name.len(), name.os_str_eq(&[b'A'; 42])), (42, true));
+}
+
+/// Room for 24 bytes is given back where there are fewer.
+fn shrinks<N: OsStr>(rt: &impl Abort, alloc: Global) {
+    let mut name = must(rt, N::with_capacity(alloc, 24));
+    must(rt, name.push(alloc, "a"));
+    must(rt, name.shrink_to(alloc, 0));
+    assert_eq!(rt; name.capacity(), 23);
+    is(rt, name, "a");
 }
 
 /// Two texts, and how they are ordered, by their bytes and as paths.
@@ -141,70 +94,77 @@ const ORDERED: &[(&str, &str, Ordering, Ordering)] = &[
     ("a/b", "a!/b", Ordering::Greater, Ordering::Less),
 ];
 
+fn orders_bytes<N: OsStr>(rt: &impl Abort) {
+    for (left, right, order, _) in ORDERED {
+        let name = N::from_static(left);
+        assert_eq!(rt; name.os_str_cmp(right.as_bytes()), *order);
+    }
+}
+
+fn of_os_strings<N: OsStr>(rt: &impl Abort, alloc: Global) {
+    rooms::<N>(rt, alloc);
+    shrinks::<N>(rt, alloc);
+    orders_bytes::<N>(rt);
+}
+
 fn orders_names<B: Backend>(rt: &impl Abort) {
     for (left, right, order, _) in ORDERED {
-        let (name, other) = (
-            HipOsStr::<B>::borrowed(left),
-            HipOsStr::<B>::borrowed(right),
-        );
-        assert_eq!(rt;
-            (
-                name.cmp(&other),
-                name.os_str_cmp(right.as_bytes()),
-                name == other
-            ),
-            (*order, *order, order.is_eq())
-        );
+        let answers = compared(&HipOsStr::<B>::borrowed(left), &HipOsStr::borrowed(right));
+        assert_eq!(rt; answers, (*order, order.reverse(), order.is_eq()));
     }
 }
 
-fn orders_paths<B: Backend>(rt: &impl Abort, alloc: Global) {
+fn orders_paths<B: Backend>(rt: &impl Abort) {
     for (left, right, _, order) in ORDERED {
-        let (path, other) = (
-            must(rt, HipPath::<B>::from_str(alloc, left)),
-            HipPath::borrowed(right),
-        );
+        let answers = compared(&HipPath::<B>::borrowed(left), &HipPath::borrowed(right));
         let equal = components_eq(left.as_bytes(), right.as_bytes());
         assert_eq!(rt;
-            (path.cmp(&other), path == other, equal),
-            (*order, order.is_eq(), order.is_eq())
+            (answers, equal),
+            ((*order, order.reverse(), order.is_eq()), order.is_eq())
         );
     }
 }
 
-/// Sorts of components are ordered, and names among themselves.
-fn orders_components(rt: &impl Abort, all: &[Component]) {
-    for (i, left) in all.iter().enumerate() {
-        for (j, right) in all.iter().enumerate() {
-            assert_eq!(rt; (left.cmp(right), left == right), (i.cmp(&j), i == j));
+/// From bytes to an OS string, to a path, and back.
+fn there_and_back<B: Backend>(rt: &impl Abort, alloc: Global) {
+    let bytes = must(rt, HipByt::<B>::from_slice(alloc, LETTERS.as_bytes()));
+    let path = HipPath::from(HipOsStr::from(bytes));
+    assert_eq!(rt;
+        (path.as_path(), path.as_os_str()),
+        (LETTERS.as_bytes(), LETTERS.as_bytes())
+    );
+    let bytes = HipByt::from(HipOsStr::from(path));
+    assert_eq!(rt; bytes.as_slice(), LETTERS.as_bytes());
+}
+
+/// A long path gives its vector as an OS string does, and a lent one is handed back.
+fn into_os_strings<B: Backend>(rt: &impl Abort, alloc: Global) {
+    let path = must(rt, HipPath::<B>::from_str(alloc, LETTERS));
+    let vec = must(rt, path.into_os_string(alloc));
+    assert_eq!(rt; vec.as_slice(), LETTERS.as_bytes());
+    let back = must_refuse(rt, HipPath::<B>::borrowed("abc").into_os_string(alloc));
+    assert_eq!(rt; back.into_os_str().as_os_str(), b"abc".as_slice());
+}
+
+fn on<B: Backend>(rt: &impl Abort, alloc: Global) {
+    of_os_strings::<HipOsStr<'static, B>>(rt, alloc);
+    there_and_back::<B>(rt, alloc);
+    into_os_strings::<B>(rt, alloc);
+    orders_names::<B>(rt);
+    orders_paths::<B>(rt);
+}
+
+/// Asserts that keys are ordered as they are listed.
+fn are_ordered<K: Ord>(rt: &impl Abort, keys: &[K]) {
+    for (i, left) in keys.iter().enumerate() {
+        for (j, right) in keys.iter().enumerate() {
+            let wanted = (i.cmp(&j), j.cmp(&i), i == j);
+            assert_eq!(rt; compared(left, right), wanted);
         }
     }
 }
 
-fn on_conversions<B: Backend>(rt: &impl Abort, alloc: Global) {
-    names_of_texts::<B>(rt, alloc);
-    paths_of_texts::<B>(rt, alloc);
-    there_and_back::<B>(rt, alloc);
-    long_path_gives_its_vector::<B>(rt, alloc);
-    into_lent_cow::<B>(rt, alloc);
-    into_owned_cow::<B>(rt, alloc);
-}
-
-fn on_rooms<B: Backend>(rt: &impl Abort, alloc: Global) {
-    rooms::<B>(rt, alloc);
-    no_room::<B>(rt, alloc);
-    shrinks::<B>(rt, alloc);
-    shrinks_to_fit::<B>(rt, alloc);
-    owns::<B>(rt, alloc);
-}
-
-fn on<B: Backend>(rt: &impl Abort, alloc: Global) {
-    on_conversions::<B>(rt, alloc);
-    on_rooms::<B>(rt, alloc);
-    orders_names::<B>(rt);
-    orders_paths::<B>(rt, alloc);
-}
-
+/// Sorts of components are ordered, and names among themselves.
 #[test]
 fn components(rt: HostRuntime) {
     let all = [
@@ -216,7 +176,7 @@ fn components(rt: HostRuntime) {
         Component::Normal(b"a."),
         Component::Normal(b"b"),
     ];
-    orders_components(&rt, &all);
+    are_ordered(&rt, &all);
     let said = must(&rt, text_of(rt.alloc(), &all[4]));
     assert_eq!(rt; said.as_str(), "Normal([97])");
 }

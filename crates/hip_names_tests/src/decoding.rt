@@ -1,6 +1,6 @@
 //! OS strings that are UTF-8, that aren't, and their repair.
-use crate::name::must;
-use hip_names::{Backend, HipByt, HipOsStr, HipPath, Rc, Unique};
+use crate::name::{Name, OsStr, must};
+use hip_names::{Backend, HipOsStr, HipPath, Rc, Unique};
 use std::alloc::Global;
 use std::process::Abort;
 
@@ -21,51 +21,47 @@ const DECODED: &[Decoded] = &[
     ),
 ];
 
-fn name_of<B: Backend>(bytes: &[u8]) -> HipOsStr<'_, B> {
-    HipOsStr::from(HipByt::borrowed(bytes))
-}
-
-fn is_repaired<B: Backend>(rt: &impl Abort, alloc: Global, row: Decoded) {
-    let repaired = must(rt, name_of::<B>(row.0).to_str_lossy(alloc));
-    assert_eq!(rt; (repaired.as_str(), repaired.is_borrowed()), (row.2, row.1));
-}
-
-fn is_read<B: Backend>(rt: &impl Abort, alloc: Global, row: Decoded) {
-    let text = must(rt, name_of::<B>(row.0).to_str(alloc));
-    assert_eq!(rt; text.is_some_and(|text| text.str_eq(row.2)), row.1);
-}
-
-fn name_becomes_text<B: Backend>(rt: &impl Abort, row: Decoded) {
-    match name_of::<B>(row.0).into_str() {
-        Ok(text) => assert_eq!(rt; (text.as_bytes(), row.1), (row.0, true)),
-        Err(back) => assert_eq!(rt; (back.as_os_str(), row.1), (row.0, false)),
+fn is_decoded<N: OsStr>(rt: &impl Abort, alloc: Global, row: Decoded) {
+    let (bytes, is_text, repaired) = row;
+    let name = N::from_bytes(bytes);
+    let (text, is_lent) = must(rt, name.to_str_lossy(alloc));
+    assert_eq!(rt; (text.as_str(), is_lent), (repaired, is_text));
+    match must(rt, name.to_str(alloc)) {
+        Some(text) => assert_eq!(rt; (text.as_str(), is_text), (repaired, true)),
+        None => assert!(rt; !is_text),
     }
 }
 
-fn path_becomes_text<B: Backend>(rt: &impl Abort, row: Decoded) {
-    match HipPath::from(name_of::<B>(row.0)).into_str() {
-        Ok(text) => assert_eq!(rt; (text.as_bytes(), row.1), (row.0, true)),
-        Err(back) => assert_eq!(rt; (back.as_path(), row.1), (row.0, false)),
+fn becomes_text<N: Name>(rt: &impl Abort, row: Decoded) {
+    match N::from_bytes(row.0).into_str() {
+        Ok(bytes) => assert_eq!(rt; (bytes, row.1), (row.0, true)),
+        Err(back) => assert_eq!(rt; (back.bytes(), row.1), (row.0, false)),
     }
 }
 
 /// Bytes that aren't UTF-8 are told by their numbers.
-fn debugs<B: Backend>(rt: &impl Abort, alloc: Global) {
-    let name = name_of::<B>(b"a\"\n\xFFb");
-    assert_eq!(rt;
-        must(rt, format!(in alloc; "{name:?}")).as_str(),
-        "\"a\\\"\\n\\xffb\""
-    );
+fn debugs<N: Name>(rt: &impl Abort, alloc: Global) {
+    let said = must(rt, N::from_bytes(b"a\"\n\xFFb").debugged(alloc));
+    assert_eq!(rt; said.as_str(), "\"a\\\"\\n\\xffb\"");
+}
+
+fn os_strings<N: OsStr>(rt: &impl Abort, alloc: Global) {
+    for row in DECODED {
+        is_decoded::<N>(rt, alloc, *row);
+        becomes_text::<N>(rt, *row);
+    }
+    debugs::<N>(rt, alloc);
+}
+
+fn paths<N: Name>(rt: &impl Abort) {
+    for row in DECODED {
+        becomes_text::<N>(rt, *row);
+    }
 }
 
 fn on<B: Backend>(rt: &impl Abort, alloc: Global) {
-    for row in DECODED {
-        is_repaired::<B>(rt, alloc, *row);
-        is_read::<B>(rt, alloc, *row);
-        name_becomes_text::<B>(rt, *row);
-        path_becomes_text::<B>(rt, *row);
-    }
-    debugs::<B>(rt, alloc);
+    os_strings::<HipOsStr<'static, B>>(rt, alloc);
+    paths::<HipPath<'static, B>>(rt);
 }
 
 #[test]

@@ -1,5 +1,5 @@
 //! Paths that are hard to read, with the answers of Rust's `std::path`.
-use crate::name::must;
+use crate::name::{compared, must};
 use hip_names::{Backend, Component, Components, HipByt, HipOsStr, HipPath, Rc, Unique, path_cmp};
 use std::alloc::{AllocError, Global};
 use std::cmp::Ordering;
@@ -162,11 +162,6 @@ fn is_taken_apart<B: Backend>(rt: &impl Abort, alloc: Global, row: Hostile) {
     let (bytes, components, _) = row;
     let path = path_of::<B>(bytes);
     is(rt, must(rt, written(alloc, path.components())), components);
-}
-
-/// How two paths stand to each other, each way round, and whether they are equal.
-fn compared<B: Backend>(left: &HipPath<B>, right: &HipPath<B>) -> (Ordering, Ordering, bool) {
-    (left.cmp(right), right.cmp(left), left == right)
 }
 
 fn is_ordered<B: Backend>(rt: &impl Abort, row: Hostile, next: Hostile) {

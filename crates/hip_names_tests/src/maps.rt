@@ -44,19 +44,22 @@ fn is_in_set<K: Hash + Eq + Drop>(
     Ok(set.contains(sought))
 }
 
-/// What a hash map says of a key, where it has another, and a set, where it has the first and the second.
-fn told<K: Hash + Eq + Drop>(
+/// Asserts what a hash map and an ordered one say of a key, where they have another, and a set that has two.
+fn is_told<K: Hash + Ord + Drop>(
     rt: &impl Abort,
     alloc: Global,
-    key: K,
-    first: K,
-    second: K,
+    keys: (K, K),
+    pair: (K, K),
     sought: &K,
-) -> (Option<i32>, bool) {
-    (
-        must(rt, found(alloc, key, sought)),
-        must(rt, is_in_set(alloc, first, second, sought)),
-    )
+    is_found: bool,
+) {
+    let age = is_found.then_some(7);
+    assert_eq!(rt; must(rt, found(alloc, keys.0, sought)), age);
+    assert_eq!(rt; must(rt, found_in_order(alloc, keys.1, sought)), age);
+    assert_eq!(rt;
+        must(rt, is_in_set(alloc, pair.0, pair.1, sought)),
+        is_found
+    );
 }
 
 /// A key, one that is sought, and whether it is found: as paths, and as OS strings.
@@ -70,28 +73,16 @@ const SOUGHT: &[(&str, &str, bool, bool)] = &[
     ("a", "c", false, false),
 ];
 
-fn told_as(is_found: bool) -> (Option<i32>, bool) {
-    (is_found.then_some(7), is_found)
-}
-
 fn path_of<B: Backend>(rt: &impl Abort, alloc: Global, text: &str) -> HipPath<'static, B> {
     must(rt, HipPath::from_str(alloc, text))
 }
 
 fn paths<B: Backend>(rt: &impl Abort, alloc: Global) {
     for (key, path, is_found, _) in SOUGHT {
-        let (first, second) = (path_of::<B>(rt, alloc, key), path_of(rt, alloc, "b"));
-        let sought = HipPath::borrowed(path);
-        let told = told(rt, alloc, HipPath::borrowed(key), first, second, &sought);
-        assert_eq!(rt; told, told_as(*is_found), "{path}");
-    }
-}
-
-fn ordered_paths<B: Backend>(rt: &impl Abort, alloc: Global) {
-    for (key, path, is_found, _) in SOUGHT {
-        let key = HipPath::<B>::borrowed(key);
-        let age = must(rt, found_in_order(alloc, key, &HipPath::borrowed(path)));
-        assert_eq!(rt; age, is_found.then_some(7), "{path}");
+        let keys = (HipPath::borrowed(key), path_of(rt, alloc, key));
+        let pair = (path_of(rt, alloc, key), path_of(rt, alloc, "b"));
+        let sought = HipPath::<B>::borrowed(path);
+        is_told(rt, alloc, keys, pair, &sought, *is_found);
     }
 }
 
@@ -101,16 +92,15 @@ fn name_of<B: Backend>(rt: &impl Abort, alloc: Global, text: &str) -> HipOsStr<'
 
 fn os_strings<B: Backend>(rt: &impl Abort, alloc: Global) {
     for (key, name, _, is_found) in SOUGHT {
-        let (first, second) = (name_of::<B>(rt, alloc, key), name_of(rt, alloc, "b"));
-        let sought = HipOsStr::borrowed(name);
-        let told = told(rt, alloc, HipOsStr::borrowed(key), first, second, &sought);
-        assert_eq!(rt; told, told_as(*is_found), "{name}");
+        let keys = (HipOsStr::borrowed(key), name_of(rt, alloc, key));
+        let pair = (name_of(rt, alloc, key), name_of(rt, alloc, "b"));
+        let sought = HipOsStr::<B>::borrowed(name);
+        is_told(rt, alloc, keys, pair, &sought, *is_found);
     }
 }
 
 fn on<B: Backend>(rt: &impl Abort, alloc: Global) {
     paths::<B>(rt, alloc);
-    ordered_paths::<B>(rt, alloc);
     os_strings::<B>(rt, alloc);
 }
 

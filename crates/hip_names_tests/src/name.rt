@@ -2,6 +2,7 @@
 //! their answers, so that a test knows nothing but what it compares.
 use hip_names::{Backend, HipByt, HipOsStr, HipPath, HipStr, Kind};
 use std::alloc::{AllocError, Global};
+use std::borrow::{CowSlice, CowStr};
 use std::cmp::Ordering;
 use std::fmt;
 use std::process::Abort;
@@ -58,6 +59,49 @@ pub trait Name: Drop {
 
     /// As `Debug` shows the guard of `mutate`.
     fn guard_debugged(&mut self, alloc: Global) -> Result<String, AllocError>;
+
+    /// Two names: of a clone of the text that a `Cow` makes, and of the text itself.
+    fn from_texts(alloc: Global, cow: CowStr<'static>) -> Result<(Self, Self), AllocError>;
+
+    /// Of a byte string that is lent.
+    fn from_bytes(bytes: &'static [u8]) -> Self;
+
+    /// By `into_owned` of a name that is lent for a shorter time.
+    fn owned_from(alloc: Global, text: &str) -> Result<Self, AllocError>;
+
+    /// By `with_capacity` of an OS string.
+    fn with_capacity(alloc: Global, capacity: usize) -> Result<Self, AllocError>;
+
+    fn inline_capacity() -> usize;
+
+    /// By `into_cow` of the byte string.
+    fn into_cow(self, alloc: Global) -> Result<CowSlice<'static, u8>, AllocError>;
+
+    /// The text of lent bytes, as bytes.
+    fn into_str(self) -> Result<&'static [u8], Self>;
+}
+
+/// What an OS string alone has.
+pub trait OsStr: Name {
+    fn len(&self) -> usize;
+
+    fn is_empty(&self) -> bool;
+
+    fn push(&mut self, alloc: Global, addition: &str) -> Result<(), AllocError>;
+
+    fn os_str_cmp(&self, other: &[u8]) -> Ordering;
+
+    /// A copy of the text.
+    fn to_str(&self, alloc: Global) -> Result<Option<String>, AllocError>;
+
+    /// A copy of the text, and whether that was lent.
+    fn to_str_lossy(&self, alloc: Global) -> Result<(String, bool), AllocError>;
+}
+
+/// How two keys stand to each other, each way round, and whether they are equal. What names promise of their order is much, so it is asked
+/// where nothing is known of the keys but that they have one.
+pub(crate) fn compared<K: Ord>(left: &K, right: &K) -> (Ordering, Ordering, bool) {
+    (left.cmp(right), right.cmp(left), left == right)
 }
 
 /// The value, or the end of the test where it was refused. A test with no way out but this is a straight line, and cheap to prove.
@@ -181,6 +225,37 @@ impl<B: Backend> Name for HipOsStr<'static, B> {
         let guard = self.mutate(alloc)?;
         text_of(alloc, &guard)
     }
+
+    fn from_texts(alloc: Global, cow: CowStr<'static>) -> Result<(Self, Self), AllocError> {
+        let text = HipStr::from_cow(alloc, cow).or(Err(AllocError))?;
+        Ok((HipOsStr::from(text.clone(alloc)?), HipOsStr::from(text)))
+    }
+
+    fn from_bytes(bytes: &'static [u8]) -> Self {
+        HipOsStr::from(HipByt::borrowed(bytes))
+    }
+
+    fn owned_from(alloc: Global, text: &str) -> Result<Self, AllocError> {
+        HipOsStr::borrowed(text)
+            .into_owned(alloc)
+            .or(Err(AllocError))
+    }
+
+    fn with_capacity(alloc: Global, capacity: usize) -> Result<Self, AllocError> {
+        HipOsStr::with_capacity(alloc, capacity)
+    }
+
+    fn inline_capacity() -> usize {
+        HipOsStr::<B>::inline_capacity()
+    }
+
+    fn into_cow(self, alloc: Global) -> Result<CowSlice<'static, u8>, AllocError> {
+        self.into_bytes().into_cow(alloc).or(Err(AllocError))
+    }
+
+    fn into_str(self) -> Result<&'static [u8], Self> {
+        Ok(self.into_str()?.as_borrowed().unwrap_or("").as_bytes())
+    }
 }
 
 impl<B: Backend> Name for HipPath<'static, B> {
@@ -274,5 +349,67 @@ impl<B: Backend> Name for HipPath<'static, B> {
     fn guard_debugged(&mut self, alloc: Global) -> Result<String, AllocError> {
         let guard = self.mutate(alloc)?;
         text_of(alloc, &guard)
+    }
+
+    fn from_texts(alloc: Global, cow: CowStr<'static>) -> Result<(Self, Self), AllocError> {
+        let text = HipStr::from_cow(alloc, cow).or(Err(AllocError))?;
+        Ok((HipPath::from(text.clone(alloc)?), HipPath::from(text)))
+    }
+
+    fn from_bytes(bytes: &'static [u8]) -> Self {
+        HipPath::from(HipOsStr::from(HipByt::borrowed(bytes)))
+    }
+
+    fn owned_from(alloc: Global, text: &str) -> Result<Self, AllocError> {
+        HipPath::borrowed(text)
+            .into_owned(alloc)
+            .or(Err(AllocError))
+    }
+
+    fn with_capacity(alloc: Global, capacity: usize) -> Result<Self, AllocError> {
+        Ok(HipPath::from(HipOsStr::with_capacity(alloc, capacity)?))
+    }
+
+    fn inline_capacity() -> usize {
+        HipPath::<B>::inline_capacity()
+    }
+
+    fn into_cow(self, alloc: Global) -> Result<CowSlice<'static, u8>, AllocError> {
+        let bytes = self.into_os_str().into_bytes();
+        bytes.into_cow(alloc).or(Err(AllocError))
+    }
+
+    fn into_str(self) -> Result<&'static [u8], Self> {
+        Ok(self.into_str()?.as_borrowed().unwrap_or("").as_bytes())
+    }
+}
+
+impl<B: Backend> OsStr for HipOsStr<'static, B> {
+    fn len(&self) -> usize {
+        self.len()
+    }
+
+    fn is_empty(&self) -> bool {
+        self.is_empty()
+    }
+
+    fn push(&mut self, alloc: Global, addition: &str) -> Result<(), AllocError> {
+        self.push(alloc, addition)
+    }
+
+    fn os_str_cmp(&self, other: &[u8]) -> Ordering {
+        self.os_str_cmp(other)
+    }
+
+    fn to_str(&self, alloc: Global) -> Result<Option<String>, AllocError> {
+        match self.to_str(alloc)? {
+            Some(text) => Ok(Some(String::from_str(alloc, text.as_str())?)),
+            None => Ok(None),
+        }
+    }
+
+    fn to_str_lossy(&self, alloc: Global) -> Result<(String, bool), AllocError> {
+        let text = self.to_str_lossy(alloc)?;
+        Ok((String::from_str(alloc, text.as_str())?, text.is_borrowed()))
     }
 }

@@ -1,4 +1,5 @@
 //! What hipstr's own tests ask of OS strings and of paths, each by its own calls.
+use crate::calls;
 use crate::name::{Name, must, must_refuse};
 use hip_names::{Backend, HipOsStr, HipPath, Kind, Rc, Unique};
 use std::alloc::Global;
@@ -260,6 +261,7 @@ fn on<N: Name>(rt: &impl Abort, alloc: Global) {
     on_makers::<N>(rt, alloc);
     on_conversions::<N>(rt, alloc);
     on_changes::<N>(rt, alloc);
+    calls::of_either::<N>(rt, alloc);
 }
 
 // The proof that a name is what the tests ask of it costs many seconds in each function that needs it, so one function does for both
