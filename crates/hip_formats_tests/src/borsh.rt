@@ -1,42 +1,61 @@
 //! Forms that are written and read, cut short, or that lie about their length.
-use crate::support::must;
-use hip_bytes::{BorshFault, FromRead, HipByt, Kind, SliceSource, ToWrite, VecSink};
+use crate::support::{Handle, must, must_refuse};
+use hip_bytes::{BorshFault, FromRead, HipByt, SliceSource, ToWrite, VecSink};
 use hip_text::{Backend, HipStr, Rc, Unique};
 use std::alloc::Global;
 use std::process::Abort;
 
-/// A text, its form as the crate borsh 1.8.1 writes it (`borsh::to_vec`), and where its bytes lie once it is read.
-type Form = (&'static str, &'static [u8], Kind);
+/// A handle that has a form.
+pub trait Form: Handle {
+    fn serialize(&self, sink: &mut VecSink) -> Result<(), BorshFault>;
 
-fn forms() -> &'static [Form] {
-    &[
-        ("", b"\x00\x00\x00\x00", Kind::Inline),
-        ("123", b"\x03\x00\x00\x00\x31\x32\x33", Kind::Inline),
-        ("abc", b"\x03\x00\x00\x00\x61\x62\x63", Kind::Inline),
-        ("é", b"\x02\x00\x00\x00\xC3\xA9", Kind::Inline),
-        (
-            "漢字",
-            b"\x06\x00\x00\x00\xE6\xBC\xA2\xE5\xAD\x97",
-            Kind::Inline,
-        ),
-        ("😀", b"\x04\x00\x00\x00\xF0\x9F\x98\x80", Kind::Inline),
-        (
-            "aaaaaaaaaaaaaaaaaaaaaaa",
-            b"\x17\x00\x00\x00aaaaaaaaaaaaaaaaaaaaaaa",
-            Kind::Inline,
-        ),
-        (
-            "aaaaaaaaaaaaaaaaaaaaaaaa",
-            b"\x18\x00\x00\x00aaaaaaaaaaaaaaaaaaaaaaaa",
-            Kind::Allocated,
-        ),
-        (
-            "aaaaaaaaaaaaaaaaaaaaaaaaaaaaaaaaaaaaaaaaaa",
-            b"\x2A\x00\x00\x00aaaaaaaaaaaaaaaaaaaaaaaaaaaaaaaaaaaaaaaaaa",
-            Kind::Allocated,
-        ),
-    ]
+    fn deserialize_reader(alloc: Global, source: &mut SliceSource<'_>) -> Result<Self, BorshFault>;
 }
+
+impl<B: Backend> Form for HipByt<'static, B> {
+    fn serialize(&self, sink: &mut VecSink) -> Result<(), BorshFault> {
+        self.serialize(sink)
+    }
+
+    fn deserialize_reader(alloc: Global, source: &mut SliceSource<'_>) -> Result<Self, BorshFault> {
+        HipByt::deserialize_reader(alloc, source)
+    }
+}
+
+impl<B: Backend> Form for HipStr<'static, B> {
+    fn serialize(&self, sink: &mut VecSink) -> Result<(), BorshFault> {
+        self.serialize(sink)
+    }
+
+    fn deserialize_reader(alloc: Global, source: &mut SliceSource<'_>) -> Result<Self, BorshFault> {
+        HipStr::deserialize_reader(alloc, source)
+    }
+}
+
+/// A text, its form as the crate borsh 1.8.1 writes it (`borsh::to_vec`), and whether it has an owner once it is read.
+const TEXTS: &[(&str, &[u8], bool)] = &[
+    ("", b"\x00\x00\x00\x00", false),
+    ("123", b"\x03\x00\x00\x00\x31\x32\x33", false),
+    ("abc", b"\x03\x00\x00\x00\x61\x62\x63", false),
+    ("é", b"\x02\x00\x00\x00\xC3\xA9", false),
+    ("漢字", b"\x06\x00\x00\x00\xE6\xBC\xA2\xE5\xAD\x97", false),
+    ("😀", b"\x04\x00\x00\x00\xF0\x9F\x98\x80", false),
+    (
+        "aaaaaaaaaaaaaaaaaaaaaaa",
+        b"\x17\x00\x00\x00aaaaaaaaaaaaaaaaaaaaaaa",
+        false,
+    ),
+    (
+        "aaaaaaaaaaaaaaaaaaaaaaaa",
+        b"\x18\x00\x00\x00aaaaaaaaaaaaaaaaaaaaaaaa",
+        true,
+    ),
+    (
+        "aaaaaaaaaaaaaaaaaaaaaaaaaaaaaaaaaaaaaaaaaa",
+        b"\x2A\x00\x00\x00aaaaaaaaaaaaaaaaaaaaaaaaaaaaaaaaaaaaaaaaaa",
+        true,
+    ),
+];
 
 /// Bytes that are no text, or none that can be seen, and their form by the same crate.
 const BYTES: &[(&[u8], &[u8])] = &[
@@ -61,200 +80,142 @@ const LENGTHS: &[(usize, [u8; 4])] = &[
     (70000, [112, 17, 1, 0]),
 ];
 
-/// The form of bytes that are lent.
-fn form_of<B: Backend>(alloc: Global, bytes: &[u8]) -> Option<Vec<u8>> {
+/// Asserts the form of what these bytes make.
+fn writes<F: Form>(rt: &impl Abort, alloc: Global, bytes: &'static [u8], form: &[u8]) {
     let mut sink = VecSink::new(alloc);
-    HipByt::<B>::borrowed(bytes).serialize(&mut sink).ok()?;
-    Some(sink.into_vec())
+    must(rt, must(rt, F::lent(bytes)).serialize(&mut sink));
+    let written = sink.into_vec();
+    assert_eq!(rt; written.as_slice(), form);
 }
 
-/// The same of a text, through a writer of the standard library.
-fn form_of_text<B: Backend>(alloc: Global, text: &str) -> Option<Vec<u8>> {
-    let mut vec = Vec::new(alloc);
-    HipStr::<B>::borrowed(text)
-        .serialize(&mut ToWrite::new(&mut vec))
-        .ok()?;
-    Some(vec)
-}
-
-fn written<B: Backend>(rt: &impl Abort, alloc: Global) {
-    for (text, form, _kind) in forms() {
-        let bytes = form_of::<B>(alloc, text.as_bytes());
-        let texts = form_of_text::<B>(alloc, text);
-        assert_eq!(rt;
-            (bytes.as_deref(), texts.as_deref()),
-            (Some(*form), Some(*form))
-        );
-    }
-}
-
-#[test]
-fn written_on_either(rt: HostRuntime) {
-    written::<Rc>(&rt, rt.alloc());
-    written::<Unique>(&rt, rt.alloc());
-}
-
-/// A form is read as bytes, from a slice with more behind it, which is left.
-fn is_read<B: Backend>(rt: &impl Abort, alloc: Global, row: Form) {
-    let (text, form, kind) = row;
-    let mut bytes = must(rt, Vec::from_slice(alloc, form));
-    must(rt, bytes.push(b'z'));
-    let mut source = SliceSource::new(bytes.as_slice());
-    let read = must(rt, HipByt::<B>::deserialize_reader(alloc, &mut source));
-    let is_left = source.rest() == b"z".as_slice();
+/// Asserts what is read of a form that has a byte behind it, which is left.
+fn reads<F: Form>(rt: &impl Abort, alloc: Global, form: &[u8], bytes: &[u8], is_owned: bool) {
+    let mut longer = must(rt, Vec::from_slice(alloc, form));
+    must(rt, longer.push(b'z'));
+    let mut source = SliceSource::new(longer.as_slice());
+    let read = must(rt, F::deserialize_reader(alloc, &mut source));
     assert_eq!(rt;
-        (read.eq_slice(text.as_bytes()), read.kind(), is_left),
-        (true, kind, true)
+        (read.bytes(), read.is_borrowed(), read.is_allocated()),
+        (bytes, false, is_owned)
     );
+    assert_eq!(rt; source.rest(), b"z".as_slice());
 }
 
-fn read<B: Backend>(rt: &impl Abort, alloc: Global) {
-    for row in forms() {
-        is_read::<B>(rt, alloc, *row);
-    }
-}
-
-#[test]
-fn read_on_either(rt: HostRuntime) {
-    read::<Rc>(&rt, rt.alloc());
-    read::<Unique>(&rt, rt.alloc());
-}
-
-/// The same as texts, through a reader of the standard library.
-fn texts<B: Backend>(rt: &impl Abort, alloc: Global) {
-    for (text, form, kind) in forms() {
-        let mut source = FromRead::new(*form);
-        let read = must(rt, HipStr::<B>::deserialize_reader(alloc, &mut source));
-        assert_eq!(rt; (read.as_str(), read.kind()), (*text, *kind));
-    }
-}
-
-#[test]
-fn texts_on_either(rt: HostRuntime) {
-    texts::<Rc>(&rt, rt.alloc());
-    texts::<Unique>(&rt, rt.alloc());
-}
-
-/// Bytes are written and read by their form, whatever they are.
-fn bytes<B: Backend>(rt: &impl Abort, alloc: Global) {
-    for (bytes, form) in BYTES {
-        let written = form_of::<B>(alloc, bytes);
-        assert_eq!(rt; written.as_deref(), Some(*form));
-        let mut source = SliceSource::new(form);
-        let read = must(rt, HipByt::<B>::deserialize_reader(alloc, &mut source));
-        assert_eq!(rt; read.as_slice(), *bytes);
-    }
-}
-
-#[test]
-fn bytes_on_either(rt: HostRuntime) {
-    bytes::<Rc>(&rt, rt.alloc());
-    bytes::<Unique>(&rt, rt.alloc());
-}
-
-/// So are many, whose lengths take more than a byte.
-fn lengths<B: Backend>(rt: &impl Abort, alloc: Global) {
-    for (len, head) in LENGTHS {
-        let many = must(rt, HipByt::<B>::borrowed(b"\xFF").repeat(alloc, *len));
-        let mut sink = VecSink::new(alloc);
-        must(rt, many.serialize(&mut sink));
-        let form = sink.into_vec();
-        assert_eq!(rt;
-            (form.as_slice().get(..4), form.len()),
-            (Some(head.as_slice()), len + 4)
-        );
-        let mut source = SliceSource::new(form.as_slice());
-        let read = must(rt, HipByt::<B>::deserialize_reader(alloc, &mut source));
-        assert_eq!(rt; (read == many, source.rest().len()), (true, 0));
-    }
-}
-
-#[test]
-fn lengths_on_either(rt: HostRuntime) {
-    lengths::<Rc>(&rt, rt.alloc());
-    lengths::<Unique>(&rt, rt.alloc());
-}
-
-/// What is answered, and how many bytes are left.
-fn read_bytes(alloc: Global, bytes: &[u8]) -> (Option<BorshFault>, usize) {
+/// Asserts why bytes aren't read, and that all of them are taken.
+fn refuses<F: Form>(rt: &impl Abort, alloc: Global, bytes: &[u8], fault: BorshFault) {
     let mut source = SliceSource::new(bytes);
-    let read = HipByt::<Rc>::deserialize_reader(alloc, &mut source);
-    (read.err(), source.rest().len())
+    let told = must_refuse(rt, F::deserialize_reader(alloc, &mut source));
+    assert_eq!(rt; (told, source.rest().len()), (fault, 0));
 }
 
-fn read_text(alloc: Global, bytes: &[u8]) -> (Option<BorshFault>, usize) {
-    let mut source = SliceSource::new(bytes);
-    let read = HipStr::<Rc>::deserialize_reader(alloc, &mut source);
-    (read.err(), source.rest().len())
-}
-
-/// Each form cut short at each length is truncated, and all of it is taken.
-#[test]
-fn cut_short(rt: HostRuntime) {
-    for (_text, form, _kind) in forms() {
+/// Each form, and each that is cut short at each length.
+fn forms<F: Form>(rt: &impl Abort, alloc: Global) {
+    for (text, form, is_owned) in TEXTS {
+        let bytes = text.as_bytes();
+        writes::<F>(rt, alloc, bytes, form);
+        reads::<F>(rt, alloc, form, bytes, *is_owned);
         for len in 0..form.len() {
-            let answers = (
-                read_bytes(rt.alloc(), &form[..len]),
-                read_text(rt.alloc(), &form[..len]),
-            );
-            let wanted = (Some(BorshFault::Truncated), 0);
-            assert_eq!(&rt; answers, (wanted, wanted), "at {len}");
+            refuses::<F>(rt, alloc, &form[..len], BorshFault::Truncated);
         }
     }
 }
 
-/// Bytes, and what is answered where they are read as bytes and as a text.
-fn hostile_forms() -> &'static [(&'static [u8], Option<BorshFault>, Option<BorshFault>)] {
-    &[
-        (
-            b"\xFF\xFF\xFF\xFFa",
-            Some(BorshFault::Truncated),
-            Some(BorshFault::Truncated),
-        ),
-        (b"\x05\x00\x00\x00abc\xFFc", None, Some(BorshFault::NotUtf8)),
-        (
-            b"\x03\x00\x00\x00\xED\xA0\x80",
-            None,
-            Some(BorshFault::NotUtf8),
-        ),
-        (b"\x02\x00\x00\x00\xC0\x80", None, Some(BorshFault::NotUtf8)),
-        (b"\x01\x00\x00\x00\xC3", None, Some(BorshFault::NotUtf8)),
-        (
-            b"\x04\x00\x00\x00\xF0\x9F\x98",
-            Some(BorshFault::Truncated),
-            Some(BorshFault::Truncated),
-        ),
-    ]
-}
+/// Forms of more than there is, read as bytes and as a text.
+const TOO_SHORT: &[&[u8]] = &[b"\xFF\xFF\xFF\xFFa", b"\x04\x00\x00\x00\xF0\x9F\x98"];
 
-#[test]
-fn hostile(rt: HostRuntime) {
-    for (bytes, as_bytes, as_text) in hostile_forms() {
-        let answers = (read_bytes(rt.alloc(), bytes), read_text(rt.alloc(), bytes));
-        assert_eq!(&rt; answers, ((*as_bytes, 0), (*as_text, 0)));
+fn too_short<F: Form>(rt: &impl Abort, alloc: Global) {
+    for bytes in TOO_SHORT {
+        refuses::<F>(rt, alloc, bytes, BorshFault::Truncated);
     }
 }
 
-/// The forms of a byte string and of a text, one behind the other.
-fn two_forms(rt: &impl Abort, alloc: Global) -> Vec<u8> {
-    let mut sink = VecSink::new(alloc);
-    must(rt, HipByt::<Rc>::borrowed(b"\xFF").serialize(&mut sink));
-    must(rt, HipStr::<Rc>::borrowed("é").serialize(&mut sink));
-    sink.into_vec()
+/// Bytes, and the whole form of them, that are no text.
+const NO_TEXTS: &[(&[u8], &[u8])] = &[
+    (b"abc\xFFc", b"\x05\x00\x00\x00abc\xFFc"),
+    (b"\xED\xA0\x80", b"\x03\x00\x00\x00\xED\xA0\x80"),
+    (b"\xC0\x80", b"\x02\x00\x00\x00\xC0\x80"),
+    (b"\xC3", b"\x01\x00\x00\x00\xC3"),
+];
+
+/// Many bytes, whose lengths take more than one byte, are written as they were read.
+fn lengths<F: Form>(rt: &impl Abort, alloc: Global) {
+    for (len, head) in LENGTHS {
+        let mut form = must(rt, Vec::from_slice(alloc, head));
+        must(rt, form.resize(len + 4, 0xFF));
+        let mut source = SliceSource::new(form.as_slice());
+        let read = must(rt, F::deserialize_reader(alloc, &mut source));
+        assert_eq!(rt; (read.bytes().len(), source.rest().len()), (*len, 0));
+        let mut sink = VecSink::new(alloc);
+        must(rt, read.serialize(&mut sink));
+        let written = sink.into_vec();
+        assert_eq!(rt; written.as_slice(), form.as_slice());
+    }
 }
 
 /// Two values in one sink are read in their order.
-#[test]
-fn one_behind_another(rt: HostRuntime) {
-    let forms = two_forms(&rt, rt.alloc());
+fn one_behind_another<F: Form, G: Form>(rt: &impl Abort, alloc: Global) {
+    let mut sink = VecSink::new(alloc);
+    must(rt, must(rt, F::lent(b"\xFF")).serialize(&mut sink));
+    must(rt, must(rt, G::lent(b"\xC3\xA9")).serialize(&mut sink));
+    let forms = sink.into_vec();
     let mut source = SliceSource::new(forms.as_slice());
-    let first = must(
-        &rt,
-        HipByt::<Rc>::deserialize_reader(rt.alloc(), &mut source),
+    let first = must(rt, F::deserialize_reader(alloc, &mut source));
+    let second = must(rt, G::deserialize_reader(alloc, &mut source));
+    assert_eq!(rt;
+        (first.bytes(), second.bytes()),
+        (b"\xFF".as_slice(), b"\xC3\xA9".as_slice())
     );
-    let second = must(
+}
+
+fn bytes<F: Form>(rt: &impl Abort, alloc: Global) {
+    forms::<F>(rt, alloc);
+    too_short::<F>(rt, alloc);
+    for (bytes, form) in BYTES {
+        writes::<F>(rt, alloc, bytes, form);
+        reads::<F>(rt, alloc, form, bytes, false);
+    }
+    for (bytes, form) in NO_TEXTS {
+        reads::<F>(rt, alloc, form, bytes, false);
+    }
+    lengths::<F>(rt, alloc);
+}
+
+fn texts<F: Form>(rt: &impl Abort, alloc: Global) {
+    forms::<F>(rt, alloc);
+    too_short::<F>(rt, alloc);
+    for (_, form) in NO_TEXTS {
+        refuses::<F>(rt, alloc, form, BorshFault::NotUtf8);
+    }
+}
+
+fn on<B: Backend>(rt: &impl Abort, alloc: Global) {
+    bytes::<HipByt<'static, B>>(rt, alloc);
+    texts::<HipStr<'static, B>>(rt, alloc);
+    one_behind_another::<HipByt<'static, B>, HipStr<'static, B>>(rt, alloc);
+}
+
+#[test]
+fn on_rc(rt: HostRuntime) {
+    on::<Rc>(&rt, rt.alloc());
+}
+
+#[test]
+fn on_unique(rt: HostRuntime) {
+    on::<Unique>(&rt, rt.alloc());
+}
+
+/// To a writer and from a reader of the standard library.
+#[test]
+fn by_writers_and_readers(rt: HostRuntime) {
+    let mut form = Vec::new(rt.alloc());
+    let text = HipStr::<Rc>::borrowed("漢字");
+    must(&rt, text.serialize(&mut ToWrite::new(&mut form)));
+    let wanted = b"\x06\x00\x00\x00\xE6\xBC\xA2\xE5\xAD\x97";
+    assert_eq!(&rt; form.as_slice(), wanted.as_slice());
+    let mut source = FromRead::new(form.as_slice());
+    let read = must(
         &rt,
         HipStr::<Rc>::deserialize_reader(rt.alloc(), &mut source),
     );
-    assert_eq!(&rt; (first.as_slice(), second.as_str()), (&b"\xFF"[..], "é"));
+    assert_eq!(&rt; read.as_str(), "漢字");
 }

@@ -1,5 +1,5 @@
 //! Values that are made, read and refused.
-use crate::support::{must, must_refuse};
+use crate::support::{Handle, must, must_refuse};
 use hip_bytes::{HipByt, JsonFault};
 use hip_names::{HipOsStr, HipPath};
 use hip_text::{Backend, HipStr, Rc, Unique};
@@ -7,27 +7,14 @@ use serde_json::Value;
 use std::alloc::Global;
 use std::process::Abort;
 
-/// What has a JSON value. The calls say nothing of their answers, so that a test knows nothing but what it compares.
-pub trait Json: Drop {
-    /// What these bytes make, which are lent.
-    fn lent(bytes: &'static [u8]) -> Result<Self, &'static str>;
-
+/// A handle that has a JSON value.
+pub trait Json: Handle {
     fn to_json(&self, alloc: Global) -> Result<Value, JsonFault>;
 
     fn from_json(alloc: Global, value: &Value) -> Result<Self, JsonFault>;
-
-    fn bytes(&self) -> &[u8];
-
-    fn is_borrowed(&self) -> bool;
-
-    fn is_allocated(&self) -> bool;
 }
 
 impl<B: Backend> Json for HipByt<'static, B> {
-    fn lent(bytes: &'static [u8]) -> Result<Self, &'static str> {
-        Ok(HipByt::borrowed(bytes))
-    }
-
     fn to_json(&self, alloc: Global) -> Result<Value, JsonFault> {
         self.to_json(alloc).or(Err(JsonFault::Memory))
     }
@@ -35,25 +22,9 @@ impl<B: Backend> Json for HipByt<'static, B> {
     fn from_json(alloc: Global, value: &Value) -> Result<Self, JsonFault> {
         HipByt::from_json(alloc, value)
     }
-
-    fn bytes(&self) -> &[u8] {
-        self.as_slice()
-    }
-
-    fn is_borrowed(&self) -> bool {
-        self.is_borrowed()
-    }
-
-    fn is_allocated(&self) -> bool {
-        self.is_allocated()
-    }
 }
 
 impl<B: Backend> Json for HipStr<'static, B> {
-    fn lent(bytes: &'static [u8]) -> Result<Self, &'static str> {
-        HipStr::from_utf8(HipByt::borrowed(bytes)).or(Err("it isn't UTF-8"))
-    }
-
     fn to_json(&self, alloc: Global) -> Result<Value, JsonFault> {
         self.to_json(alloc).or(Err(JsonFault::Memory))
     }
@@ -61,25 +32,9 @@ impl<B: Backend> Json for HipStr<'static, B> {
     fn from_json(alloc: Global, value: &Value) -> Result<Self, JsonFault> {
         HipStr::from_json(alloc, value)
     }
-
-    fn bytes(&self) -> &[u8] {
-        self.as_bytes()
-    }
-
-    fn is_borrowed(&self) -> bool {
-        self.is_borrowed()
-    }
-
-    fn is_allocated(&self) -> bool {
-        self.is_allocated()
-    }
 }
 
 impl<B: Backend> Json for HipOsStr<'static, B> {
-    fn lent(bytes: &'static [u8]) -> Result<Self, &'static str> {
-        Ok(HipOsStr::from(HipByt::borrowed(bytes)))
-    }
-
     fn to_json(&self, alloc: Global) -> Result<Value, JsonFault> {
         self.to_json(alloc).or(Err(JsonFault::Memory))
     }
@@ -87,43 +42,15 @@ impl<B: Backend> Json for HipOsStr<'static, B> {
     fn from_json(alloc: Global, value: &Value) -> Result<Self, JsonFault> {
         HipOsStr::from_json(alloc, value)
     }
-
-    fn bytes(&self) -> &[u8] {
-        self.as_os_str()
-    }
-
-    fn is_borrowed(&self) -> bool {
-        self.is_borrowed()
-    }
-
-    fn is_allocated(&self) -> bool {
-        self.is_allocated()
-    }
 }
 
 impl<B: Backend> Json for HipPath<'static, B> {
-    fn lent(bytes: &'static [u8]) -> Result<Self, &'static str> {
-        Ok(HipPath::from(HipOsStr::from(HipByt::borrowed(bytes))))
-    }
-
     fn to_json(&self, alloc: Global) -> Result<Value, JsonFault> {
         self.to_json(alloc)
     }
 
     fn from_json(alloc: Global, value: &Value) -> Result<Self, JsonFault> {
         HipPath::from_json(alloc, value)
-    }
-
-    fn bytes(&self) -> &[u8] {
-        self.as_path()
-    }
-
-    fn is_borrowed(&self) -> bool {
-        self.is_borrowed()
-    }
-
-    fn is_allocated(&self) -> bool {
-        self.is_allocated()
     }
 }
 

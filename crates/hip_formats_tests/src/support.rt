@@ -1,4 +1,7 @@
-//! What ends a test.
+//! What ends a test, and what the tests ask of all four types.
+use hip_bytes::HipByt;
+use hip_names::{HipOsStr, HipPath};
+use hip_text::{Backend, HipStr};
 use std::process::Abort;
 
 /// The value, or the end of the test where it was refused. A test with no way out but this is a straight line, and cheap to prove.
@@ -14,5 +17,89 @@ pub(crate) fn must_refuse<T: Drop, E>(rt: &impl Abort, outcome: Result<T, E>) ->
     match outcome {
         Ok(_) => panic!(rt; "a call wasn't refused"),
         Err(error) => error,
+    }
+}
+
+/// A handle of any of the four types. The calls say nothing of their answers, so that a test knows nothing but what it compares.
+pub trait Handle: Drop {
+    /// What these bytes make, which are lent.
+    fn lent(bytes: &'static [u8]) -> Result<Self, &'static str>;
+
+    fn bytes(&self) -> &[u8];
+
+    fn is_borrowed(&self) -> bool;
+
+    fn is_allocated(&self) -> bool;
+}
+
+impl<B: Backend> Handle for HipByt<'static, B> {
+    fn lent(bytes: &'static [u8]) -> Result<Self, &'static str> {
+        Ok(HipByt::borrowed(bytes))
+    }
+
+    fn bytes(&self) -> &[u8] {
+        self.as_slice()
+    }
+
+    fn is_borrowed(&self) -> bool {
+        self.is_borrowed()
+    }
+
+    fn is_allocated(&self) -> bool {
+        self.is_allocated()
+    }
+}
+
+impl<B: Backend> Handle for HipStr<'static, B> {
+    fn lent(bytes: &'static [u8]) -> Result<Self, &'static str> {
+        HipStr::from_utf8(HipByt::borrowed(bytes)).or(Err("it isn't UTF-8"))
+    }
+
+    fn bytes(&self) -> &[u8] {
+        self.as_bytes()
+    }
+
+    fn is_borrowed(&self) -> bool {
+        self.is_borrowed()
+    }
+
+    fn is_allocated(&self) -> bool {
+        self.is_allocated()
+    }
+}
+
+impl<B: Backend> Handle for HipOsStr<'static, B> {
+    fn lent(bytes: &'static [u8]) -> Result<Self, &'static str> {
+        Ok(HipOsStr::from(HipByt::borrowed(bytes)))
+    }
+
+    fn bytes(&self) -> &[u8] {
+        self.as_os_str()
+    }
+
+    fn is_borrowed(&self) -> bool {
+        self.is_borrowed()
+    }
+
+    fn is_allocated(&self) -> bool {
+        self.is_allocated()
+    }
+}
+
+impl<B: Backend> Handle for HipPath<'static, B> {
+    fn lent(bytes: &'static [u8]) -> Result<Self, &'static str> {
+        Ok(HipPath::from(HipOsStr::from(HipByt::borrowed(bytes))))
+    }
+
+    fn bytes(&self) -> &[u8] {
+        self.as_path()
+    }
+
+    fn is_borrowed(&self) -> bool {
+        self.is_borrowed()
+    }
+
+    fn is_allocated(&self) -> bool {
+        self.is_allocated()
     }
 }
