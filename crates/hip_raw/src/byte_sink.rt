@@ -6,7 +6,9 @@ ghost use Rattle.hip_raw.specs.Sources.{failed_writes, writer_of};
 ghost use Rattle.hip_raw.specs.Sink.{unwritten};
 ghost use Rattle.hip_raw.specs.Transfer.{CountsRefusal};
 
+use crate::filling::Filling;
 use crate::io_fault::IoFault;
+use crate::meter::Meter;
 use std::alloc::{AllocError, Global};
 use std::io::Write;
 use std::marker::Model;
@@ -39,7 +41,7 @@ pub trait ByteSink {
 /// Writes into a vector. A write that finds no memory fails, and each other one takes all its bytes.
 #[derive(Drop)]
 pub struct VecSink {
-    vec: Vec<u8>,
+    filling: Filling,
     failures: u64,
 }
 
@@ -48,7 +50,7 @@ impl Model for VecSink {
 
     ghost Value = { Sink };
 
-    ghost view = { λ sink. record { items = sink.vec.items; failures = sink.failures } };
+    ghost view = { λ sink. record { items = sink.filling.items; failures = sink.failures } };
 }
 
 impl VecSink {
@@ -58,7 +60,7 @@ impl VecSink {
         ensures { result ≡ unwritten }
     {
         VecSink {
-            vec: Vec::new(alloc),
+            filling: Filling::new(alloc),
             failures: 0,
         }
     }
@@ -68,7 +70,7 @@ impl VecSink {
     pub fn into_vec(self) -> Vec<u8>
         ensures { result.items ≡ self.items }
     {
-        self.vec
+        self.filling.into_vec()
     }
 }
 
@@ -83,7 +85,7 @@ impl ByteSink for VecSink {
 
     #[inline]
     fn write(&mut self, bytes: &[u8]) -> Result<usize, IoFault> {
-        match self.vec.extend_from_slice(bytes) {
+        match self.filling.push_slice(bytes, &mut Meter::new()) {
             Ok(()) => Ok(bytes.len()),
             Err(AllocError) => {
                 self.failures = self.failures.saturating_add(1);

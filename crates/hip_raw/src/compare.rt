@@ -1,8 +1,8 @@
 //! Comparisons of bytes, many at a time.
 //!
 //! Up to 128 bytes two blocks of the same width cover both byte strings, the second ending where they end; beyond that stretches of 256
-//! bytes and blocks of 64 are taken one after another. An order compares the first eight bytes as a number, and up to 16 as two; how these are read
-//! (`read_short`, `read_u64_be`, `read_u32_be`) is adapted from the kit's core, `src/cmp/bytes.rt`, with its proofs.
+//! bytes and blocks of 64 are taken one after another. An order compares the first eight bytes as a number, and up to 16 as two; how
+//! these are read (`read_short`, `read_u64_be`, `read_u32_be`) is adapted from the kit's core, `src/cmp/bytes.rt`, with its proofs.
 ghost use Rattle.std.specs.Prelude.{◌≡◌, ◌↔◌, ◌+◌, ◌*◌, ◌<◌, ◌≤◌, nat_eq, length, IsTrue, min};
 ghost use Rattle.std.specs.Cmp.Lexicographic.{pointwise, slice_cmp};
 ghost use Rattle.std.specs.Ordering.{nat_cmp};
@@ -66,7 +66,7 @@ fn equal_by_blocks(a: &[u8], b: &[u8]) -> bool
     alike_by_blocks(a, b, a.len()) == a.len()
 }
 
-// Whether the 256 bytes from `i` on are the same.
+// Whether the 256 bytes from `i` on are the same, by one test of all of them.
 #[inline(always)]
 fn alike_stretch(a: &[u8], b: &[u8], i: usize) -> bool
     requires within { (i + 256 ≤ length a.now) × (i + 256 ≤ length b.now) }

@@ -30,6 +30,17 @@ impl Model for Filling {
 }
 
 impl Filling {
+    /// No bytes, and no room yet.
+    #[inline]
+    pub fn new(alloc: Global) -> Self
+        ensures { result.items ≡ [] }
+    {
+        Filling {
+            vec: Vec::new(alloc),
+            len: 0,
+        }
+    }
+
     /// No bytes, with room for `capacity`.
     #[inline]
     pub fn with_capacity(alloc: Global, capacity: usize) -> Result<Self, AllocError>
@@ -111,6 +122,29 @@ impl Filling {
         ensures counted { RisesAtMost meter.old meter.new (length addition.now) }
     {
         self.push_behind_within(&[], addition, meter);
+    }
+
+    /// Adds bytes, a stretch at a time, so that the zeros of new room are still at hand when they are filled. A refused call changes
+    /// nothing.
+    pub fn push_slice(&mut self, addition: &[u8], meter: &mut Meter) -> Result<(), AllocError>
+        ensures items { OnOk result (self.new.items ≡ self.old.items ++ addition.now) }
+        ensures capacity { self.old.capacity ≤ self.new.capacity }
+        ensures counted { RisesAtMost meter.old meter.new (length addition.now) }
+        ensures memory { OnErr result
+            (self.old.capacity < length self.old.items + length addition.now) }
+        ensures err { OnErr result (self.new ≡ self.old) }
+        ensures refused_copies_nothing { OnErr result (meter.new ≡ meter.old) }
+    {
+        if self.vec.capacity() - self.len < addition.len() {
+            reserve(&mut self.vec, self.len, addition.len())?;
+        }
+        let mut done = 0;
+        while done < addition.len() {
+            let end = addition.len().min(done.saturating_add(STRIDE));
+            self.push_slice_within(&addition[done..end], meter);
+            done = end;
+        }
+        Ok(())
     }
 
     /// Adds the first `count` bytes again, for which there is room.
