@@ -5,7 +5,7 @@
 //! - `borsh`: forms that are written and read, cut short, or that lie about their length.
 //! - `streams`: sources and sinks that are slow, that fail, or that take nothing.
 //! - `json`: values that are made, read and refused.
-//! - `support`: what ends a test.
+//! - `support`: what ends a test, and what the tests ask of all four types.
 #![tactic(auto)]
 
 #[cfg(test)]

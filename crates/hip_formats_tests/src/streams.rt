@@ -1,7 +1,7 @@
 //! Sources and sinks that are slow, that fail, or that take nothing.
 use crate::support::must;
 use crate::trickle::{Drain, Spring};
-use hip_bytes::{BorshFault, ByteSink, ByteSource, HipByt};
+use hip_bytes::{BorshFault, ByteSink, ByteSource, HipByt, VecSink};
 use hip_text::{HipStr, Rc};
 use std::alloc::Global;
 use std::process::Abort;
@@ -92,6 +92,15 @@ fn failing_sink(rt: HostRuntime) {
     for failing in 0..FORM.len() + 2 {
         is_written(&rt, rt.alloc(), failing);
     }
+}
+
+/// A vector takes all bytes of a write.
+#[test]
+fn whole_writes(rt: HostRuntime) {
+    let mut sink = VecSink::new(rt.alloc());
+    let taken = (sink.write(b"abc"), sink.write(b""));
+    assert_eq!(&rt; (taken, sink.failures()), ((Ok(3), Ok(0)), 0));
+    assert_eq!(&rt; sink.into_vec().as_slice(), b"abc".as_slice());
 }
 
 /// A sink that takes no byte, and of which no write fails.

@@ -114,9 +114,11 @@ fn orders_names<B: Backend>(rt: &impl Abort) {
     }
 }
 
-fn orders_paths<B: Backend>(rt: &impl Abort) {
+/// A copied path and one that is lent.
+fn orders_paths<B: Backend>(rt: &impl Abort, alloc: Global) {
     for (left, right, _, order) in ORDERED {
-        let answers = compared(&HipPath::<B>::borrowed(left), &HipPath::borrowed(right));
+        let copied = must(rt, HipPath::<B>::from_str(alloc, left));
+        let answers = compared(&copied, &HipPath::borrowed(right));
         let equal = components_eq(left.as_bytes(), right.as_bytes());
         assert_eq!(rt;
             (answers, equal),
@@ -151,7 +153,7 @@ fn on<B: Backend>(rt: &impl Abort, alloc: Global) {
     there_and_back::<B>(rt, alloc);
     into_os_strings::<B>(rt, alloc);
     orders_names::<B>(rt);
-    orders_paths::<B>(rt);
+    orders_paths::<B>(rt, alloc);
 }
 
 /// Asserts that keys are ordered as they are listed.

@@ -1,5 +1,5 @@
-//! What the tests ask of an OS string and of a path alike. The calls are by their own names where nothing else is said, and say nothing of
-//! their answers, so that a test knows nothing but what it compares.
+//! What the tests ask of an OS string and of a path alike, and of an OS string alone. The calls are by their own names where nothing else
+//! is said, and say nothing of their answers, so that a test knows nothing but what it compares.
 use hip_names::{Backend, HipByt, HipOsStr, HipPath, HipStr, Kind};
 use std::alloc::{AllocError, Global};
 use std::borrow::{CowSlice, CowStr};

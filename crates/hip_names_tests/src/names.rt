@@ -120,6 +120,8 @@ fn borrows<N: Name>(rt: &impl Abort, alloc: Global) {
     assert!(rt; copied.as_borrowed().is_none());
     let back = must_refuse(rt, copied.into_borrowed());
     is(rt, back, "abc", Kind::Inline);
+    let back = must_refuse(rt, taken::<N>(rt, alloc, LONG).into_borrowed());
+    is(rt, back, LONG, Kind::Allocated);
 }
 
 fn rooms<N: Name>(rt: &impl Abort, alloc: Global) {

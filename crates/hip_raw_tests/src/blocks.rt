@@ -12,7 +12,7 @@ const LONGEST: usize = 130;
 /// Lengths of up to two stretches of 256 bytes, with blocks and rests behind them.
 const LONGER: &[usize] = &[256, 257, 321, 512, 600];
 
-/// The last of these.
+/// The greatest of these.
 const COMPARED: usize = 600;
 
 /// Whether the bytes are the same, as a plain loop tells it.
@@ -56,7 +56,7 @@ fn counted() -> [u8; COMPARED] {
     bytes
 }
 
-/// Asserts this of so many bytes and those that differ from them at one place.
+/// Compares so many bytes with themselves, and with those that differ from them at one place.
 fn one_byte_differs_of(rt: &impl Abort, bytes: &[u8; COMPARED], len: usize) {
     let len = len.min(COMPARED);
     compares(rt, &bytes[..len], &bytes[..len]);
@@ -78,7 +78,8 @@ fn one_byte_differs(rt: HostRuntime) {
     }
 }
 
-/// Asserts this where the first of two places has the lesser byte, and the other one the greater.
+/// Compares so many bytes with those that differ from them at two places as far from either end: one has the least byte, the other
+/// the greatest.
 fn two_bytes_differ_of(rt: &impl Abort, bytes: &[u8; COMPARED], len: usize) {
     let len = len.min(COMPARED);
     for at in 0..len {
