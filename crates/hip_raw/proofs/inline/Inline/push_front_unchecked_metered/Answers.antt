@@ -9,3 +9,6 @@ returns-clause-items g c =
     let whole : take (c.get-start.result + c.args.count) items ≡ c.split_at_mut-front.result.0.now ++ c.fill_counted.new.to =
     take-append_two c.split_at_mut-front.result.0.now c.fill_counted.new.to _ _ _ c.split_at_mut-front.ensures.front_len (grind (arith, common_steps)) in
     ap (λ k. take k items) c.of-self-inside.ensures ∙ whole ∙ grind (arith, common_steps)
+
+pub invariant_of-self : goal.invariant_of-self
+invariant_of-self g c = grind (arith, common_steps)
