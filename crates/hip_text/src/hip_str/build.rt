@@ -18,7 +18,6 @@ impl<'b, B: Backend> HipStr<'b, B> {
     }
 
     /// [`HipStr::repeat`], counted.
-    #[tactic(auto, using(crate::proofs::Texts::repeats))]
     pub fn repeat_metered(
         &self,
         alloc: Global,
@@ -62,7 +61,6 @@ impl<'b, B: Backend> HipStr<'b, B> {
     }
 
     /// [`HipStr::join_slices`], counted.
-    #[tactic(auto, using(crate::proofs::Texts::texts))]
     pub fn join_slices_metered(
         alloc: Global,
         texts: &[&str],

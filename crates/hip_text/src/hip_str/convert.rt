@@ -82,7 +82,6 @@ impl<'b, B: Backend> HipStr<'b, B> {
     }
 
     /// The text in a `String`, copied where [`HipStr::into_string`] hands the value back. A refused value is handed back.
-    #[tactic(auto, using(crate::proofs::Texts::texts))]
     #[inline]
     pub fn into_string_copied(self, alloc: Global) -> Result<String, Self>
         ensures items { IfOk result (λ string. string_bytes string ≡ self.entry.items) }

@@ -46,7 +46,6 @@ impl<'b, B: Backend> HipStr<'b, B> {
     }
 
     /// [`HipStr::push`], counted.
-    #[tactic(auto, using(crate::proofs::Texts::pushes))]
     #[inline(always)]
     pub fn push_metered(
         &mut self,

@@ -23,7 +23,6 @@ impl<'b, B: Backend> TextSource for HipStr<'b, B> {
 
     ghost put_needs_memory = { λ len. INLINE_CAPACITY < len };
 
-    #[tactic(auto, using(crate::proofs::Texts::strings))]
     #[inline]
     fn lend_string_metered(
         &mut self,
