@@ -1,4 +1,5 @@
-use Rattle.std.proofs.Common.{rules, ◌∙◌, ℕ, Err, Global, ap, length, vec_items}
+use Rattle.std.proofs.Common.{rules, ◌∙◌, ℕ, Err, Global, ap, length, vec_items, arith}
+use Rattle.std.proofs.lemmas.Grind.{common_steps}
 use Rattle.std.proofs.lemmas.List.{length-replicate}
 use Rattle.hip_bytes.proofs.Forms.{handed-on, read-form, read-rest, read-unmade}
 use Rattle.hip_bytes.specs.Borsh.{BorshReads}
@@ -33,3 +34,6 @@ pub returns-clause-read : goal.returns-clause-read
 returns-clause-read g c =
     read-unmade _ _ _ c.read_whole.new.room c.in_ok-read_vec.field-0.items c.from_le_bytes-len.result c.in_ok-read_whole.ensures.moved.1 c.in_ok-read_vec.ensures.moved.1 c.in_ok-read_whole.ensures.moved.0
     c.in_ok-read_vec.ensures.moved.0 c.from_le_bytes-len.ensures c.if-len-le-INLINE_CAPACITY.false
+
+pub returns-then-len-le-INLINE_CAPACITY-clause-read : goal.returns-then-len-le-INLINE_CAPACITY-clause-read
+returns-then-len-le-INLINE_CAPACITY-clause-read g c = grind (arith, common_steps)

@@ -1,4 +1,5 @@
 use Rattle.std.proofs.Common.{◌*◌, length, ap, take_all, arith}
+use Rattle.std.proofs.lemmas.Grind.{common_steps}
 use Rattle.std.specs.List.{flat_map}
 use Rattle.std.proofs.lemmas.List.Folds.{length-flat_map-take}
 use Rattle.hip_bytes.proofs.Joins.{length-joined}
@@ -21,3 +22,6 @@ returns g c =
     let all = ap (λ xs. length (flat_map g.P.Piece.bytes xs)) (take_all c.loop-piece.piece-index c.args.pieces.now (omega (arith, c.loop-piece-test.false))) in
     let whole = length-joined g.P.Piece.bytes c.args.sep.now c.args.pieces.now in
     (omega (arith, all, whole, c.loop-piece.invariant.len, c.loop-piece.invariant.fits), omega (arith, all, whole, c.loop-piece.invariant.len))
+
+pub loop-piece-preserved : goal.loop-piece-preserved
+loop-piece-preserved g c = grind (arith, common_steps)

@@ -1,4 +1,5 @@
 use Rattle.std.proofs.Common.{◌≡◌, ◌∙◌, ◌≤◌, ◌+◌, ◌*◌, ◌++◌, length, take, ap, sym, arith}
+use Rattle.std.proofs.lemmas.Grind.{common_steps}
 use Rattle.std.proofs.Math.Nat.{add-mul, mul-le-mul_right}
 use Rattle.std.specs.List.{repeat}
 use Rattle.hip_bytes.proofs.Repeats.{repeat-append, length-repeat, take-repeat, times_fit}
@@ -44,3 +45,6 @@ pub returns-clause-len : goal.returns-clause-len
 returns-clause-len c =
     let all : c.loop-done.done ≡ c.args.n = omega arith in
     ap length c.loop-done.invariant.items ∙ length-repeat c.loop-done.done c.args.bytes.now ∙ ap (λ n. n * length c.args.bytes.now) all ∙ sym c.requires.whole
+
+pub overflow_mul-more : goal.overflow_mul-more
+overflow_mul-more c = grind (arith, common_steps)
