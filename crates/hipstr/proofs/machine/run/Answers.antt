@@ -1,4 +1,5 @@
 use Rattle.std.proofs.Common.{◌+◌, get_or, arith}
+use Rattle.std.proofs.lemmas.Grind.{common_steps}
 use Rattle.hipstr.proofs.Amortised.{step-paid, RunAmortised-take_more}
 use Rattle.hipstr.proofs.Runs.{Run-take_more}
 use Rattle.hipstr.specs.declared.command.Command.TheVariants.{New}
@@ -28,3 +29,9 @@ loop-command-preserved g c =
       answered = omega arith;
       room = omega arith;
     }
+
+pub returns-clause-run : goal.returns-clause-run
+returns-clause-run g c = grind (arith, common_steps)
+
+pub returns-clause-amortised : goal.returns-clause-amortised
+returns-clause-amortised g c = grind (arith, common_steps)

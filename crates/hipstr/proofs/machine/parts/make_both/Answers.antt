@@ -1,4 +1,5 @@
 use Rattle.std.proofs.Common.{◌≡◌, ◌≤◌, ◌∙◌, length, map, replicate, refl, ap, sym, arith}
+use Rattle.std.proofs.lemmas.Grind.{common_steps}
 use Rattle.std.proofs.lemmas.List.{length-map}
 use Rattle.hip_match.specs.Draw.{draw}
 use Rattle.hipstr.specs.Slot.{empty_slot, state_of}
@@ -43,3 +44,6 @@ returns-in-None g c =
     let all = has-ended g.B.Backend.SHARES c.args.walk.source.now (draw (g.I.Ranges.rest c.args.walk.ranges) c.args.script.now) (g.I.Ranges.rest c.loop-i.walk.ranges) c.args.script.now c.loop-i.i
     (map (state_of {B = g.row.B.Denot} {S = g.row.B-Sole.Denot} {P = g.row.B-Start.Denot}) c.loop-i.spare) c.args.meter.now c.loop-i.meter c.end_part.new.meter c.loop-i.invariant.so_far c.in-None.ensures.drawn.0 c.in-None.ensures.drawn.1 in
     record { made = all.made; counted = all.rises }
+
+pub returns : goal.returns
+returns g c = grind (arith, common_steps)

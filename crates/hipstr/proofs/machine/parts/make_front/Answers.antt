@@ -1,4 +1,5 @@
 use Rattle.std.proofs.Common.{◌≡◌, ◌≤◌, ◌∙◌, length, map, replicate, refl, ap, sym, arith}
+use Rattle.std.proofs.lemmas.Grind.{common_steps}
 use Rattle.std.proofs.lemmas.List.{length-map}
 use Rattle.hip_match.specs.Draw.{draw}
 use Rattle.hipstr.specs.Slot.{empty_slot, state_of}
@@ -46,3 +47,6 @@ returns-in-None g c =
 
 pub front_part-requires-clause-front : goal.front_part-requires-clause-front
 front_part-requires-clause-front g c = all-front c.args.script.now c.loop-i.i _ c.requires.front c.loop-i-test.true
+
+pub returns : goal.returns
+returns g c = grind (arith, common_steps)

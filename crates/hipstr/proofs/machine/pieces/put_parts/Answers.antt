@@ -1,4 +1,5 @@
 use Rattle.std.proofs.Common.{◌≤◌, ◌<◌, ◌+◌, ◌∙◌, length, map, ap, sym, arith}
+use Rattle.std.proofs.lemmas.Grind.{common_steps}
 use Rattle.std.proofs.Math.ListN.{get_or-map}
 use Rattle.std.proofs.lemmas.List.{length-map, map-set}
 use Rattle.hipstr.specs.Slot.{state_of}
@@ -17,3 +18,12 @@ loop-i-preserved g c =
       emptied = rw (map-set state c.loop-i.spare c.loop-i.i c.replace.new.dest)
           (empties-front-on (map state c.args.spare.now) (map state c.loop-i.spare) c.loop-i.i (state c.replace.new.dest) there (ap state c.replace.ensures.after ∙ c.empty.ensures) c.loop-i.invariant.emptied);
     }
+
+pub offset_bounds-spare-i : goal.offset_bounds-spare-i
+offset_bounds-spare-i g c = grind (arith, common_steps)
+
+pub offset_bounds-slots-first : goal.offset_bounds-slots-first
+offset_bounds-slots-first g c = grind (arith, common_steps)
+
+pub returns-clause-put : goal.returns-clause-put
+returns-clause-put g c = grind (arith, common_steps)

@@ -1,4 +1,5 @@
 use Rattle.std.proofs.Common.{◌≡◌, ◌∙◌, ◌≤◌, ◌<◌, ◌+◌, ◌++◌, List, length, map, drop, take, replicate, Some, None, if◌then◌else◌, ap, refl, rules, subst, sym, arith}
+use Rattle.std.proofs.lemmas.Grind.{common_steps}
 use Rattle.std.proofs.lemmas.Bool.{leb-true}
 use Rattle.std.proofs.lemmas.List.{length-map, with_items_is}
 use Rattle.hip_bytes.specs.Handle.{Handle}
@@ -94,3 +95,9 @@ returns-clause-step g c =
     (performed g.B.Backend.SHARES slots (Pieces c.args.s c.args.how c.args.script c.args.first) (Number c.in_ok-count.count) (map state c.put_parts.new.slots) unrefused
     (pieces-put slots (map state c.make_parts.new.spare) (map state c.put_parts.new.slots) c.in_ok-text.text.now c.args.s c.args.first c.in_ok-count.count ranges is
     c.in_ok-count.ensures.made.0 c.in_ok-count.ensures.made.1 room put))
+
+pub text_in-requires : goal.text_in-requires
+text_in-requires g c = grind (arith, common_steps)
+
+pub invariant_of-self : goal.invariant_of-self
+invariant_of-self g c = grind (arith, common_steps)

@@ -1,7 +1,7 @@
 use Rattle.std.proofs.Common.{◌<◌, ◌++◌, List, ℕ, false, true, length, subst, arith}
 use Rattle.hip_bytes.specs.Handle.{Handle}
 use Rattle.hip_bytes.specs.Kinds.{HoldsByLength}
-use Rattle.hipstr.proofs.Places.{replaced, half-mutated}
+use Rattle.hipstr.proofs.Places.{replaced, half-mutated, put_back}
 use Rattle.hipstr.specs.declared.command.Command.TheVariants.{Mutate}
 use Rattle.hipstr.specs.declared.command.Answer.TheVariants.{Done, Refused}
 use Rattle.hipstr.specs.declared.command.Reason.TheVariants.{Memory}
@@ -37,3 +37,6 @@ returns-in-Err-outcome-clause-step g c =
     let unrefused = neither _ _ (slot-there c.args.self.now c.args.t within) (added-to-text c.args.self.now c.args.t c.args.addition.now c.in-Text.ensures.flag c.in-Some.ensures.utf8) in
     performed g.B.Backend.SHARES c.args.self.now (Mutate c.args.t c.args.addition) (Refused Memory) c.put-in-Text.new.self unrefused
     (half-mutated c.args.self.now c.take.new.self _ c.args.t true c.in-Text.text c.extend_lent_text-outcome.new.source within c.in-Text.ensures.flag c.in-Text.ensures.handle c.take.ensures.emptied c.put-in-Text.ensures c.in-Err-outcome.ensures.err)
+
+pub returns-in_default-clause-step : goal.returns-in_default-clause-step
+returns-in_default-clause-step g c = grind (arith, put_back)

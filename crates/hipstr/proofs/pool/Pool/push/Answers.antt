@@ -3,7 +3,7 @@ use Rattle.hip_bytes.specs.Handle.{Handle}
 use Rattle.hip_bytes.specs.Change.{IsPushed}
 use Rattle.hip_bytes.specs.Cost.{PushIsPaid}
 use Rattle.hipstr.proofs.Amortised.{pushed-put}
-use Rattle.hipstr.proofs.Places.{replaced}
+use Rattle.hipstr.proofs.Places.{replaced, put_back}
 use Rattle.hipstr.specs.declared.command.Command.TheVariants.{Push}
 use Rattle.hipstr.specs.declared.command.Answer.TheVariants.{Done}
 use Rattle.hipstr.proofs.Steps.{performed, neither, slot-there, added-to-bytes, added-to-text}
@@ -39,3 +39,21 @@ returns-in_ok-outcome-in-Text-clause-paid g c =
     let paid = subst (λ (added : List ℕ). PushIsPaid g.B.Backend.SHARES text pushed (length added) c.args.meter.now c.push_str_metered-outcome.new.meter) c.in-Some.ensures.text c.in_ok-outcome-in-Text.ensures.paid in
     pushed-put g.B.Backend.SHARES c.args.self.now c.take.new.self _ c.args.t true text pushed (length c.args.addition.now) c.args.meter.now _
     within c.in-Text.ensures.handle c.take.ensures.emptied c.put-in-Text.ensures paid
+
+pub returns-in_err-outcome-in-Bytes-clause-step : goal.returns-in_err-outcome-in-Bytes-clause-step
+returns-in_err-outcome-in-Bytes-clause-step g c = grind (arith, put_back)
+
+pub returns-in_err-outcome-in-Bytes-clause-paid : goal.returns-in_err-outcome-in-Bytes-clause-paid
+returns-in_err-outcome-in-Bytes-clause-paid g c = grind (arith, put_back)
+
+pub returns-in_default-clause-step : goal.returns-in_default-clause-step
+returns-in_default-clause-step g c = grind (arith, put_back)
+
+pub returns-in_default-clause-paid : goal.returns-in_default-clause-paid
+returns-in_default-clause-paid g c = grind (arith, put_back)
+
+pub returns-in_err-outcome-in-Text-clause-step : goal.returns-in_err-outcome-in-Text-clause-step
+returns-in_err-outcome-in-Text-clause-step g c = grind (arith, put_back)
+
+pub returns-in_err-outcome-in-Text-clause-paid : goal.returns-in_err-outcome-in-Text-clause-paid
+returns-in_err-outcome-in-Text-clause-paid g c = grind (arith, put_back)

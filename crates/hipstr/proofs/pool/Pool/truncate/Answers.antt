@@ -1,7 +1,7 @@
 use Rattle.std.proofs.Common.{rules, ◌<◌, false, true, length, ap, arith}
 use Rattle.hip_bytes.specs.Handle.{Handle}
 use Rattle.hip_bytes.specs.Change.{IsShortened}
-use Rattle.hipstr.proofs.Places.{replaced}
+use Rattle.hipstr.proofs.Places.{replaced, put_back}
 use Rattle.hipstr.specs.declared.command.Command.TheVariants.{Truncate}
 use Rattle.hipstr.specs.declared.command.Answer.TheVariants.{Done}
 use Rattle.hipstr.proofs.Steps.{performed, neither, slot-there, ends-bytes, ends-text}
@@ -23,3 +23,6 @@ returns-else-n-len-clause-step g c =
     let changed = λ (was now : Handle). IsShortened was now c.args.n in
     performed g.B.Backend.SHARES c.args.self.now (Truncate c.args.t c.args.n) Done c.put-in-Text.new.self unrefused
     (replaced c.args.self.now c.take.new.self _ c.args.t true _ c.in-Text.text c.truncate_metered-in-Text.new.self changed within c.in-Text.ensures.flag c.in-Text.ensures.handle c.take.ensures.emptied c.put-in-Text.ensures c.truncate_metered-in-Text.ensures.shortened)
+
+pub returns-then-not-is_char_boundary-clause-step : goal.returns-then-not-is_char_boundary-clause-step
+returns-then-not-is_char_boundary-clause-step g c = grind (arith, put_back)
