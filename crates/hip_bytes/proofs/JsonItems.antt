@@ -2,10 +2,9 @@
 use Rattle.std.proofs.Common.{◌≡◌, ◌∙◌, ℕ, ◌+◌, ◌<◌, List, [], ◌∷◌, ◌++◌, Some, None, length, drop, get_or, map, set, suc, take, ap, refl, sym}
 use Rattle.std.proofs.Math.Seq.{drop-cons}
 use Rattle.std.proofs.lemmas.List.{map-append, take-append-drop, take_more, take_more_set}
-use Rattle.serde_json.specs.Data.{Data, unsigned, number}
 use Rattle.serde_json.specs.View.{items_of, view}
 use Rattle.serde_json.specs.declared.value.Value.{Value}
-use Rattle.hip_bytes.specs.Json.{AreBytes, IsFirstOther, byte_of, bytes_in, json_byte}
+use Rattle.hip_bytes.specs.Json.{AreBytes, IsFirstOther, byte_of, bytes_in}
 use Rattle.hip_bytes.specs.JsonItems.{read_items}
 
 -- the items of a list of values

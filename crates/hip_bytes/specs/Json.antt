@@ -2,7 +2,7 @@
 -- an object. A value is seen as serde_json's `Data` sees it, in the words of its look-ups.)
 use Rattle.std.specs.Prelude.{◌≡◌, ℕ, ◌<◌, List, [], ◌∷◌, ◌++◌, Option, Some, None, MatchOption, Result, Ok, Err, length, map, nat_lt, option_and_then, if◌then◌else◌, codes, refl}
 use Rattle.std.specs.Str.{bytes_eq}
-use Rattle.serde_json.specs.Data.{Data, Items, no_items, item, Members, no_members, member, unsigned, negative, float, null, number, string, array, object}
+use Rattle.serde_json.specs.Data.{Data, Items, no_items, item, Members, no_members, member, unsigned, null, number, array, object}
 use Rattle.serde_json.specs.Find.{as_array, as_number, as_object, as_str, as_u64}
 use Rattle.serde_json.specs.View.{items_of}
 use Rattle.hip_bytes.specs.Handle.{Handle}

@@ -1,5 +1,5 @@
 -- The items of an array that is being read. No public clause cites this module.
-use Rattle.std.specs.Prelude.{◌≡◌, ℕ, ◌<◌, List, Option, Some, map}
+use Rattle.std.specs.Prelude.{◌≡◌, ℕ, List, Option, Some, map}
 use Rattle.serde_json.specs.View.{view}
 use Rattle.serde_json.specs.declared.value.Value.{Value}
 use Rattle.hip_bytes.specs.Json.{IsFirstOther, byte_of}
