@@ -1,8 +1,8 @@
 //! Ranges of an owner's bytes.
+use crate::support::{must, must_refuse};
 use hip_raw::{Allocated, Appended, Backend, Meter, Rc, Unique};
 use std::alloc::Global;
 use std::process::Abort;
-use std::test::Fail;
 
 const STARS: &[u8] = &[b'*'; 42];
 
@@ -14,52 +14,49 @@ fn has<B: Backend>(rt: &impl Abort, bytes: &Allocated<B>, items: &[u8]) {
     );
 }
 
-fn holds_none<B: Backend>(rt: &impl Abort, alloc: Global) -> Result<(), Fail> {
-    let empty = Allocated::<B>::new(alloc, Vec::new(alloc))?;
+fn holds_none<B: Backend>(rt: &impl Abort, alloc: Global) {
+    let empty = must(rt, Allocated::<B>::new(alloc, Vec::new(alloc)));
     has(rt, &empty, b"");
-    Ok(())
 }
 
 /// Another range of the same bytes outlives the first, and takes on more. The meter is told after either.
-fn holds_bytes<B: Backend>(rt: &impl Abort, alloc: Global, copied: u128) -> Result<(), Fail> {
+fn holds_bytes<B: Backend>(rt: &impl Abort, alloc: Global, copied: u128) {
     let mut meter = Meter::new();
-    let whole = Allocated::<B>::from_slice_metered(alloc, STARS, &mut meter)?;
+    let whole = must(
+        rt,
+        Allocated::<B>::from_slice_metered(alloc, STARS, &mut meter),
+    );
     has(rt, &whole, STARS);
     assert_eq!(rt; meter.copied(), 42);
-    let copy = whole.slice_unchecked_metered(alloc, 0..42, &mut meter)?;
+    let copy = must(rt, whole.slice_unchecked_metered(alloc, 0..42, &mut meter));
     assert_eq!(rt; meter.copied(), copied);
     drop(whole);
-    takes_one_more(rt, alloc, copy)
+    takes_one_more(rt, alloc, copy);
 }
 
 const STARS_AND_ONE: &[u8] = b"******************************************!";
 
-fn takes_one_more<B: Backend>(
-    rt: &impl Abort,
-    alloc: Global,
-    mut bytes: Allocated<B>,
-) -> Result<(), Fail> {
+fn takes_one_more<B: Backend>(rt: &impl Abort, alloc: Global, mut bytes: Allocated<B>) {
     has(rt, &bytes, STARS);
     assert_eq!(rt; bytes.push_slice(alloc, b"!"), Appended::Done);
     has(rt, &bytes, STARS_AND_ONE);
-    bytes.shrink_to(alloc, 0)?;
+    must(rt, bytes.shrink_to(alloc, 0));
     has(rt, &bytes, STARS_AND_ONE);
-    Ok(())
 }
 
 #[test]
-fn each_backend_holds_bytes(rt: HostRuntime) -> Result<(), Fail> {
-    holds_none::<Rc>(&rt, rt.alloc())?;
-    holds_none::<Unique>(&rt, rt.alloc())?;
-    holds_bytes::<Rc>(&rt, rt.alloc(), 42)?;
-    holds_bytes::<Unique>(&rt, rt.alloc(), 84)
+fn each_backend_holds_bytes(rt: HostRuntime) {
+    holds_none::<Rc>(&rt, rt.alloc());
+    holds_none::<Unique>(&rt, rt.alloc());
+    holds_bytes::<Rc>(&rt, rt.alloc(), 42);
+    holds_bytes::<Unique>(&rt, rt.alloc(), 84);
 }
 
 /// 42 bytes in a vector with room for 200.
-fn roomy(alloc: Global) -> Result<Vec<u8>, Fail> {
-    let mut vec = Vec::with_capacity(alloc, 200)?;
-    vec.extend_from_slice(STARS)?;
-    Ok(vec)
+fn roomy(rt: &impl Abort, alloc: Global) -> Vec<u8> {
+    let mut vec = must(rt, Vec::with_capacity(alloc, 200));
+    must(rt, vec.extend_from_slice(STARS));
+    vec
 }
 
 /// Writes the first byte by a closure, and the last by its position.
@@ -95,7 +92,7 @@ fn cuts_and_shrinks<B: Backend>(
     alloc: Global,
     bytes: &mut Allocated<B>,
     meter: &mut Meter,
-) -> Result<(), Fail> {
+) {
     bytes.truncate(2);
     let answer = bytes.push_slice_metered(alloc, b"xyz", meter);
     assert_eq!(rt;
@@ -103,7 +100,7 @@ fn cuts_and_shrinks<B: Backend>(
         (Appended::Done, 3, true)
     );
     has(rt, bytes, b"ACxyz");
-    bytes.shrink_to_metered(alloc, 8, meter)?;
+    must(rt, bytes.shrink_to_metered(alloc, 8, meter));
     assert_eq!(rt;
         (
             bytes.capacity() >= 8,
@@ -113,34 +110,25 @@ fn cuts_and_shrinks<B: Backend>(
         (true, true, 8)
     );
     has(rt, bytes, b"ACxyz");
-    Ok(())
 }
 
 /// `taken` bytes are copied where a vector is taken over, and `handed` where one of 5 bytes is handed out.
-fn is_written_in_place<B: Backend>(
-    rt: &impl Abort,
-    alloc: Global,
-    taken: u128,
-    handed: u128,
-) -> Result<(), Fail> {
-    let mut bytes = takes_over::<B>(rt, alloc, taken)?;
+fn is_written_in_place<B: Backend>(rt: &impl Abort, alloc: Global, taken: u128, handed: u128) {
+    let mut bytes = takes_over::<B>(rt, alloc, taken);
     writes_ends(rt, &mut bytes);
     changes_case(rt, &mut bytes);
     writes_lent(rt, &mut bytes);
-    cuts_and_shrinks(rt, alloc, &mut bytes, &mut Meter::new())?;
-    hands_out(rt, alloc, bytes, b"ACxyz", handed)
+    cuts_and_shrinks(rt, alloc, &mut bytes, &mut Meter::new());
+    hands_out(rt, alloc, bytes, b"ACxyz", handed);
 }
 
-fn takes_over<B: Backend>(
-    rt: &impl Abort,
-    alloc: Global,
-    taken: u128,
-) -> Result<Allocated<B>, Fail> {
+fn takes_over<B: Backend>(rt: &impl Abort, alloc: Global, taken: u128) -> Allocated<B> {
     let mut meter = Meter::new();
-    let bytes = Allocated::<B>::new_metered(alloc, roomy(alloc)?, &mut meter)?;
+    let vec = roomy(rt, alloc);
+    let bytes = must(rt, Allocated::<B>::new_metered(alloc, vec, &mut meter));
     has(rt, &bytes, STARS);
     assert_eq!(rt; (bytes.capacity() >= 200, meter.copied()), (true, taken));
-    Ok(bytes)
+    bytes
 }
 
 /// Asserts that the only range of an owner hands out its vector, which copies so many bytes.
@@ -150,20 +138,16 @@ fn hands_out<B: Backend>(
     bytes: Allocated<B>,
     items: &[u8],
     handed: u128,
-) -> Result<(), Fail> {
+) {
     let mut meter = Meter::new();
-    let vec = bytes
-        .try_into_vec_metered(alloc, &mut meter)
-        .ok()
-        .ok_or("it has one handle")?;
+    let vec = must(rt, bytes.try_into_vec_metered(alloc, &mut meter));
     assert_eq!(rt; (vec.as_slice(), meter.copied()), (items, handed));
-    Ok(())
 }
 
 #[test]
-fn a_sole_owner_is_written_in_place(rt: HostRuntime) -> Result<(), Fail> {
-    is_written_in_place::<Rc>(&rt, rt.alloc(), 0, 0)?;
-    is_written_in_place::<Unique>(&rt, rt.alloc(), 42, 5)
+fn a_sole_owner_is_written_in_place(rt: HostRuntime) {
+    is_written_in_place::<Rc>(&rt, rt.alloc(), 0, 0);
+    is_written_in_place::<Unique>(&rt, rt.alloc(), 42, 5);
 }
 
 /// Asserts that no byte is written, since another range shares the owner.
@@ -179,15 +163,14 @@ fn is_not_written<B: Backend>(rt: &impl Abort, alloc: Global, bytes: &mut Alloca
 }
 
 #[test]
-fn a_shared_owner_is_not_written(rt: HostRuntime) -> Result<(), Fail> {
-    let mut bytes = Allocated::<Rc>::from_slice(rt.alloc(), STARS)?;
+fn a_shared_owner_is_not_written(rt: HostRuntime) {
+    let mut bytes = must(&rt, Allocated::<Rc>::from_slice(rt.alloc(), STARS));
     {
-        let _other = bytes.slice_unchecked(rt.alloc(), 0..5)?;
+        let _other = must(&rt, bytes.slice_unchecked(rt.alloc(), 0..5));
         is_not_written(&rt, rt.alloc(), &mut bytes);
     }
     assert_eq!(rt; bytes.len(), 42);
     assert!(rt; bytes.set(0, 65));
-    Ok(())
 }
 
 /// Asserts that a range hands out no vector, and gives it back.
@@ -196,31 +179,26 @@ fn handed_back<B: Backend>(
     alloc: Global,
     bytes: Allocated<B>,
     items: &[u8],
-) -> Result<Allocated<B>, Fail> {
-    let Err(back) = bytes.try_into_vec(alloc) else {
-        return Err(Fail::from("it is handed back"));
-    };
+) -> Allocated<B> {
+    let back = must_refuse(rt, bytes.try_into_vec(alloc));
     has(rt, &back, items);
-    Ok(back)
+    back
 }
 
 /// A slice with a position is handed back, and so is a shared owner, until the slice is dropped.
 #[test]
-fn a_vector_comes_back(rt: HostRuntime) -> Result<(), Fail> {
+fn a_vector_comes_back(rt: HostRuntime) {
     let alloc = rt.alloc();
-    let whole = Allocated::<Rc>::new(alloc, vec![in alloc; 0, 1, 2]?)?;
-    let slice = whole.slice_unchecked(alloc, 1..2)?;
-    let slice = handed_back(&rt, alloc, slice, &[1])?;
-    let whole = handed_back(&rt, alloc, whole, &[0, 1, 2])?;
+    let vec = must(&rt, vec![in alloc; 0, 1, 2]);
+    let whole = must(&rt, Allocated::<Rc>::new(alloc, vec));
+    let slice = must(&rt, whole.slice_unchecked(alloc, 1..2));
+    let slice = handed_back(&rt, alloc, slice, &[1]);
+    let whole = handed_back(&rt, alloc, whole, &[0, 1, 2]);
     drop(slice);
-    is_whole(&rt, alloc, whole)
+    is_whole(&rt, alloc, whole);
 }
 
-fn is_whole<B: Backend>(rt: &impl Abort, alloc: Global, whole: Allocated<B>) -> Result<(), Fail> {
-    let vec = whole
-        .try_into_vec(alloc)
-        .ok()
-        .ok_or("the slice was dropped")?;
+fn is_whole<B: Backend>(rt: &impl Abort, alloc: Global, whole: Allocated<B>) {
+    let vec = must(rt, whole.try_into_vec(alloc));
     assert_eq!(rt; vec.as_slice(), [0, 1, 2].as_slice());
-    Ok(())
 }

@@ -1,7 +1,8 @@
 //! Counted copies, and vectors that are filled.
+use crate::support::must;
 use hip_raw::{Filling, Meter, copy_counted, copy_with_capacity, extend_counted, fill_counted};
 use std::alloc::Global;
-use std::test::Fail;
+use std::process::Abort;
 
 #[test]
 fn room_is_filled(rt: HostRuntime) {
@@ -12,36 +13,38 @@ fn room_is_filled(rt: HostRuntime) {
 }
 
 #[test]
-fn copies_are_counted(rt: HostRuntime) -> Result<(), Fail> {
+fn copies_are_counted(rt: HostRuntime) {
     let stars = [b'*'; 42];
     let mut meter = Meter::new();
     fill_counted(&mut [0; 3], b"abc", &mut meter);
-    let vec = copy_counted(rt.alloc(), &stars, &mut meter)?;
+    let vec = must(&rt, copy_counted(rt.alloc(), &stars, &mut meter));
     assert_eq!(rt; (vec.as_slice(), meter.copied()), (stars.as_slice(), 45));
-    let mut roomy = copy_with_capacity(rt.alloc(), b"abc", 30, &mut meter)?;
-    extend_counted(&mut roomy, b"de", &mut meter)?;
+    let mut roomy = must(&rt, copy_with_capacity(rt.alloc(), b"abc", 30, &mut meter));
+    must(&rt, extend_counted(&mut roomy, b"de", &mut meter));
     assert_eq!(rt;
         (roomy.as_slice(), roomy.capacity() >= 30, meter.copied()),
         (b"abcde".as_slice(), true, 50)
     );
-    Ok(())
 }
 
 /// Six bytes, in room for six.
-fn filled(alloc: Global, meter: &mut Meter) -> Result<Filling, Fail> {
-    let mut filling = Filling::with_capacity(alloc, 6)?;
+fn filled(rt: &impl Abort, alloc: Global, meter: &mut Meter) -> Filling {
+    let mut filling = must(rt, Filling::with_capacity(alloc, 6));
     filling.push_slice_within(b"abc", meter);
     filling.push_front_within(2, meter);
-    filling.push_behind(b"", b"!", meter)?;
-    Ok(filling)
+    must(rt, filling.push_behind(b"", b"!", meter));
+    filling
 }
 
 #[test]
-fn a_vector_is_filled(rt: HostRuntime) -> Result<(), Fail> {
+fn a_vector_is_filled(rt: HostRuntime) {
     let mut meter = Meter::new();
-    let mut filling = filled(rt.alloc(), &mut meter)?;
+    let mut filling = filled(&rt, rt.alloc(), &mut meter);
     assert_eq!(rt; (filling.len(), filling.capacity() >= 6), (6, true));
-    filling.push_behind(b", ", b"and more than six", &mut meter)?;
+    must(
+        &rt,
+        filling.push_behind(b", ", b"and more than six", &mut meter),
+    );
     let mut sum = Meter::new();
     sum.add(&meter);
     sum.add(&meter);
@@ -49,5 +52,4 @@ fn a_vector_is_filled(rt: HostRuntime) -> Result<(), Fail> {
         (filling.into_vec().as_slice(), sum.copied()),
         (b"abcab!, and more than six".as_slice(), 50)
     );
-    Ok(())
 }

@@ -1,7 +1,7 @@
 //! Bytes in the handle itself, and lent bytes.
+use crate::support::must;
 use hip_raw::{Borrowed, Inline, Meter};
 use std::process::Abort;
-use std::test::Fail;
 
 /// Asserts what the handle has, and how many bytes were copied so far.
 fn has(rt: &impl Abort, inline: &Inline<23>, items: &[u8], meter: &Meter, copied: u128) {
@@ -12,9 +12,9 @@ fn has(rt: &impl Abort, inline: &Inline<23>, items: &[u8], meter: &Meter, copied
 }
 
 #[test]
-fn inline_bytes(rt: HostRuntime) -> Result<(), Fail> {
+fn inline_bytes(rt: HostRuntime) {
     let mut meter = Meter::new();
-    let abc = Inline::<23>::new_metered(b"abc", &mut meter).ok_or("abc fits")?;
+    let abc = must(&rt, Inline::<23>::new_metered(b"abc", &mut meter).ok_or(()));
     has(&rt, &abc, b"abc", &meter, 3);
     let mut copy = abc.clone_metered(&mut meter);
     has(&rt, &copy, b"abc", &meter, 6);
@@ -22,13 +22,12 @@ fn inline_bytes(rt: HostRuntime) -> Result<(), Fail> {
     has(&rt, &copy, b"abcdef", &meter, 9);
     has(&rt, &abc, b"abc", &meter, 9);
     assert_eq!(rt; abc.capacity(), 23);
-    Ok(())
 }
 
 #[test]
-fn inline_writes(rt: HostRuntime) -> Result<(), Fail> {
+fn inline_writes(rt: HostRuntime) {
     let abcdef = Inline::<23>::new_unchecked(b"abcdef");
-    let mut copy = abcdef.clone()?;
+    let mut copy = must(&rt, abcdef.clone());
     copy.as_mut_slice()[0] = b'x';
     assert_eq!(rt; copy.as_slice(), b"xbcdef".as_slice());
     copy.truncate(2);
@@ -36,7 +35,6 @@ fn inline_writes(rt: HostRuntime) -> Result<(), Fail> {
         (copy.as_slice(), abcdef.as_slice()),
         (b"xb".as_slice(), b"abcdef".as_slice())
     );
-    Ok(())
 }
 
 #[test]

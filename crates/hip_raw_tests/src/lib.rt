@@ -20,3 +20,5 @@ mod copies;
 mod handles;
 #[cfg(test)]
 mod owners;
+#[cfg(test)]
+mod support;

@@ -1,0 +1,24 @@
+//! The ends of a test that a call brings about.
+ghost use Rattle.std.specs.Prelude.{◌≡◌, Ok, Err};
+
+use std::process::Abort;
+
+/// The value, or the end of the test where it was refused. A test with no way out but this is a straight line, and cheap to prove.
+pub(crate) fn must<T, E: Drop>(rt: &impl Abort, outcome: Result<T, E>) -> T
+    ensures { outcome ≡ Ok result }
+{
+    match outcome {
+        Ok(value) => value,
+        Err(_) => panic!(rt; "a call was refused"),
+    }
+}
+
+/// What a refused call answers, or the end of the test where it wasn't refused.
+pub(crate) fn must_refuse<T: Drop, E>(rt: &impl Abort, outcome: Result<T, E>) -> E
+    ensures { outcome ≡ Err result }
+{
+    match outcome {
+        Ok(_) => panic!(rt; "a call wasn't refused"),
+        Err(error) => error,
+    }
+}
