@@ -10,56 +10,72 @@ use std::hash::Hash;
 // What a text promises of its hash and its order is much to prove with, so a map is asked where nothing is known of its keys but that they
 // have them.
 
-/// The number under which a key stands in a hash map, where it is put if it isn't there.
-#[inline]
-fn number_by_hash<K: Hash + Eq + Drop>(numbers: &mut HashMap<K, u64>, key: K) -> Option<u64> {
-    if let Some(number) = numbers.get(&key) {
-        return Some(*number);
-    }
-    let next = numbers.len() as u64;
-    numbers.insert(key, next).ok()?;
-    Some(next)
+/// A map from words to their numbers, which are given out from zero.
+trait Numbers<K: Drop>: Drop {
+    /// The number under which a word stands in the map, where it is put if it isn't there.
+    fn number(&mut self, word: K) -> Option<u64>;
+
+    /// How many words there are.
+    fn count(&self) -> u64;
 }
 
-/// The same by an ordered map.
-#[inline]
-fn number_by_order<K: Ord + Drop>(numbers: &mut BTreeMap<K, u64>, key: K) -> Option<u64> {
-    if let Some(number) = numbers.get(&key) {
-        return Some(*number);
-    }
-    let next = numbers.len() as u64;
-    numbers.insert(key, next).ok()?;
-    Some(next)
+#[derive(Drop)]
+struct ByHash<K: Hash + Eq> {
+    numbers: HashMap<K, u64>,
 }
 
-/// Numbers the words of a walk by a hash map: the sum of all words' numbers, and how many different words there are.
-fn hashed<'h, 'b, B: Backend, I: Unnumbered + Drop>(
-    alloc: Global,
+impl<K: Hash + Eq + Drop> Numbers<K> for ByHash<K> {
+    #[inline]
+    fn number(&mut self, word: K) -> Option<u64> {
+        if let Some(number) = self.numbers.get(&word) {
+            return Some(*number);
+        }
+        let next = self.count();
+        self.numbers.insert(word, next).ok()?;
+        Some(next)
+    }
+
+    #[inline]
+    fn count(&self) -> u64 {
+        self.numbers.len() as u64
+    }
+}
+
+#[derive(Drop)]
+struct ByOrder<K: Ord> {
+    numbers: BTreeMap<K, u64>,
+}
+
+impl<K: Ord + Drop> Numbers<K> for ByOrder<K> {
+    #[inline]
+    fn number(&mut self, word: K) -> Option<u64> {
+        if let Some(number) = self.numbers.get(&word) {
+            return Some(*number);
+        }
+        let next = self.count();
+        self.numbers.insert(word, next).ok()?;
+        Some(next)
+    }
+
+    #[inline]
+    fn count(&self) -> u64 {
+        self.numbers.len() as u64
+    }
+}
+
+/// Numbers the words of a walk by a map that is empty: the sum of all words' numbers, and how many different words there are.
+#[inline]
+fn numbered<'h, 'b, B: Backend, I: Unnumbered + Drop, N: Numbers<HipStr<'b, B>>>(
     mut words: IterWrapper<'h, 'b, B, I>,
+    mut numbers: N,
 ) -> Option<(u64, u64)>
     requires { ⟦<Pieces<'h, HipStr<'b, B>, I> as Walk>⟧.ready words }
 {
-    let mut numbers = HashMap::new(alloc);
     let mut sum = 0u64;
     while let Some(word) = words.next() {
-        sum = sum.wrapping_add(number_by_hash(&mut numbers, word.ok()?)?);
+        sum = sum.wrapping_add(numbers.number(word.ok()?)?);
     }
-    Some((sum, numbers.len() as u64))
-}
-
-/// The same by an ordered map.
-fn sorted<'h, 'b, B: Backend, I: Unnumbered + Drop>(
-    alloc: Global,
-    mut words: IterWrapper<'h, 'b, B, I>,
-) -> Option<(u64, u64)>
-    requires { ⟦<Pieces<'h, HipStr<'b, B>, I> as Walk>⟧.ready words }
-{
-    let mut numbers = BTreeMap::new(alloc);
-    let mut sum = 0u64;
-    while let Some(word) = words.next() {
-        sum = sum.wrapping_add(number_by_order(&mut numbers, word.ok()?)?);
-    }
-    Some((sum, numbers.len() as u64))
+    Some((sum, numbers.count()))
 }
 
 /// Each round numbers the words by a hash map.
@@ -67,7 +83,10 @@ fn hashed_rounds(alloc: Global, input: &[u8], rounds: u64) -> Option<u64> {
     let text = owned::<Rc>(alloc, input)?;
     let mut total = 0;
     for _ in 0..rounds {
-        let (sum, len) = hashed(alloc, text.split(alloc, ' '))?;
+        let numbers = ByHash {
+            numbers: HashMap::new(alloc),
+        };
+        let (sum, len) = numbered(text.split(alloc, ' '), numbers)?;
         total = mix(mix(total, sum), len);
     }
     Some(total)
@@ -78,7 +97,10 @@ fn sorted_rounds(alloc: Global, input: &[u8], rounds: u64) -> Option<u64> {
     let text = owned::<Rc>(alloc, input)?;
     let mut total = 0;
     for _ in 0..rounds {
-        let (sum, len) = sorted(alloc, text.split(alloc, ' '))?;
+        let numbers = ByOrder {
+            numbers: BTreeMap::new(alloc),
+        };
+        let (sum, len) = numbered(text.split(alloc, ' '), numbers)?;
         total = mix(mix(total, sum), len);
     }
     Some(total)

@@ -12,8 +12,13 @@ const STARTS: usize = 1010;
 /// The positions of the first characters of a text.
 fn starts(alloc: Global, text: &str) -> Option<Vec<usize>> {
     let mut starts = Vec::with_capacity(alloc, STARTS).ok()?;
-    for (start, _) in text.char_indices().take(STARTS) {
-        starts.push(start).ok()?;
+    for start in 0..text.len() {
+        if starts.len() == STARTS {
+            break;
+        }
+        if text.is_char_boundary(start) {
+            starts.push(start).ok()?;
+        }
     }
     Some(starts)
 }
