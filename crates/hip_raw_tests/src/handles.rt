@@ -53,6 +53,16 @@ fn inline_limits(rt: HostRuntime) {
     assert_eq!(rt; two.as_slice(), b"abcd".as_slice());
 }
 
+/// Each number of bytes is put together by other moves.
+#[test]
+fn inline_of_each_length(rt: HostRuntime) {
+    let letters = b"abcdefghijklmnopqrstuvwxyzABCDEFGHIJKLMNOPQRSTUVWXYZ0123456789+/";
+    for len in 0..65 {
+        let inline = Inline::<64>::new_unchecked(&letters[..len]);
+        assert_eq!(rt; inline.as_slice(), &letters[..len]);
+    }
+}
+
 #[test]
 fn inline_zeros(rt: HostRuntime) {
     let five = Inline::<23>::zeroed(5);
