@@ -6,6 +6,7 @@
 //! - `allocated`: ranges of an owner's bytes.
 //! - `owners`: what an owner promises.
 //! - `blocks`: comparisons and ASCII case, which go by blocks of bytes.
+//! - `support`: the ends of a test that a call brings about.
 //!
 //! What costs the check and what saves it is told in `hip_bytes_tests`.
 #![tactic(auto)]
