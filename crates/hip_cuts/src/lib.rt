@@ -16,7 +16,7 @@
 //! ```
 //!
 //! A loop over `next` takes no memory; its invariant is that the walk stays `ready`, its measure the number of ranges that are left, and
-//! both are said in a proof file (`crates/hip_cuts_tests/src/fields.rt` has both loops, proved):
+//! both are said in a proof file (`crates/hip_text_tests/src/fields.rt` has both loops, proved):
 //!
 //! ```text
 //! let mut fields = line.split(alloc, ',');

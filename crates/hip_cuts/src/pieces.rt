@@ -116,6 +116,44 @@ impl<'h, S, I: Clone> Clone for Pieces<'h, S, I> {
     }
 }
 
+impl<'h, 'b, B: Backend, I: Ranges> Pieces<'h, HipStr<'b, B>, I> {
+    /// The first match that is left, as its position and its part.
+    #[inline(always)]
+    fn first_match(
+        &mut self,
+        meter: &mut Meter,
+    ) -> Option<(usize, Result<HipStr<'b, B>, AllocError>)>
+        requires { ⟦<Pieces<'h, HipStr<'b, B>, I> as Walk>⟧.ready self.old }
+        ensures first { FirstMatch (⟦<Pieces<'h, HipStr<'b, B>, I> as Walk>⟧.source self.old) (⟦<Pieces<'h, HipStr<'b, B>, I> as Walk>⟧.rest self.old) (⟦<Pieces<'h, HipStr<'b, B>, I> as Walk>⟧.rest self.new) result }
+        ensures counted { FirstCosts B.SHARES (⟦<Pieces<'h, HipStr<'b, B>, I> as Walk>⟧.source self.old) (⟦<Pieces<'h, HipStr<'b, B>, I> as Walk>⟧.rest self.old) (⟦<Pieces<'h, HipStr<'b, B>, I> as Walk>⟧.rest self.new) result meter.old meter.new }
+        ensures source { ⟦<Pieces<'h, HipStr<'b, B>, I> as Walk>⟧.source self.new ≡ ⟦<Pieces<'h, HipStr<'b, B>, I> as Walk>⟧.source self.old }
+        ensures ready { ⟦<Pieces<'h, HipStr<'b, B>, I> as Walk>⟧.ready self.new }
+    {
+        let (start, end) = self.ranges.next()?;
+        let first = self.source.part_metered(self.alloc, start, end, meter);
+        Some((start, first))
+    }
+}
+
+impl<'h, 'b, B: Backend, I: RangesBack> Pieces<'h, HipStr<'b, B>, I> {
+    /// The last match that is left, as its position and its part.
+    #[inline(always)]
+    fn last_match(
+        &mut self,
+        meter: &mut Meter,
+    ) -> Option<(usize, Result<HipStr<'b, B>, AllocError>)>
+        requires { ⟦<Pieces<'h, HipStr<'b, B>, I> as Walk>⟧.ready self.old }
+        ensures last { LastMatch (⟦<Pieces<'h, HipStr<'b, B>, I> as Walk>⟧.source self.old) (⟦<Pieces<'h, HipStr<'b, B>, I> as Walk>⟧.rest self.old) (⟦<Pieces<'h, HipStr<'b, B>, I> as Walk>⟧.rest self.new) result }
+        ensures counted { LastCosts B.SHARES (⟦<Pieces<'h, HipStr<'b, B>, I> as Walk>⟧.source self.old) (⟦<Pieces<'h, HipStr<'b, B>, I> as Walk>⟧.rest self.old) (⟦<Pieces<'h, HipStr<'b, B>, I> as Walk>⟧.rest self.new) result meter.old meter.new }
+        ensures source { ⟦<Pieces<'h, HipStr<'b, B>, I> as Walk>⟧.source self.new ≡ ⟦<Pieces<'h, HipStr<'b, B>, I> as Walk>⟧.source self.old }
+        ensures ready { ⟦<Pieces<'h, HipStr<'b, B>, I> as Walk>⟧.ready self.new }
+    {
+        let (start, end) = self.ranges.next_back()?;
+        let last = self.source.part_metered(self.alloc, start, end, meter);
+        Some((start, last))
+    }
+}
+
 impl<'h, 'b, B: Backend, I: Unnumbered> Pieces<'h, HipStr<'b, B>, I> {
     /// The first piece that is left. One that is refused for memory has been passed.
     #[inline(always)]
@@ -137,8 +175,8 @@ impl<'h, 'b, B: Backend, I: Unnumbered> Pieces<'h, HipStr<'b, B>, I> {
         ensures source { ⟦<Pieces<'h, HipStr<'b, B>, I> as Walk>⟧.source self.new ≡ ⟦<Pieces<'h, HipStr<'b, B>, I> as Walk>⟧.source self.old }
         ensures ready { ⟦<Pieces<'h, HipStr<'b, B>, I> as Walk>⟧.ready self.new }
     {
-        let (start, end) = self.ranges.next()?;
-        Some(self.source.part_metered(self.alloc, start, end, meter))
+        let (from, to) = self.ranges.next()?;
+        Some(self.source.part_metered(self.alloc, from, to, meter))
     }
 }
 
@@ -189,8 +227,8 @@ impl<'h, 'b, B: Backend, I: Unnumbered + RangesBack> Pieces<'h, HipStr<'b, B>, I
         ensures source { ⟦<Pieces<'h, HipStr<'b, B>, I> as Walk>⟧.source self.new ≡ ⟦<Pieces<'h, HipStr<'b, B>, I> as Walk>⟧.source self.old }
         ensures ready { ⟦<Pieces<'h, HipStr<'b, B>, I> as Walk>⟧.ready self.new }
     {
-        let (start, end) = self.ranges.next_back()?;
-        Some(self.source.part_metered(self.alloc, start, end, meter))
+        let (from, to) = self.ranges.next_back()?;
+        Some(self.source.part_metered(self.alloc, from, to, meter))
     }
 }
 
@@ -218,11 +256,7 @@ impl<'h, 'b, B: Backend, P: Pattern> Pieces<'h, HipStr<'b, B>, MatchIndices<'h, 
         ensures source { ⟦<Pieces<'h, HipStr<'b, B>, MatchIndices<'h, P>> as Walk>⟧.source self.new ≡ ⟦<Pieces<'h, HipStr<'b, B>, MatchIndices<'h, P>> as Walk>⟧.source self.old }
         ensures ready { ⟦<Pieces<'h, HipStr<'b, B>, MatchIndices<'h, P>> as Walk>⟧.ready self.new }
     {
-        let (start, end) = self.ranges.next()?;
-        Some((
-            start,
-            self.source.part_metered(self.alloc, start, end, meter),
-        ))
+        self.first_match(meter)
     }
 }
 
@@ -250,11 +284,7 @@ impl<'h, 'b, B: Backend, P: OneChar> Pieces<'h, HipStr<'b, B>, MatchIndices<'h, 
         ensures source { ⟦<Pieces<'h, HipStr<'b, B>, MatchIndices<'h, P>> as Walk>⟧.source self.new ≡ ⟦<Pieces<'h, HipStr<'b, B>, MatchIndices<'h, P>> as Walk>⟧.source self.old }
         ensures ready { ⟦<Pieces<'h, HipStr<'b, B>, MatchIndices<'h, P>> as Walk>⟧.ready self.new }
     {
-        let (start, end) = self.ranges.next_back()?;
-        Some((
-            start,
-            self.source.part_metered(self.alloc, start, end, meter),
-        ))
+        self.last_match(meter)
     }
 }
 
@@ -282,11 +312,7 @@ impl<'h, 'b, B: Backend, P: ReversePattern> Pieces<'h, HipStr<'b, B>, RMatchIndi
         ensures source { ⟦<Pieces<'h, HipStr<'b, B>, RMatchIndices<'h, P>> as Walk>⟧.source self.new ≡ ⟦<Pieces<'h, HipStr<'b, B>, RMatchIndices<'h, P>> as Walk>⟧.source self.old }
         ensures ready { ⟦<Pieces<'h, HipStr<'b, B>, RMatchIndices<'h, P>> as Walk>⟧.ready self.new }
     {
-        let (start, end) = self.ranges.next()?;
-        Some((
-            start,
-            self.source.part_metered(self.alloc, start, end, meter),
-        ))
+        self.first_match(meter)
     }
 }
 
@@ -314,10 +340,6 @@ impl<'h, 'b, B: Backend, P: OneChar> Pieces<'h, HipStr<'b, B>, RMatchIndices<'h,
         ensures source { ⟦<Pieces<'h, HipStr<'b, B>, RMatchIndices<'h, P>> as Walk>⟧.source self.new ≡ ⟦<Pieces<'h, HipStr<'b, B>, RMatchIndices<'h, P>> as Walk>⟧.source self.old }
         ensures ready { ⟦<Pieces<'h, HipStr<'b, B>, RMatchIndices<'h, P>> as Walk>⟧.ready self.new }
     {
-        let (start, end) = self.ranges.next_back()?;
-        Some((
-            start,
-            self.source.part_metered(self.alloc, start, end, meter),
-        ))
+        self.last_match(meter)
     }
 }

@@ -1,6 +1,7 @@
 //! Conversions between types, rooms, orders of OS strings and of paths, and components by themselves.
-use crate::name::{Name, OsStr, compared, must, must_refuse, text_of};
-use hip_names::{Backend, Component, HipByt, HipOsStr, HipPath, Rc, Unique, components_eq};
+use crate::name::{Name, OsStr, compared, text_of};
+use crate::support::{must, must_refuse};
+use hip_names::{Backend, Component, HipPath, Rc, Unique, components_eq};
 use std::alloc::Global;
 use std::borrow::{CowSlice, CowStr};
 use std::cmp::Ordering;
@@ -35,6 +36,15 @@ fn into_cows<N: Name>(rt: &impl Abort, alloc: Global) {
     }
 }
 
+/// To a byte string, to the other type, and back.
+fn there_and_back<N: Name>(rt: &impl Abort, alloc: Global) {
+    let name = must(rt, N::from_str(alloc, LETTERS)).there_and_back();
+    assert_eq!(rt;
+        (name.bytes(), name.as_os_str()),
+        (LETTERS.as_bytes(), LETTERS.as_bytes())
+    );
+}
+
 /// What is lent may be let go once the name is its own.
 fn owns<N: Name>(rt: &impl Abort, alloc: Global) {
     let stars = must(rt, String::from_str(alloc, "******"));
@@ -56,13 +66,70 @@ fn shrinks_to_fit<N: Name>(rt: &impl Abort, alloc: Global) {
     assert_eq!(rt; name.capacity(), 23);
 }
 
+/// Two texts, and how they are ordered, by their bytes and as paths.
+type Ordered = (&'static str, &'static str, Ordering, Ordering);
+
+const ORDERED: &[Ordered] = &[
+    ("abc", "abd", Ordering::Less, Ordering::Less),
+    ("abc", "abc", Ordering::Equal, Ordering::Equal),
+    ("ab", "abc", Ordering::Less, Ordering::Less),
+    ("a//", "a/", Ordering::Greater, Ordering::Equal),
+    ("./a", "a", Ordering::Less, Ordering::Less),
+    ("a/./b", "a/b", Ordering::Less, Ordering::Equal),
+    ("/./a", "/a", Ordering::Less, Ordering::Equal),
+    (".", "", Ordering::Greater, Ordering::Greater),
+    ("/a//b/", "/a/b/c", Ordering::Less, Ordering::Less),
+    ("a/b", "a!/b", Ordering::Greater, Ordering::Less),
+];
+
+fn ordered_rows() -> &'static [Ordered] {
+    ORDERED
+}
+
+fn orders_bytes<N: OsStr>(rt: &impl Abort) {
+    for (left, right, order, _) in ordered_rows() {
+        let name = N::from_static(left);
+        assert_eq!(rt; name.os_str_cmp(right.as_bytes()), *order);
+    }
+}
+
+/// Asserts how a copied name and a lent one are ordered.
+fn orders<N: Name>(rt: &impl Abort, alloc: Global) {
+    for (left, right, by_bytes, by_components) in ordered_rows() {
+        let copied = must(rt, N::from_str(alloc, left));
+        let order = if N::IS_PATH { by_components } else { by_bytes };
+        let answers = compared(&copied, &N::from_static(right));
+        assert_eq!(rt; answers, (*order, order.reverse(), order.is_eq()));
+    }
+}
+
+/// Asserts how a name and bytes are ordered, whatever it is, and whether they are equal.
+fn orders_by_name<N: Name>(rt: &impl Abort, alloc: Global) {
+    for (left, right, by_bytes, by_components) in ordered_rows() {
+        let name = must(rt, N::from_str(alloc, left));
+        let bytes = right.as_bytes();
+        let equal = (name.os_str_eq(bytes), name.path_eq(bytes));
+        assert_eq!(rt;
+            (name.path_cmp(bytes), equal),
+            (*by_components, (by_bytes.is_eq(), by_components.is_eq()))
+        );
+        assert_eq!(rt;
+            components_eq(left.as_bytes(), bytes),
+            by_components.is_eq()
+        );
+    }
+}
+
 /// These, of an OS string or of a path.
 pub(crate) fn of_either<N: Name>(rt: &impl Abort, alloc: Global) {
     from_texts::<N>(rt, alloc);
     into_cows::<N>(rt, alloc);
+    there_and_back::<N>(rt, alloc);
     owns::<N>(rt, alloc);
     no_room::<N>(rt, alloc);
     shrinks_to_fit::<N>(rt, alloc);
+    orders::<N>(rt, alloc);
+    orders_by_name::<N>(rt, alloc);
 }
 
 fn rooms<N: OsStr>(rt: &impl Abort, alloc: Global) {
@@ -83,60 +150,11 @@ fn shrinks<N: OsStr>(rt: &impl Abort, alloc: Global) {
     is(rt, name, "a");
 }
 
-/// Two texts, and how they are ordered, by their bytes and as paths.
-const ORDERED: &[(&str, &str, Ordering, Ordering)] = &[
-    ("abc", "abd", Ordering::Less, Ordering::Less),
-    ("abc", "abc", Ordering::Equal, Ordering::Equal),
-    ("ab", "abc", Ordering::Less, Ordering::Less),
-    ("a//", "a/", Ordering::Greater, Ordering::Equal),
-    ("./a", "a", Ordering::Less, Ordering::Less),
-    ("/a//b/", "/a/b/c", Ordering::Less, Ordering::Less),
-    ("a/b", "a!/b", Ordering::Greater, Ordering::Less),
-];
-
-fn orders_bytes<N: OsStr>(rt: &impl Abort) {
-    for (left, right, order, _) in ORDERED {
-        let name = N::from_static(left);
-        assert_eq!(rt; name.os_str_cmp(right.as_bytes()), *order);
-    }
-}
-
-fn of_os_strings<N: OsStr>(rt: &impl Abort, alloc: Global) {
+/// And these, of an OS string.
+pub(crate) fn of_os_strings<N: OsStr>(rt: &impl Abort, alloc: Global) {
     rooms::<N>(rt, alloc);
     shrinks::<N>(rt, alloc);
     orders_bytes::<N>(rt);
-}
-
-fn orders_names<B: Backend>(rt: &impl Abort) {
-    for (left, right, order, _) in ORDERED {
-        let answers = compared(&HipOsStr::<B>::borrowed(left), &HipOsStr::borrowed(right));
-        assert_eq!(rt; answers, (*order, order.reverse(), order.is_eq()));
-    }
-}
-
-/// A copied path and one that is lent.
-fn orders_paths<B: Backend>(rt: &impl Abort, alloc: Global) {
-    for (left, right, _, order) in ORDERED {
-        let copied = must(rt, HipPath::<B>::from_str(alloc, left));
-        let answers = compared(&copied, &HipPath::borrowed(right));
-        let equal = components_eq(left.as_bytes(), right.as_bytes());
-        assert_eq!(rt;
-            (answers, equal),
-            ((*order, order.reverse(), order.is_eq()), order.is_eq())
-        );
-    }
-}
-
-/// From bytes to an OS string, to a path, and back.
-fn there_and_back<B: Backend>(rt: &impl Abort, alloc: Global) {
-    let bytes = must(rt, HipByt::<B>::from_slice(alloc, LETTERS.as_bytes()));
-    let path = HipPath::from(HipOsStr::from(bytes));
-    assert_eq!(rt;
-        (path.as_path(), path.as_os_str()),
-        (LETTERS.as_bytes(), LETTERS.as_bytes())
-    );
-    let bytes = HipByt::from(HipOsStr::from(path));
-    assert_eq!(rt; bytes.as_slice(), LETTERS.as_bytes());
 }
 
 /// A long path gives its vector as an OS string does, and a lent one is handed back.
@@ -146,14 +164,6 @@ fn into_os_strings<B: Backend>(rt: &impl Abort, alloc: Global) {
     assert_eq!(rt; vec.as_slice(), LETTERS.as_bytes());
     let back = must_refuse(rt, HipPath::<B>::borrowed("abc").into_os_string(alloc));
     assert_eq!(rt; back.into_os_str().as_os_str(), b"abc".as_slice());
-}
-
-fn on<B: Backend>(rt: &impl Abort, alloc: Global) {
-    of_os_strings::<HipOsStr<'static, B>>(rt, alloc);
-    there_and_back::<B>(rt, alloc);
-    into_os_strings::<B>(rt, alloc);
-    orders_names::<B>(rt);
-    orders_paths::<B>(rt, alloc);
 }
 
 /// Asserts that keys are ordered as they are listed.
@@ -185,10 +195,10 @@ fn components(rt: HostRuntime) {
 
 #[test]
 fn on_rc(rt: HostRuntime) {
-    on::<Rc>(&rt, rt.alloc());
+    into_os_strings::<Rc>(&rt, rt.alloc());
 }
 
 #[test]
 fn on_unique(rt: HostRuntime) {
-    on::<Unique>(&rt, rt.alloc());
+    into_os_strings::<Unique>(&rt, rt.alloc());
 }

@@ -1,6 +1,6 @@
 //! OS strings that are UTF-8, that aren't, and their repair.
-use crate::name::{Name, OsStr, must};
-use hip_names::{Backend, HipOsStr, HipPath, Rc, Unique};
+use crate::name::{Name, OsStr};
+use crate::support::must;
 use std::alloc::Global;
 use std::process::Abort;
 
@@ -45,31 +45,17 @@ fn debugs<N: Name>(rt: &impl Abort, alloc: Global) {
     assert_eq!(rt; said.as_str(), "\"a\\\"\\n\\xffb\"");
 }
 
-fn os_strings<N: OsStr>(rt: &impl Abort, alloc: Global) {
+/// These, of an OS string or of a path.
+pub(crate) fn of_either<N: Name>(rt: &impl Abort) {
+    for row in DECODED {
+        becomes_text::<N>(rt, *row);
+    }
+}
+
+/// And these, of an OS string.
+pub(crate) fn of_os_strings<N: OsStr>(rt: &impl Abort, alloc: Global) {
     for row in DECODED {
         is_decoded::<N>(rt, alloc, *row);
-        becomes_text::<N>(rt, *row);
     }
     debugs::<N>(rt, alloc);
-}
-
-fn paths<N: Name>(rt: &impl Abort) {
-    for row in DECODED {
-        becomes_text::<N>(rt, *row);
-    }
-}
-
-fn on<B: Backend>(rt: &impl Abort, alloc: Global) {
-    os_strings::<HipOsStr<'static, B>>(rt, alloc);
-    paths::<HipPath<'static, B>>(rt);
-}
-
-#[test]
-fn on_rc(rt: HostRuntime) {
-    on::<Rc>(&rt, rt.alloc());
-}
-
-#[test]
-fn on_unique(rt: HostRuntime) {
-    on::<Unique>(&rt, rt.alloc());
 }

@@ -1,5 +1,6 @@
 //! Paths that are hard to read, with the answers of Rust's `std::path`.
-use crate::name::{compared, must};
+use crate::name::{Name, compared};
+use crate::support::must;
 use hip_names::{Backend, Component, Components, HipByt, HipOsStr, HipPath, Rc, Unique, path_cmp};
 use std::alloc::{AllocError, Global};
 use std::cmp::Ordering;
@@ -164,24 +165,27 @@ fn is_taken_apart<B: Backend>(rt: &impl Abort, alloc: Global, row: Hostile) {
     is(rt, must(rt, written(alloc, path.components())), components);
 }
 
-fn is_ordered<B: Backend>(rt: &impl Abort, row: Hostile, next: Hostile) {
-    let (order, turned, are_equal) = compared(&path_of::<B>(row.0), &path_of::<B>(next.0));
+/// Asserts how the path of a row and that of the one below are ordered.
+fn is_ordered<N: Name>(rt: &impl Abort, row: Hostile, next: Hostile) {
+    let (order, turned, are_equal) = compared(&N::from_bytes(row.0), &N::from_bytes(next.0));
     let wanted = row.2;
     assert_eq!(rt;
-        (order, path_cmp(row.0, next.0), turned, are_equal),
-        (wanted, wanted, wanted.reverse(), wanted.is_eq()),
-        "{:?} {:?}",
-        row.0,
-        next.0
+        (row.0, order, path_cmp(row.0, next.0), turned, are_equal),
+        (row.0, wanted, wanted, wanted.reverse(), wanted.is_eq())
     );
 }
 
-/// Asserts this of each row, of which the last is put to the first of those behind them.
-fn are_read<B: Backend>(rt: &impl Abort, alloc: Global, rows: &[Hostile], behind: &[Hostile]) {
+fn are_taken_apart<B: Backend>(rt: &impl Abort, alloc: Global, rows: &[Hostile]) {
+    for row in rows {
+        is_taken_apart::<B>(rt, alloc, *row);
+    }
+}
+
+/// Asserts the order of each row, of which the last is put to the first of those behind them.
+fn are_ordered<N: Name>(rt: &impl Abort, rows: &[Hostile], behind: &[Hostile]) {
     for (i, row) in rows.iter().enumerate() {
         let next = rows.get(i + 1).or(behind.first()).unwrap_or(row);
-        is_taken_apart::<B>(rt, alloc, *row);
-        is_ordered::<B>(rt, *row, *next);
+        is_ordered::<N>(rt, *row, *next);
     }
 }
 
@@ -204,11 +208,19 @@ fn fourth() -> &'static [Hostile] {
     FOURTH
 }
 
+/// Asserts how paths are ordered.
+pub(crate) fn of_paths<N: Name>(rt: &impl Abort) {
+    are_ordered::<N>(rt, first(), second());
+    are_ordered::<N>(rt, second(), third());
+    are_ordered::<N>(rt, third(), fourth());
+    are_ordered::<N>(rt, fourth(), first());
+}
+
 fn on<B: Backend>(rt: &impl Abort, alloc: Global) {
-    are_read::<B>(rt, alloc, first(), second());
-    are_read::<B>(rt, alloc, second(), third());
-    are_read::<B>(rt, alloc, third(), fourth());
-    are_read::<B>(rt, alloc, fourth(), first());
+    are_taken_apart::<B>(rt, alloc, first());
+    are_taken_apart::<B>(rt, alloc, second());
+    are_taken_apart::<B>(rt, alloc, third());
+    are_taken_apart::<B>(rt, alloc, fourth());
 }
 
 #[test]

@@ -1,13 +1,24 @@
-//! Tests of OS strings and paths, from outside of hip_names: what no clause says, as that calls succeed where there is memory, exact texts,
-//! and values that come from elsewhere. On either backend.
+//! Tests of OS strings and paths, and of the Borsh and JSON of all four types, from outside of hip_names: what no clause says, as that calls
+//! succeed where there is memory, exact bytes and texts, bad input of each kind, and values that come from elsewhere. On either backend.
 //!
-//! - `names`: what hipstr's own tests ask of either type; `name` is what the two have in common, and what an OS string alone has.
+//! - `name`: what the tests ask of an OS string and of a path alike, and of an OS string alone.
+//! - `names`: what hipstr's own tests ask of either type.
 //! - `calls`: conversions between types, rooms, orders, and components by themselves.
 //! - `hostile`: paths that are hard to read, with the answers of Rust's `std::path`.
 //! - `maps`: keys of maps and sets.
 //! - `decoding`: OS strings that are UTF-8, that aren't, and their repair.
+//!
+//! Of forms and values:
+//!
+//! - `support`: what the tests ask of all four types.
+//! - `trickle`: a source and a sink of a user's own, which move few bytes a call and fail at one call.
+//! - `borsh`: forms that are written and read, cut short, or that lie about their length.
+//! - `streams`: sources and sinks that are slow, that fail, or that take nothing.
+//! - `json`: values that are made, read and refused.
 #![tactic(auto)]
 
+#[cfg(test)]
+mod borsh;
 #[cfg(test)]
 mod calls;
 #[cfg(test)]
@@ -15,8 +26,16 @@ mod decoding;
 #[cfg(test)]
 mod hostile;
 #[cfg(test)]
+mod json;
+#[cfg(test)]
 mod maps;
 #[cfg(test)]
 mod name;
 #[cfg(test)]
 mod names;
+#[cfg(test)]
+mod streams;
+#[cfg(test)]
+mod support;
+#[cfg(test)]
+mod trickle;

@@ -1,9 +1,6 @@
 //! Keys of maps and sets: paths by their components, OS strings by their bytes.
-//!
-//! What these keys promise of their hash and their order is much, and each function that calls a map of them costs half a minute of
-//! proof. So functions that are generic in the key, and know nothing of it but its bounds, ask the maps.
-use crate::name::must;
-use hip_names::{Backend, HipOsStr, HipPath, Rc, Unique};
+use crate::name::Name;
+use crate::support::must;
 use std::alloc::{AllocError, Global};
 use std::collections::{BTreeMap, HashMap, HashSet};
 use std::hash::Hash;
@@ -73,43 +70,17 @@ const SOUGHT: &[(&str, &str, bool, bool)] = &[
     ("a", "c", false, false),
 ];
 
-fn path_of<B: Backend>(rt: &impl Abort, alloc: Global, text: &str) -> HipPath<'static, B> {
-    must(rt, HipPath::from_str(alloc, text))
+fn copied<N: Name>(rt: &impl Abort, alloc: Global, text: &str) -> N {
+    must(rt, N::from_str(alloc, text))
 }
 
-fn paths<B: Backend>(rt: &impl Abort, alloc: Global) {
-    for (key, path, is_found, _) in SOUGHT {
-        let keys = (HipPath::borrowed(key), path_of(rt, alloc, key));
-        let pair = (path_of(rt, alloc, key), path_of(rt, alloc, "b"));
-        let sought = HipPath::<B>::borrowed(path);
-        is_told(rt, alloc, keys, pair, &sought, *is_found);
+/// Asserts which keys are found.
+pub(crate) fn of_either<N: Name>(rt: &impl Abort, alloc: Global) {
+    for (key, name, as_path, as_bytes) in SOUGHT {
+        let keys = (N::from_static(key), copied::<N>(rt, alloc, key));
+        let pair = (copied::<N>(rt, alloc, key), copied::<N>(rt, alloc, "b"));
+        let sought = N::from_static(name);
+        let is_found = if N::IS_PATH { *as_path } else { *as_bytes };
+        is_told(rt, alloc, keys, pair, &sought, is_found);
     }
-}
-
-fn name_of<B: Backend>(rt: &impl Abort, alloc: Global, text: &str) -> HipOsStr<'static, B> {
-    must(rt, HipOsStr::from_str(alloc, text))
-}
-
-fn os_strings<B: Backend>(rt: &impl Abort, alloc: Global) {
-    for (key, name, _, is_found) in SOUGHT {
-        let keys = (HipOsStr::borrowed(key), name_of(rt, alloc, key));
-        let pair = (name_of(rt, alloc, key), name_of(rt, alloc, "b"));
-        let sought = HipOsStr::<B>::borrowed(name);
-        is_told(rt, alloc, keys, pair, &sought, *is_found);
-    }
-}
-
-fn on<B: Backend>(rt: &impl Abort, alloc: Global) {
-    paths::<B>(rt, alloc);
-    os_strings::<B>(rt, alloc);
-}
-
-#[test]
-fn on_rc(rt: HostRuntime) {
-    on::<Rc>(&rt, rt.alloc());
-}
-
-#[test]
-fn on_unique(rt: HostRuntime) {
-    on::<Unique>(&rt, rt.alloc());
 }

@@ -5,9 +5,12 @@ use std::alloc::{AllocError, Global};
 use std::borrow::{CowSlice, CowStr};
 use std::cmp::Ordering;
 use std::fmt;
-use std::process::Abort;
+use std::hash::Hash;
 
-pub trait Name: Drop {
+pub trait Name: Hash + Ord + Drop {
+    /// Whether it is compared by components, and not by bytes.
+    const IS_PATH: bool;
+
     fn new() -> Self;
 
     fn from_static(text: &'static str) -> Self;
@@ -22,6 +25,8 @@ pub trait Name: Drop {
 
     /// By `as_os_str` or `as_path`.
     fn bytes(&self) -> &[u8];
+
+    fn as_os_str(&self) -> &[u8];
 
     /// What `is_inline`, `is_borrowed` and `is_allocated` say.
     fn kind(&self) -> Kind;
@@ -63,6 +68,9 @@ pub trait Name: Drop {
     /// Two names: of a clone of the text that a `Cow` makes, and of the text itself.
     fn from_texts(alloc: Global, cow: CowStr<'static>) -> Result<(Self, Self), AllocError>;
 
+    /// By way of a byte string and of the other type.
+    fn there_and_back(self) -> Self;
+
     /// Of a byte string that is lent.
     fn from_bytes(bytes: &'static [u8]) -> Self;
 
@@ -98,26 +106,9 @@ pub trait OsStr: Name {
     fn to_str_lossy(&self, alloc: Global) -> Result<(String, bool), AllocError>;
 }
 
-/// How two keys stand to each other, each way round, and whether they are equal. What names promise of their order is much, so it is asked
-/// where nothing is known of the keys but that they have one.
+/// How two keys stand to each other, each way round, and whether they are equal.
 pub(crate) fn compared<K: Ord>(left: &K, right: &K) -> (Ordering, Ordering, bool) {
     (left.cmp(right), right.cmp(left), left == right)
-}
-
-/// The value, or the end of the test where it was refused. A test with no way out but this is a straight line, and cheap to prove.
-pub(crate) fn must<T, E: Drop>(rt: &impl Abort, outcome: Result<T, E>) -> T {
-    match outcome {
-        Ok(value) => value,
-        Err(_) => panic!(rt; "a call was refused"),
-    }
-}
-
-/// What a refused call answers, or the end of the test where it wasn't refused.
-pub(crate) fn must_refuse<T: Drop, E>(rt: &impl Abort, outcome: Result<T, E>) -> E {
-    match outcome {
-        Ok(_) => panic!(rt; "a call wasn't refused"),
-        Err(error) => error,
-    }
 }
 
 /// A value as `Debug` shows it.
@@ -134,6 +125,8 @@ fn kind_of(inline: bool, borrowed: bool, allocated: bool) -> Kind {
 }
 
 impl<B: Backend> Name for HipOsStr<'static, B> {
+    const IS_PATH: bool = false;
+
     fn new() -> Self {
         HipOsStr::new()
     }
@@ -159,6 +152,10 @@ impl<B: Backend> Name for HipOsStr<'static, B> {
     }
 
     fn bytes(&self) -> &[u8] {
+        self.as_os_str()
+    }
+
+    fn as_os_str(&self) -> &[u8] {
         self.as_os_str()
     }
 
@@ -231,6 +228,10 @@ impl<B: Backend> Name for HipOsStr<'static, B> {
         Ok((HipOsStr::from(text.clone(alloc)?), HipOsStr::from(text)))
     }
 
+    fn there_and_back(self) -> Self {
+        HipOsStr::from(HipByt::from(HipOsStr::from(HipPath::from(self))))
+    }
+
     fn from_bytes(bytes: &'static [u8]) -> Self {
         HipOsStr::from(HipByt::borrowed(bytes))
     }
@@ -259,6 +260,8 @@ impl<B: Backend> Name for HipOsStr<'static, B> {
 }
 
 impl<B: Backend> Name for HipPath<'static, B> {
+    const IS_PATH: bool = true;
+
     fn new() -> Self {
         HipPath::new()
     }
@@ -285,6 +288,10 @@ impl<B: Backend> Name for HipPath<'static, B> {
 
     fn bytes(&self) -> &[u8] {
         self.as_path()
+    }
+
+    fn as_os_str(&self) -> &[u8] {
+        self.as_os_str()
     }
 
     fn kind(&self) -> Kind {
@@ -354,6 +361,10 @@ impl<B: Backend> Name for HipPath<'static, B> {
     fn from_texts(alloc: Global, cow: CowStr<'static>) -> Result<(Self, Self), AllocError> {
         let text = HipStr::from_cow(alloc, cow).or(Err(AllocError))?;
         Ok((HipPath::from(text.clone(alloc)?), HipPath::from(text)))
+    }
+
+    fn there_and_back(self) -> Self {
+        HipPath::from(HipOsStr::from(HipByt::from(HipOsStr::from(self))))
     }
 
     fn from_bytes(bytes: &'static [u8]) -> Self {

@@ -1,9 +1,9 @@
 //! What hipstr's own tests ask of OS strings and of paths, each by its own calls.
-use crate::calls;
-use crate::name::{Name, must, must_refuse};
+use crate::name::{Name, OsStr};
+use crate::support::{must, must_refuse};
+use crate::{calls, decoding, hostile, maps};
 use hip_names::{Backend, HipOsStr, HipPath, Kind, Rc, Unique};
 use std::alloc::Global;
-use std::cmp::Ordering;
 use std::process::Abort;
 
 const LETTERS: &str = "abcdefghijklmnopqrstuvwxyz";
@@ -155,34 +155,6 @@ fn shrinks_lent<N: Name>(rt: &impl Abort, alloc: Global) {
     assert_eq!(rt; (room, name.capacity()), (3, 3));
 }
 
-/// Two names, and how they are ordered as paths.
-const ORDERED: &[(&str, &str, Ordering)] = &[
-    ("abc", "abd", Ordering::Less),
-    ("abc", "abc", Ordering::Equal),
-    ("ab", "abc", Ordering::Less),
-    ("a//", "a/", Ordering::Equal),
-    ("/a//b/", "/a/b/c", Ordering::Less),
-    ("./a", "a", Ordering::Less),
-    ("a/./b", "a/b", Ordering::Equal),
-    ("/./a", "/a", Ordering::Equal),
-    (".", "", Ordering::Greater),
-];
-
-fn orders<N: Name>(rt: &impl Abort, alloc: Global) {
-    for (left, right, order) in ORDERED {
-        let name = must(rt, N::from_str(alloc, left));
-        let bytes = right.as_bytes();
-        assert_eq!(rt;
-            (
-                name.path_cmp(bytes),
-                name.path_eq(bytes),
-                name.os_str_eq(bytes)
-            ),
-            (*order, order.is_eq(), left == right)
-        );
-    }
-}
-
 /// A long name is equal to its bytes, as bytes and as a path.
 fn equalities<N: Name>(rt: &impl Abort, alloc: Global) {
     let (long, bytes) = (taken::<N>(rt, alloc, LONG), LONG.as_bytes());
@@ -239,7 +211,6 @@ fn on_makers<N: Name>(rt: &impl Abort, alloc: Global) {
     makers::<N>(rt, alloc);
     lengths::<N>(rt, alloc);
     owns::<N>(rt, alloc);
-    orders::<N>(rt, alloc);
     equalities::<N>(rt, alloc);
 }
 
@@ -264,17 +235,30 @@ fn on<N: Name>(rt: &impl Abort, alloc: Global) {
     on_conversions::<N>(rt, alloc);
     on_changes::<N>(rt, alloc);
     calls::of_either::<N>(rt, alloc);
+    decoding::of_either::<N>(rt);
+    maps::of_either::<N>(rt, alloc);
+}
+
+fn on_os_strings<N: OsStr>(rt: &impl Abort, alloc: Global) {
+    on::<N>(rt, alloc);
+    calls::of_os_strings::<N>(rt, alloc);
+    decoding::of_os_strings::<N>(rt, alloc);
+}
+
+fn on_paths<N: Name>(rt: &impl Abort, alloc: Global) {
+    on::<N>(rt, alloc);
+    hostile::of_paths::<N>(rt);
 }
 
 // The proof that a name is what the tests ask of it costs many seconds in each function that needs it, so one function does for both
 // backends.
 
 fn os_strings<B: Backend>(rt: &impl Abort, alloc: Global) {
-    on::<HipOsStr<'static, B>>(rt, alloc);
+    on_os_strings::<HipOsStr<'static, B>>(rt, alloc);
 }
 
 fn paths<B: Backend>(rt: &impl Abort, alloc: Global) {
-    on::<HipPath<'static, B>>(rt, alloc);
+    on_paths::<HipPath<'static, B>>(rt, alloc);
 }
 
 #[test]

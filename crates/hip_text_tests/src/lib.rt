@@ -1,26 +1,61 @@
-//! Tests of texts, from outside of hip_text: what no clause says, as that calls succeed where there is memory, exact texts, and values
-//! that come from elsewhere. On either backend.
+//! Tests of texts, whole and taken apart, from outside of hip_text and hip_cuts: what no clause says, as that calls succeed where there is
+//! memory, exact texts, and values that come from elsewhere, as the answers of Rust's own `str`. On either backend.
 //!
-//! - `text`: what they ask of texts and of bytes.
+//! A test is proved safe before it runs, and each call and branch in it costs the prover time. So calls are rows of tables, which one
+//! loop runs, and helpers answer whether what they saw is what is wanted, which a test asserts once.
+//!
+//! Of whole texts:
+//!
+//! - `text`: what the tests ask of texts and of bytes.
 //! - `groups`: the files below, run on a backend.
 //! - `makers`: makers, conversions, pushes, `pop`, case, comparisons and guards.
 //! - `carried`: what hipstr's own tests ask, and the worked rows.
 //! - `decoding`: bytes that are UTF-8, that aren't, and their repair.
 //! - `made`: joins and repetitions, and texts of units of UTF-16.
 //! - `errors`: ranges that are refused, and bytes that aren't a text.
+//!
+//! Of texts that are taken apart:
+//!
+//! - `fields`: a reader of fields as user code would write it, which is no test.
+//! - `walks`: the walks by name, and whether one gives what is wanted.
+//! - `pieces`: pieces by texts and by characters, from the front and from both ends.
+//! - `places`: matches with their positions.
+//! - `white_space`: lines, and runs between white space.
+//! - `cuts`: trims, strips and cuts at one match.
+//! - `kinds`: kinds of pieces, and how many bytes are copied for them.
+//! - `closures`: patterns that are closures.
+//! - `clones`: clones of walks that have given their first piece.
 #![tactic(auto)]
 
 #[cfg(test)]
 mod carried;
 #[cfg(test)]
+mod clones;
+#[cfg(test)]
+mod closures;
+#[cfg(test)]
+mod cuts;
+#[cfg(test)]
 mod decoding;
 #[cfg(test)]
 mod errors;
 #[cfg(test)]
+mod fields;
+#[cfg(test)]
 mod groups;
+#[cfg(test)]
+mod kinds;
 #[cfg(test)]
 mod made;
 #[cfg(test)]
 mod makers;
 #[cfg(test)]
+mod pieces;
+#[cfg(test)]
+mod places;
+#[cfg(test)]
 mod text;
+#[cfg(test)]
+mod walks;
+#[cfg(test)]
+mod white_space;

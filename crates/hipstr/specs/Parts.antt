@@ -1,5 +1,5 @@
 -- Pieces that are made in spare slots before they go to their targets, so that a refused one changes no slot.
-use Rattle.std.specs.Prelude.{◌≡◌, ℕ, ◌+◌, Bool, true, List, [], ◌∷◌, length, Option, Some, None, Result, Ok, Err, replicate, slice_range, slice_set}
+use Rattle.std.specs.Prelude.{◌≡◌, ◌≤◌, ℕ, ◌+◌, Bool, true, List, [], ◌∷◌, length, Option, Some, None, Result, Ok, Err, replicate, slice_range, slice_set}
 use Rattle.hip_bytes.specs.Handle.{Handle}
 use Rattle.hip_bytes.specs.Made.{CutAnswers}
 use Rattle.hip_bytes.specs.Meter.{RisesAtMost}
@@ -8,6 +8,11 @@ use Rattle.hip_match.specs.Draw.{draw}
 use Rattle.hip_match.specs.declared.draw.End.{End}
 use Rattle.hipstr.specs.Cut.{SomeNeedsMemory}
 use Rattle.hipstr.specs.Slot.{SlotState, empty_slot}
+
+-- empty slots, one at least for each part that a script draws
+pub record HasRoom (script : List End) (slots : List SlotState) : Type 0 where
+  pub empty : slots ≡ replicate (length slots) empty_slot
+  pub within : length script ≤ length slots
 
 -- the first slots are the source's parts at these ranges, as texts, and all others are empty
 abbrev pub HoldParts : Handle → List (ℕ × ℕ) → List SlotState → Type 0

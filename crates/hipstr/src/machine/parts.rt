@@ -1,9 +1,9 @@
 //! Pieces that a script draws, made in slots that are empty.
-ghost use Rattle.std.specs.Prelude.{◌≡◌, ◌≤◌, ◌<◌, ◌&&◌, true, false, length, map, replicate, slice_set};
+ghost use Rattle.std.specs.Prelude.{◌≡◌, ◌<◌, ◌&&◌, true, false, length, map, replicate, slice_set};
 ghost use Rattle.hip_match.specs.Draw.{draw};
 ghost use Rattle.hip_match.specs.declared.draw.End.{End};
 ghost use Rattle.hipstr.specs.Cut.{has_back, has_one_end, pieces_of};
-ghost use Rattle.hipstr.specs.Parts.{DrawsPart, MakesParts};
+ghost use Rattle.hipstr.specs.Parts.{DrawsPart, HasRoom, MakesParts};
 ghost use Rattle.hipstr.specs.Slot.{state_of, empty_slot};
 
 use crate::command::{How, Pat};
@@ -25,8 +25,7 @@ pub(super) fn make_parts<'b, B: Backend>(
     meter: &mut Meter,
 ) -> Result<usize, AllocError>
     requires ends { (has_one_end how && has_back script.now) ≡ false }
-    requires empty { map state_of spare.old ≡ replicate (length spare.old) empty_slot }
-    requires room { length script.now ≤ length spare.old }
+    requires room { HasRoom script.now (map state_of spare.old) }
     ensures { MakesParts B.SHARES text.now (draw (pieces_of how.entry text.now.items) script.now) (map state_of spare.old) result (map state_of spare.new) meter.old meter.new }
 {
     match how {
@@ -89,8 +88,7 @@ fn make_both<'h, 'b, B: Backend, I: Unnumbered + RangesBack + Drop>(
     meter: &mut Meter,
 ) -> Result<usize, AllocError>
     requires ready { ⟦<Pieces<'h, HipStr<'b, B>, I> as Walk>⟧.ready walk }
-    requires empty { map state_of spare.old ≡ replicate (length spare.old) empty_slot }
-    requires room { length script.now ≤ length spare.old }
+    requires room { HasRoom script.now (map state_of spare.old) }
     ensures { MakesParts B.SHARES (⟦<Pieces<'h, HipStr<'b, B>, I> as Walk>⟧.source walk.entry) (draw (⟦<Pieces<'h, HipStr<'b, B>, I> as Walk>⟧.rest walk.entry) script.now) (map state_of spare.old) result (map state_of spare.new) meter.old meter.new }
 {
     for i in 0..script.len() {
@@ -115,8 +113,7 @@ fn make_front<'h, 'b, B: Backend, I: Unnumbered + Drop>(
 ) -> Result<usize, AllocError>
     requires ready { ⟦<Pieces<'h, HipStr<'b, B>, I> as Walk>⟧.ready walk }
     requires front { has_back script.now ≡ false }
-    requires empty { map state_of spare.old ≡ replicate (length spare.old) empty_slot }
-    requires room { length script.now ≤ length spare.old }
+    requires room { HasRoom script.now (map state_of spare.old) }
     ensures { MakesParts B.SHARES (⟦<Pieces<'h, HipStr<'b, B>, I> as Walk>⟧.source walk.entry) (draw (⟦<Pieces<'h, HipStr<'b, B>, I> as Walk>⟧.rest walk.entry) script.now) (map state_of spare.old) result (map state_of spare.new) meter.old meter.new }
 {
     for i in 0..script.len() {

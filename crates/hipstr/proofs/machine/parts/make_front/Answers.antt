@@ -11,8 +11,7 @@ loop-i-init g c =
     let state = state_of {B = g.row.B.Denot} {S = g.row.B-Sole.Denot} {P = g.row.B-Start.Denot} in
     let spare = map state c.args.spare.now in
     record {
-      so_far = so-far-none g.B.Backend.SHARES c.args.walk.source.now (draw (g.I.Ranges.rest c.args.walk.ranges) c.args.script.now) spare c.args.meter.now
-          (c.requires.empty ∙ ap (λ n. replicate n empty_slot) (sym (length-map c.args.spare.now state)));
+      so_far = so-far-none g.B.Backend.SHARES c.args.walk.source.now (draw (g.I.Ranges.rest c.args.walk.ranges) c.args.script.now) spare c.args.meter.now c.requires.room.empty;
       source = refl;
       ready = c.requires.ready.0;
       text = c.requires.ready.1;
@@ -21,7 +20,7 @@ loop-i-init g c =
 pub loop-i-preserved : goal.loop-i-preserved
 loop-i-preserved g c =
     let state = state_of {B = g.row.B.Denot} {S = g.row.B-Sole.Denot} {P = g.row.B-Start.Denot} in
-    let room : length c.args.script.now ≤ length (map state c.loop-i.spare) = omega (arith, c.requires.room, c.loop-i.auto.spare, length-map c.loop-i.spare state) in
+    let room : length c.args.script.now ≤ length (map state c.loop-i.spare) = omega (arith, c.requires.room.within, c.loop-i.auto.spare, length-map c.args.spare.now state, length-map c.loop-i.spare state) in
     record {
       so_far = goes-on c.in-Some-Ok.field-0 g.B.Backend.SHARES c.args.walk.source.now c.loop-i.walk.source.now (draw (g.I.Ranges.rest c.args.walk.ranges) c.args.script.now) (g.I.Ranges.rest c.loop-i.walk.ranges) (g.I.Ranges.rest c.front_part.new.walk.ranges)
           c.args.script.now c.loop-i.i _ (map state c.loop-i.spare) (map state c.put_text.new.slots) c.in-Some-Ok.part c.args.meter.now c.loop-i.meter c.front_part.new.meter
@@ -37,7 +36,7 @@ returns-in-Some-Err g c =
     let refused = is-refused c.in-Some-Err.field-0 _ g.B.Backend.SHARES c.args.walk.source.now c.loop-i.walk.source.now (draw (g.I.Ranges.rest c.args.walk.ranges) c.args.script.now) (g.I.Ranges.rest c.loop-i.walk.ranges) (g.I.Ranges.rest c.front_part.new.walk.ranges)
     c.args.script.now c.loop-i.i _ (map state c.loop-i.spare) c.args.meter.now c.loop-i.meter c.front_part.new.meter
     c.loop-i.invariant.so_far c.loop-i.invariant.source c.loop-i-test.true c.in-Some-Err.ensures.drawn c.in-Some-Err.field-0-is in
-    record { made = (refused.needs, c.empty_all.ensures ∙ ap (λ n. replicate n empty_slot) (let same : length c.loop-i.spare ≡ length c.args.spare.now = omega (arith, c.loop-i.auto.spare) in same) ∙ sym c.requires.empty); counted = refused.rises }
+    record { made = (refused.needs, c.empty_all.ensures ∙ ap (λ n. replicate n empty_slot) (let same : length c.loop-i.spare ≡ length (map state c.args.spare.now) = omega (arith, c.loop-i.auto.spare, length-map c.args.spare.now state) in same) ∙ sym c.requires.room.empty); counted = refused.rises }
 
 pub returns-in-None : goal.returns-in-None
 returns-in-None g c =

@@ -17,19 +17,15 @@ use Rattle.hipstr.proofs.Parts.{draw-within, empty-length, hold-within, pieces-n
 use Rattle.hipstr.proofs.Steps.{performed, neither, slot-there, text-there, one-end}
 use Rattle.hipstr.proofs.pool.Pool.make_pieces.Goals as goal
 
-pub make_parts-requires-clause-empty : goal.make_parts-requires-clause-empty
-make_parts-requires-clause-empty g c =
-    let state = state_of {B = g.row.B.Denot} {S = g.row.B-Sole.Denot} {P = g.row.B-Start.Denot} in
-    let empty : map state c.deref_mut-spare.result.now ≡ replicate (length c.self.inside.slots.items) empty_slot = ap (map state) c.deref_mut-spare.ensures.value ∙ c.self.invariant in
-    empty ∙ ap (λ n. replicate n empty_slot) (sym (empty-length state c.deref_mut-spare.result.now (length c.self.inside.slots.items) empty))
-
 pub make_parts-requires-clause-room : goal.make_parts-requires-clause-room
 make_parts-requires-clause-room g c =
     let state = state_of {B = g.row.B.Denot} {S = g.row.B-Sole.Denot} {P = g.row.B-Start.Denot} in
     let empty : map state c.deref_mut-spare.result.now ≡ replicate (length c.self.inside.slots.items) empty_slot = ap (map state) c.deref_mut-spare.ensures.value ∙ c.self.invariant in
     let same : length c.self.inside.slots.items ≡ length c.args.self.now = sym (length-map c.self.inside.slots.items state) ∙ ap length c.self.view_is in
     let targets : c.args.first + length c.args.script.now ≤ length c.args.self.now = leb-true _ _ (sym c.if-not-has_slots.ensures) in
-    omega (arith, empty-length state c.deref_mut-spare.result.now (length c.self.inside.slots.items) empty, same, targets)
+    let as_many : length (map state c.deref_mut-spare.result.now) ≡ length c.self.inside.slots.items =
+    length-map c.deref_mut-spare.result.now state ∙ empty-length state c.deref_mut-spare.result.now (length c.self.inside.slots.items) empty in
+    record { empty = empty ∙ ap (λ n. replicate n empty_slot) (sym as_many); within = omega (arith, as_many, same, targets) }
 
 pub put_parts-requires-clause-made : goal.put_parts-requires-clause-made
 put_parts-requires-clause-made g c =

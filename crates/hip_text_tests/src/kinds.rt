@@ -1,9 +1,12 @@
 //! Kinds of pieces, and how many bytes are copied for them.
 use crate::cuts::{Cut, cut_metered, is_left};
-use hip_cuts::{Backend, HipStr, Kind, Meter, Rc, TextCuts, Unique};
+use crate::text::must;
+use hip_cuts::hip_match::ranges::RangesBack;
+use hip_cuts::{
+    Backend, HipStr, IterWrapper, Kind, Meter, Pieces, Rc, TextCuts, Unique, Unnumbered, Walk,
+};
 use std::alloc::{AllocError, Global};
 use std::process::Abort;
-use std::test::Fail;
 
 /// The length and the kind of a piece, and how many bytes are copied for it where owners are shared and where not.
 #[derive(Clone, Copy)]
@@ -27,22 +30,42 @@ fn is_seen<B: Backend>(
 /// A long field and a short one.
 const FIELDS: &str = "aaaaaaaaaaaaaaaaaaaaaaaaaaaaaa,bbbbb";
 
+/// Whether this is seen of the first piece that is left.
+fn sees_first<'h, 'b, B: Backend, I: Unnumbered>(
+    pieces: &mut IterWrapper<'h, 'b, B, I>,
+    want: Seen,
+) -> bool
+    requires { ⟦<Pieces<'h, HipStr<'b, B>, I> as Walk>⟧.ready pieces.old }
+    ensures { ⟦<Pieces<'h, HipStr<'b, B>, I> as Walk>⟧.ready pieces.new }
+{
+    let mut meter = Meter::new();
+    let piece = pieces.next_metered(&mut meter);
+    is_seen(piece, meter, want)
+}
+
+/// Whether this is seen of the last one.
+fn sees_last<'h, 'b, B: Backend, I: Unnumbered + RangesBack>(
+    pieces: &mut IterWrapper<'h, 'b, B, I>,
+    want: Seen,
+) -> bool
+    requires { ⟦<Pieces<'h, HipStr<'b, B>, I> as Walk>⟧.ready pieces.old }
+    ensures { ⟦<Pieces<'h, HipStr<'b, B>, I> as Walk>⟧.ready pieces.new }
+{
+    let mut meter = Meter::new();
+    let piece = pieces.next_back_metered(&mut meter);
+    is_seen(piece, meter, want)
+}
+
 /// Whether this is seen of the two fields, drawn from the front.
 fn sees<B: Backend>(source: &HipStr<'_, B>, alloc: Global, long: Seen, short: Seen) -> bool {
     let mut fields = source.split(alloc, ',');
-    let (mut first, mut second) = (Meter::new(), Meter::new());
-    let long_piece = fields.next_metered(&mut first);
-    let short_piece = fields.next_metered(&mut second);
-    is_seen(long_piece, first, long) & is_seen(short_piece, second, short)
+    sees_first(&mut fields, long) & sees_first(&mut fields, short)
 }
 
 /// Whether this is seen of them, drawn from the back.
 fn sees_back<B: Backend>(source: &HipStr<'_, B>, alloc: Global, long: Seen, short: Seen) -> bool {
     let mut fields = source.split(alloc, ',');
-    let (mut first, mut second) = (Meter::new(), Meter::new());
-    let short_piece = fields.next_back_metered(&mut first);
-    let long_piece = fields.next_back_metered(&mut second);
-    is_seen(short_piece, first, short) & is_seen(long_piece, second, long)
+    sees_last(&mut fields, short) & sees_last(&mut fields, long)
 }
 
 /// Whether this is seen of a match at the comma's place.
@@ -107,11 +130,10 @@ const LENT_SHORT: Seen = Seen(5, Kind::Borrowed, 0, 0);
 
 const LENT_COMMA: Seen = Seen(1, Kind::Borrowed, 0, 0);
 
-fn on<B: Backend>(rt: &impl Abort, alloc: Global) -> Result<(), Fail> {
-    let owned = HipStr::<B>::from_str(alloc, FIELDS)?;
+fn on<B: Backend>(rt: &impl Abort, alloc: Global) {
+    let owned = must(rt, HipStr::<B>::from_str(alloc, FIELDS));
     assert!(rt; sees(&owned, alloc, LONG, SHORT) & sees_back(&owned, alloc, LONG, SHORT));
     assert!(rt; sees_comma(&owned, alloc, COMMA) & sees_comma_back(&owned, alloc, COMMA));
-    Ok(())
 }
 
 fn on_lent<B: Backend>(rt: &impl Abort, alloc: Global) {
@@ -121,33 +143,34 @@ fn on_lent<B: Backend>(rt: &impl Abort, alloc: Global) {
     assert!(rt; front & back & sees_comma(&lent, alloc, LENT_COMMA));
 }
 
-fn on_letters<B: Backend>(rt: &impl Abort, alloc: Global) -> Result<(), Fail> {
-    let letters = HipStr::<B>::from_str(alloc, "abcdefghijklmnopqrstuvwxyz")?;
+fn on_letters<B: Backend>(rt: &impl Abort, alloc: Global) {
+    let letters = must(
+        rt,
+        HipStr::<B>::from_str(alloc, "abcdefghijklmnopqrstuvwxyz"),
+    );
     let inline = sees_rest(&letters, alloc, "abc", Seen(23, Kind::Inline, 23, 23));
     let shared = sees_rest(&letters, alloc, "ab", Seen(24, Kind::Allocated, 0, 24));
     assert!(rt; inline & shared);
-    Ok(())
 }
 
-fn on_copy<B: Backend>(rt: &impl Abort, alloc: Global) -> Result<(), Fail> {
-    let source = HipStr::<B>::from_str(alloc, "abc")?;
+fn on_copy<B: Backend>(rt: &impl Abort, alloc: Global) {
+    let source = must(rt, HipStr::<B>::from_str(alloc, "abc"));
     let is_equal = is_copy(source.clone(alloc), &source);
     assert!(rt; is_equal & is_left(source.strip_prefix(alloc, "a"), Some("bc")));
-    Ok(())
 }
 
 #[test]
-fn on_rc(rt: HostRuntime) -> Result<(), Fail> {
+fn on_rc(rt: HostRuntime) {
     on_lent::<Rc>(&rt, rt.alloc());
-    on::<Rc>(&rt, rt.alloc())?;
-    on_letters::<Rc>(&rt, rt.alloc())?;
-    on_copy::<Rc>(&rt, rt.alloc())
+    on::<Rc>(&rt, rt.alloc());
+    on_letters::<Rc>(&rt, rt.alloc());
+    on_copy::<Rc>(&rt, rt.alloc());
 }
 
 #[test]
-fn on_unique(rt: HostRuntime) -> Result<(), Fail> {
+fn on_unique(rt: HostRuntime) {
     on_lent::<Unique>(&rt, rt.alloc());
-    on::<Unique>(&rt, rt.alloc())?;
-    on_letters::<Unique>(&rt, rt.alloc())?;
-    on_copy::<Unique>(&rt, rt.alloc())
+    on::<Unique>(&rt, rt.alloc());
+    on_letters::<Unique>(&rt, rt.alloc());
+    on_copy::<Unique>(&rt, rt.alloc());
 }

@@ -1,5 +1,5 @@
 use Rattle.std.proofs.Common.{◌≡◌, length}
-use Rattle.hip_cuts_tests.proofs.fields.longest_of.Given as goal
+use Rattle.hip_text_tests.proofs.fields.longest_of.Given as goal
 
 abbrev pub invariant-loop-piece : goal.invariant-loop-piece
 invariant-loop-piece g l = g.I.Ranges.ready l.pieces.ranges × (g.I.Ranges.text l.pieces.ranges ≡ l.pieces.source.now.items)

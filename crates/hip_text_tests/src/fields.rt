@@ -41,7 +41,7 @@ fn longest_of<'h, 'b, B: Backend, I: Unnumbered + Drop>(
 }
 
 /// Whether a line has so many fields.
-pub fn has_fields<'b, B: Backend>(
+pub(crate) fn has_fields<'b, B: Backend>(
     line: &HipStr<'b, B>,
     count: usize,
     alloc: Global,

@@ -1,4 +1,4 @@
-use Rattle.hip_cuts_tests.proofs.clones.of_places.Goals as goal
+use Rattle.hip_text_tests.proofs.clones.of_places.Goals as goal
 
 pub gives_second-requires : goal.gives_second-requires
 gives_second-requires g c =

@@ -1,4 +1,4 @@
-use Rattle.hip_cuts_tests.proofs.clones.by_a_character.Goals as goal
+use Rattle.hip_text_tests.proofs.clones.by_a_character.Goals as goal
 
 pub gives-requires : goal.gives-requires
 gives-requires g c =

@@ -1,5 +1,5 @@
 use Rattle.std.proofs.Common.{◌≡◌, ◌+◌, length}
-use Rattle.hip_cuts_tests.proofs.fields.has_pieces.Given as goal
+use Rattle.hip_text_tests.proofs.fields.has_pieces.Given as goal
 
 abbrev pub invariant-loop : goal.invariant-loop
 invariant-loop g l =
