@@ -1,4 +1,5 @@
 //! Lists of commands, each with its answer.
+use crate::cuts::cuts_all;
 use crate::ways::takes_all_apart;
 use hipstr::{
     Answer, Backend, Command, End, How, Kind, LocalHipByt, Meter, Pat, Pool, Rc, Reason, Side,
@@ -357,6 +358,7 @@ pub(crate) fn on<B: Backend>(rt: &impl Abort, alloc: Global) {
     plays::<B>(rt, alloc, writes());
     plays::<B>(rt, alloc, texts());
     plays::<B>(rt, alloc, pieces());
+    cuts_all::<B>(rt, alloc);
     takes_all_apart::<B>(rt, alloc);
     costs::<B>(rt, alloc);
     in_place::<B>(rt, alloc);

@@ -99,10 +99,110 @@ const SPACES_TOO: Taken = (
     ],
 );
 
-const LINES: Taken = ("a\r\n\nb", &[(How::Lines, true, &["a", "", "b"])]);
+/// Matches that overlap.
+const OVERLAPPING: Taken = (
+    "aaa",
+    &[
+        (How::Matches(Pat::Text("aa")), false, &["aa"]),
+        (How::RMatches(Pat::Text("aa")), false, &["aa"]),
+        (How::Split(Pat::Text("aa")), false, &["", "a"]),
+        (How::RSplit(Pat::Text("aa")), false, &["", "a"]),
+    ],
+);
+
+const OVERLAPPING_TOO: Taken = (
+    "ababababa",
+    &[(How::Matches(Pat::Text("aba")), false, &["aba", "aba"])],
+);
+
+/// An empty pattern, which matches at each boundary.
+const BOUNDARIES: Taken = (
+    "abc",
+    &[
+        (How::Split(Pat::Text("")), false, &["", "a", "b", "c", ""]),
+        (How::Inclusive(Pat::Text("")), false, &["", "a", "b", "c"]),
+        (How::Terminator(Pat::Text("")), false, &["", "a", "b", "c"]),
+        (How::RSplit(Pat::Text("")), false, &["", "c", "b", "a", ""]),
+        (How::RTerminator(Pat::Text("")), false, &["c", "b", "a", ""]),
+    ],
+);
+
+const BOUNDARIES_TOO: Taken = (
+    "é",
+    &[
+        (How::Split(Pat::Text("")), false, &["", "é", ""]),
+        (How::SplitN(2, Pat::Text("")), false, &["", "é"]),
+    ],
+);
+
+const NOTHING: Taken = (
+    "",
+    &[
+        (How::Split(Pat::Text("")), false, &["", ""]),
+        (How::Inclusive(Pat::Text("")), false, &[""]),
+        (How::Terminator(Pat::Text("")), false, &[""]),
+        (How::Matches(Pat::Text("")), false, &[""]),
+        (How::SplitN(1, Pat::Char(',')), false, &[""]),
+        (How::Inclusive(Pat::Char(',')), true, &[]),
+        (How::Lines, true, &[]),
+        (How::Words, true, &[]),
+    ],
+);
+
+const DOTS: Taken = (
+    "A..B..",
+    &[
+        (How::Terminator(Pat::Char('.')), true, &["A", "", "B", ""]),
+        (How::RTerminator(Pat::Char('.')), true, &["", "B", "", "A"]),
+    ],
+);
+
+const COUNTS: Taken = (
+    "a,b,c",
+    &[
+        (How::SplitN(2, Pat::Char(',')), false, &["a", "b,c"]),
+        (How::RSplitN(2, Pat::Char(',')), false, &["c", "a,b"]),
+        (How::SplitN(0, Pat::Char(',')), false, &[]),
+        (How::RSplitN(0, Pat::Char(',')), false, &[]),
+        (How::SplitN(1, Pat::Char(',')), false, &["a,b,c"]),
+        (How::RSplitN(1, Pat::Char(',')), false, &["a,b,c"]),
+        (How::SplitN(9, Pat::Char(',')), false, &["a", "b", "c"]),
+    ],
+);
+
+const COUNTS_TOO: Taken = (
+    ",,a,b,,",
+    &[
+        (How::SplitN(3, Pat::Char(',')), false, &["", "", "a,b,,"]),
+        (How::RSplitN(3, Pat::Char(',')), false, &["", "", ",,a,b"]),
+    ],
+);
+
+const ENDED: Taken = (
+    "é,ü,",
+    &[
+        (How::Split(Pat::Char(',')), true, &["é", "ü", ""]),
+        (How::Inclusive(Pat::Char(',')), true, &["é,", "ü,"]),
+        (How::Terminator(Pat::Char(',')), true, &["é", "ü"]),
+        (How::RTerminator(Pat::Char(',')), true, &["ü", "é"]),
+    ],
+);
+
+const LINES: Taken = (
+    "x\r\ny\n\nz\r",
+    &[(How::Lines, true, &["x", "y", "", "z\r"])],
+);
+
+const RUNS: Taken = (
+    "a\x0Bb c",
+    &[
+        (How::Words, true, &["a", "b", "c"]),
+        (How::AsciiWords, true, &["a\x0Bb", "c"]),
+    ],
+);
 
 /// How many parts there are.
-const PARTS: usize = 7;
+const PARTS: usize = 17;
 
 fn part(number: usize) -> Taken {
     match number {
@@ -112,12 +212,22 @@ fn part(number: usize) -> Taken {
         3 => COMMAS_TOO,
         4 => SPACES,
         5 => SPACES_TOO,
-        _ => LINES,
+        6 => OVERLAPPING,
+        7 => OVERLAPPING_TOO,
+        8 => BOUNDARIES,
+        9 => BOUNDARIES_TOO,
+        10 => NOTHING,
+        11 => DOTS,
+        12 => COUNTS,
+        13 => COUNTS_TOO,
+        14 => ENDED,
+        15 => LINES,
+        _ => RUNS,
     }
 }
 
 /// Whether a slot holds this piece, borrowed as its text is, or nothing where there is none.
-fn holds<B: Backend>(slot: Option<&Slot<'_, B>>, piece: Option<&str>) -> bool {
+pub(crate) fn holds<B: Backend>(slot: Option<&Slot<'_, B>>, piece: Option<&str>) -> bool {
     match (slot, piece) {
         (Some(slot), Some(piece)) => {
             slot.as_bytes() == piece.as_bytes() && slot.kind() == Kind::Borrowed

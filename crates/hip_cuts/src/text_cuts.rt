@@ -1,8 +1,9 @@
 //! The calls that take a text apart.
-ghost use Rattle.std.specs.Prelude.{◌≡◌, length};
+ghost use Rattle.std.specs.Prelude.{◌≡◌, length, IfSome};
 ghost use Rattle.std.specs.Char.{is_whitespace};
 ghost use Rattle.hip_match.specs.Characters.{char_ends};
 ghost use Rattle.hip_match.specs.Leftmost.{leftmost};
+ghost use Rattle.hip_match.specs.Occurrence.{IsCut};
 ghost use Rattle.hip_match.specs.Pieces.{split, split_inclusive, split_terminator, splitn, rsplit, rsplit_terminator, rsplitn};
 ghost use Rattle.hip_match.specs.Rightmost.{rightmost};
 ghost use Rattle.hip_match.specs.Runs.{lines, split_whitespace, split_ascii_whitespace};
@@ -560,10 +561,12 @@ impl<'b, B: Backend> TextCuts<'b, B> for HipStr<'b, B> {
         pattern: P,
         meter: &mut Meter,
     ) -> Result<Option<Self>, AllocError> {
-        let Some((start, end)) = trim::strip_prefix(self.as_str(), pattern) else {
-            return Ok(None);
-        };
-        Ok(Some(self.part_metered(alloc, start, end, meter)?))
+        part_at(
+            self,
+            alloc,
+            trim::strip_prefix(self.as_str(), pattern),
+            meter,
+        )
     }
 
     #[inline]
@@ -582,10 +585,12 @@ impl<'b, B: Backend> TextCuts<'b, B> for HipStr<'b, B> {
         pattern: P,
         meter: &mut Meter,
     ) -> Result<Option<Self>, AllocError> {
-        let Some((start, end)) = trim::strip_suffix(self.as_str(), pattern) else {
-            return Ok(None);
-        };
-        Ok(Some(self.part_metered(alloc, start, end, meter)?))
+        part_at(
+            self,
+            alloc,
+            trim::strip_suffix(self.as_str(), pattern),
+            meter,
+        )
     }
 
     #[inline]
@@ -604,12 +609,7 @@ impl<'b, B: Backend> TextCuts<'b, B> for HipStr<'b, B> {
         pattern: P,
         meter: &mut Meter,
     ) -> Result<Option<(Self, Self)>, AllocError> {
-        let Some((front, back)) = trim::split_once(self.as_str(), pattern) else {
-            return Ok(None);
-        };
-        let front = self.part_metered(alloc, front.0, front.1, meter)?;
-        let back = self.part_metered(alloc, back.0, back.1, meter)?;
-        Ok(Some((front, back)))
+        parts_at(self, alloc, trim::split_once(self.as_str(), pattern), meter)
     }
 
     #[inline]
@@ -628,11 +628,49 @@ impl<'b, B: Backend> TextCuts<'b, B> for HipStr<'b, B> {
         pattern: P,
         meter: &mut Meter,
     ) -> Result<Option<(Self, Self)>, AllocError> {
-        let Some((front, back)) = trim::rsplit_once(self.as_str(), pattern) else {
-            return Ok(None);
-        };
-        let front = self.part_metered(alloc, front.0, front.1, meter)?;
-        let back = self.part_metered(alloc, back.0, back.1, meter)?;
-        Ok(Some((front, back)))
+        parts_at(
+            self,
+            alloc,
+            trim::rsplit_once(self.as_str(), pattern),
+            meter,
+        )
     }
+}
+
+/// The part at a range, if there is one.
+#[inline]
+fn part_at<'b, B: Backend>(
+    text: &HipStr<'b, B>,
+    alloc: Global,
+    range: Option<(usize, usize)>,
+    meter: &mut Meter,
+) -> Result<Option<HipStr<'b, B>>, AllocError>
+    requires { IfSome range (IsCut text.now.items) }
+    ensures part { StripAnswers (λ part. part) range text.now result }
+    ensures counted { StripCosts B.SHARES range text.now meter.old meter.new }
+{
+    let Some((start, end)) = range else {
+        return Ok(None);
+    };
+    Ok(Some(text.part_metered(alloc, start, end, meter)?))
+}
+
+/// The parts at two ranges, if there are any.
+#[inline]
+fn parts_at<'b, B: Backend>(
+    text: &HipStr<'b, B>,
+    alloc: Global,
+    ranges: Option<((usize, usize), (usize, usize))>,
+    meter: &mut Meter,
+) -> Result<Option<(HipStr<'b, B>, HipStr<'b, B>)>, AllocError>
+    requires { IfSome ranges (λ ranges. IsCut text.now.items ranges.0 × IsCut text.now.items ranges.1) }
+    ensures parts { OnceAnswers (λ part. part) ranges text.now result }
+    ensures counted { OnceCosts B.SHARES ranges text.now meter.old meter.new }
+{
+    let Some((front, back)) = ranges else {
+        return Ok(None);
+    };
+    let front = text.part_metered(alloc, front.0, front.1, meter)?;
+    let back = text.part_metered(alloc, back.0, back.1, meter)?;
+    Ok(Some((front, back)))
 }

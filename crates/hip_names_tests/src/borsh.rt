@@ -1,5 +1,5 @@
 //! Forms that are written and read, cut short, or that lie about their length.
-use crate::support::{Handle, must, must_refuse};
+use crate::support::{Handle, kind_of_copy, must, must_refuse};
 use hip_bytes::{BorshFault, FromRead, HipByt, SliceSource, ToWrite, VecSink};
 use hip_text::{Backend, HipStr, Rc, Unique};
 use std::alloc::Global;
@@ -32,28 +32,25 @@ impl<B: Backend> Form for HipStr<'static, B> {
     }
 }
 
-/// A text, its form as the crate borsh 1.8.1 writes it (`borsh::to_vec`), and whether it has an owner once it is read.
-const TEXTS: &[(&str, &[u8], bool)] = &[
-    ("", b"\x00\x00\x00\x00", false),
-    ("123", b"\x03\x00\x00\x00\x31\x32\x33", false),
-    ("abc", b"\x03\x00\x00\x00\x61\x62\x63", false),
-    ("é", b"\x02\x00\x00\x00\xC3\xA9", false),
-    ("漢字", b"\x06\x00\x00\x00\xE6\xBC\xA2\xE5\xAD\x97", false),
-    ("😀", b"\x04\x00\x00\x00\xF0\x9F\x98\x80", false),
+/// A text, and its form as the crate borsh 1.8.1 writes it (`borsh::to_vec`).
+const TEXTS: &[(&str, &[u8])] = &[
+    ("", b"\x00\x00\x00\x00"),
+    ("123", b"\x03\x00\x00\x00\x31\x32\x33"),
+    ("abc", b"\x03\x00\x00\x00\x61\x62\x63"),
+    ("é", b"\x02\x00\x00\x00\xC3\xA9"),
+    ("漢字", b"\x06\x00\x00\x00\xE6\xBC\xA2\xE5\xAD\x97"),
+    ("😀", b"\x04\x00\x00\x00\xF0\x9F\x98\x80"),
     (
         "aaaaaaaaaaaaaaaaaaaaaaa",
         b"\x17\x00\x00\x00aaaaaaaaaaaaaaaaaaaaaaa",
-        false,
     ),
     (
         "aaaaaaaaaaaaaaaaaaaaaaaa",
         b"\x18\x00\x00\x00aaaaaaaaaaaaaaaaaaaaaaaa",
-        true,
     ),
     (
         "aaaaaaaaaaaaaaaaaaaaaaaaaaaaaaaaaaaaaaaaaa",
         b"\x2A\x00\x00\x00aaaaaaaaaaaaaaaaaaaaaaaaaaaaaaaaaaaaaaaaaa",
-        true,
     ),
 ];
 
@@ -89,14 +86,14 @@ fn writes<F: Form>(rt: &impl Abort, alloc: Global, bytes: &'static [u8], form: &
 }
 
 /// Asserts what is read of a form that has a byte behind it, which is left.
-fn reads<F: Form>(rt: &impl Abort, alloc: Global, form: &[u8], bytes: &[u8], is_owned: bool) {
+fn reads<F: Form>(rt: &impl Abort, alloc: Global, form: &[u8], bytes: &[u8]) {
     let mut longer = must(rt, Vec::from_slice(alloc, form));
     must(rt, longer.push(b'z'));
     let mut source = SliceSource::new(longer.as_slice());
     let read = must(rt, F::deserialize_reader(alloc, &mut source));
     assert_eq!(rt;
-        (read.bytes(), read.is_borrowed(), read.is_allocated()),
-        (bytes, false, is_owned)
+        (read.bytes(), read.kind()),
+        (bytes, kind_of_copy(bytes.len()))
     );
     assert_eq!(rt; source.rest(), b"z".as_slice());
 }
@@ -110,10 +107,10 @@ fn refuses<F: Form>(rt: &impl Abort, alloc: Global, bytes: &[u8], fault: BorshFa
 
 /// Each form, and each that is cut short at each length.
 fn forms<F: Form>(rt: &impl Abort, alloc: Global) {
-    for (text, form, is_owned) in TEXTS {
+    for (text, form) in TEXTS {
         let bytes = text.as_bytes();
         writes::<F>(rt, alloc, bytes, form);
-        reads::<F>(rt, alloc, form, bytes, *is_owned);
+        reads::<F>(rt, alloc, form, bytes);
         for len in 0..form.len() {
             refuses::<F>(rt, alloc, &form[..len], BorshFault::Truncated);
         }
@@ -172,10 +169,10 @@ fn bytes<F: Form>(rt: &impl Abort, alloc: Global) {
     too_short::<F>(rt, alloc);
     for (bytes, form) in BYTES {
         writes::<F>(rt, alloc, bytes, form);
-        reads::<F>(rt, alloc, form, bytes, false);
+        reads::<F>(rt, alloc, form, bytes);
     }
     for (bytes, form) in NO_TEXTS {
-        reads::<F>(rt, alloc, form, bytes, false);
+        reads::<F>(rt, alloc, form, bytes);
     }
     lengths::<F>(rt, alloc);
 }

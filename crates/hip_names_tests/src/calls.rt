@@ -1,7 +1,7 @@
 //! Conversions between types, rooms, orders of OS strings and of paths, and components by themselves.
 use crate::name::{Name, OsStr, compared, text_of};
-use crate::support::{must, must_refuse};
-use hip_names::{Backend, Component, HipPath, Rc, Unique, components_eq};
+use crate::support::{Handle, must};
+use hip_names::{Backend, Component, HipOsStr, HipPath, HipStr, Rc, Unique, components_eq};
 use std::alloc::Global;
 use std::borrow::{CowSlice, CowStr};
 use std::cmp::Ordering;
@@ -13,15 +13,30 @@ fn is<N: Name>(rt: &impl Abort, name: N, text: &str) {
     assert_eq!(rt; name.bytes(), text.as_bytes());
 }
 
+/// Of a clone of the text that a `Cow` makes, and of the text itself.
+fn from_text<B: Backend>(rt: &impl Abort, alloc: Global, cow: CowStr<'static>) {
+    let text = must(rt, HipStr::<B>::from_cow(alloc, cow));
+    let (first, second) = (must(rt, text.clone(alloc)), must(rt, text.clone(alloc)));
+    are_letters(rt, HipOsStr::from(first), HipPath::from(second));
+    let name = HipOsStr::from(text);
+    let clone = must(rt, name.clone(alloc));
+    let there_and_back = HipOsStr::from(HipPath::from(clone));
+    are_letters(rt, there_and_back, HipPath::from(name));
+}
+
+fn are_letters<B: Backend>(rt: &impl Abort, name: HipOsStr<'_, B>, path: HipPath<'_, B>) {
+    let letters = LETTERS.as_bytes();
+    assert_eq!(rt;
+        (name.as_os_str(), path.as_path(), path.as_os_str()),
+        (letters, letters, letters)
+    );
+}
+
 /// Of a text that is lent, and of one that is owned.
-fn from_texts<N: Name>(rt: &impl Abort, alloc: Global) {
+fn from_texts<B: Backend>(rt: &impl Abort, alloc: Global) {
     let string = must(rt, String::from_str(alloc, LETTERS));
-    let (of_clone, of_text) = must(rt, N::from_texts(alloc, CowStr::Owned(string)));
-    is(rt, of_clone, LETTERS);
-    is(rt, of_text, LETTERS);
-    let (of_clone, of_text) = must(rt, N::from_texts(alloc, CowStr::Borrowed(LETTERS)));
-    is(rt, of_clone, LETTERS);
-    is(rt, of_text, LETTERS);
+    from_text::<B>(rt, alloc, CowStr::Owned(string));
+    from_text::<B>(rt, alloc, CowStr::Borrowed(LETTERS));
 }
 
 /// A lent name becomes a lent `Cow`, a copied one an owned one.
@@ -39,10 +54,7 @@ fn into_cows<N: Name>(rt: &impl Abort, alloc: Global) {
 /// To a byte string, to the other type, and back.
 fn there_and_back<N: Name>(rt: &impl Abort, alloc: Global) {
     let name = must(rt, N::from_str(alloc, LETTERS)).there_and_back();
-    assert_eq!(rt;
-        (name.bytes(), name.as_os_str()),
-        (LETTERS.as_bytes(), LETTERS.as_bytes())
-    );
+    is(rt, name, LETTERS);
 }
 
 /// What is lent may be let go once the name is its own.
@@ -56,7 +68,7 @@ fn owns<N: Name>(rt: &impl Abort, alloc: Global) {
 
 fn no_room<N: Name>(rt: &impl Abort, alloc: Global) {
     let name = must(rt, N::with_capacity(alloc, 0));
-    assert_eq!(rt; (name.capacity(), N::inline_capacity()), (23, 23));
+    assert_eq!(rt; name.capacity(), 23);
     is(rt, name, "");
 }
 
@@ -108,10 +120,9 @@ fn orders_by_name<N: Name>(rt: &impl Abort, alloc: Global) {
     for (left, right, by_bytes, by_components) in ordered_rows() {
         let name = must(rt, N::from_str(alloc, left));
         let bytes = right.as_bytes();
-        let equal = (name.os_str_eq(bytes), name.path_eq(bytes));
         assert_eq!(rt;
-            (name.path_cmp(bytes), equal),
-            (*by_components, (by_bytes.is_eq(), by_components.is_eq()))
+            name.compared_with(bytes),
+            (by_bytes.is_eq(), by_components.is_eq(), *by_components)
         );
         assert_eq!(rt;
             components_eq(left.as_bytes(), bytes),
@@ -122,7 +133,6 @@ fn orders_by_name<N: Name>(rt: &impl Abort, alloc: Global) {
 
 /// These, of an OS string or of a path.
 pub(crate) fn of_either<N: Name>(rt: &impl Abort, alloc: Global) {
-    from_texts::<N>(rt, alloc);
     into_cows::<N>(rt, alloc);
     there_and_back::<N>(rt, alloc);
     owns::<N>(rt, alloc);
@@ -138,7 +148,7 @@ fn rooms<N: OsStr>(rt: &impl Abort, alloc: Global) {
     for _ in 0..42 {
         must(rt, name.push(alloc, "A"));
     }
-    assert_eq!(rt; (name.len(), name.os_str_eq(&[b'A'; 42])), (42, true));
+    assert_eq!(rt; (name.len(), name.bytes()), (42, [b'A'; 42].as_slice()));
 }
 
 /// Room for 24 bytes is given back where there are fewer.
@@ -155,15 +165,6 @@ pub(crate) fn of_os_strings<N: OsStr>(rt: &impl Abort, alloc: Global) {
     rooms::<N>(rt, alloc);
     shrinks::<N>(rt, alloc);
     orders_bytes::<N>(rt);
-}
-
-/// A long path gives its vector as an OS string does, and a lent one is handed back.
-fn into_os_strings<B: Backend>(rt: &impl Abort, alloc: Global) {
-    let path = must(rt, HipPath::<B>::from_str(alloc, LETTERS));
-    let vec = must(rt, path.into_os_string(alloc));
-    assert_eq!(rt; vec.as_slice(), LETTERS.as_bytes());
-    let back = must_refuse(rt, HipPath::<B>::borrowed("abc").into_os_string(alloc));
-    assert_eq!(rt; back.into_os_str().as_os_str(), b"abc".as_slice());
 }
 
 /// Asserts that keys are ordered as they are listed.
@@ -195,10 +196,10 @@ fn components(rt: HostRuntime) {
 
 #[test]
 fn on_rc(rt: HostRuntime) {
-    into_os_strings::<Rc>(&rt, rt.alloc());
+    from_texts::<Rc>(&rt, rt.alloc());
 }
 
 #[test]
 fn on_unique(rt: HostRuntime) {
-    into_os_strings::<Unique>(&rt, rt.alloc());
+    from_texts::<Unique>(&rt, rt.alloc());
 }

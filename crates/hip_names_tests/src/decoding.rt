@@ -1,6 +1,6 @@
 //! OS strings that are UTF-8, that aren't, and their repair.
 use crate::name::{Name, OsStr};
-use crate::support::must;
+use crate::support::{Handle, must};
 use std::alloc::Global;
 use std::process::Abort;
 
@@ -23,17 +23,22 @@ const DECODED: &[Decoded] = &[
 
 fn is_decoded<N: OsStr>(rt: &impl Abort, alloc: Global, row: Decoded) {
     let (bytes, is_text, repaired) = row;
-    let name = N::from_bytes(bytes);
+    let name = must(rt, N::lent(bytes));
     let (text, is_lent) = must(rt, name.to_str_lossy(alloc));
     assert_eq!(rt; (text.as_str(), is_lent), (repaired, is_text));
-    match must(rt, name.to_str(alloc)) {
-        Some(text) => assert_eq!(rt; (text.as_str(), is_text), (repaired, true)),
-        None => assert!(rt; !is_text),
+    assert!(rt; is(must(rt, name.to_str(alloc)), is_text, repaired));
+}
+
+/// Whether this is the text where there is one.
+fn is(text: Option<String>, is_text: bool, want: &str) -> bool {
+    match text {
+        Some(text) => is_text & (text.as_str() == want),
+        None => !is_text,
     }
 }
 
 fn becomes_text<N: Name>(rt: &impl Abort, row: Decoded) {
-    match N::from_bytes(row.0).into_str() {
+    match must(rt, N::lent(row.0)).into_str() {
         Ok(bytes) => assert_eq!(rt; (bytes, row.1), (row.0, true)),
         Err(back) => assert_eq!(rt; (back.bytes(), row.1), (row.0, false)),
     }
@@ -41,7 +46,8 @@ fn becomes_text<N: Name>(rt: &impl Abort, row: Decoded) {
 
 /// Bytes that aren't UTF-8 are told by their numbers.
 fn debugs<N: Name>(rt: &impl Abort, alloc: Global) {
-    let said = must(rt, N::from_bytes(b"a\"\n\xFFb").debugged(alloc));
+    let name = must(rt, N::lent(b"a\"\n\xFFb"));
+    let said = must(rt, name.debugged(alloc));
     assert_eq!(rt; said.as_str(), "\"a\\\"\\n\\xffb\"");
 }
 

@@ -1,6 +1,6 @@
 //! Paths that are hard to read, with the answers of Rust's `std::path`.
 use crate::name::{Name, compared};
-use crate::support::must;
+use crate::support::{Handle, must};
 use hip_names::{Backend, Component, Components, HipByt, HipOsStr, HipPath, Rc, Unique, path_cmp};
 use std::alloc::{AllocError, Global};
 use std::cmp::Ordering;
@@ -167,7 +167,8 @@ fn is_taken_apart<B: Backend>(rt: &impl Abort, alloc: Global, row: Hostile) {
 
 /// Asserts how the path of a row and that of the one below are ordered.
 fn is_ordered<N: Name>(rt: &impl Abort, row: Hostile, next: Hostile) {
-    let (order, turned, are_equal) = compared(&N::from_bytes(row.0), &N::from_bytes(next.0));
+    let (path, other) = (must(rt, N::lent(row.0)), must(rt, N::lent(next.0)));
+    let (order, turned, are_equal) = compared(&path, &other);
     let wanted = row.2;
     assert_eq!(rt;
         (row.0, order, path_cmp(row.0, next.0), turned, are_equal),

@@ -1,5 +1,5 @@
 //! Values that are made, read and refused.
-use crate::support::{Handle, must, must_refuse};
+use crate::support::{Handle, kind_of_copy, must, must_refuse};
 use hip_bytes::{HipByt, JsonFault};
 use hip_names::{HipOsStr, HipPath};
 use hip_text::{Backend, HipStr, Rc, Unique};
@@ -71,12 +71,12 @@ fn makes<J: Json>(rt: &impl Abort, alloc: Global, bytes: &'static [u8], json: &s
     is_shown(rt, alloc, must(rt, made.to_json(alloc)), json);
 }
 
-/// Asserts which bytes are read from a JSON text, and whether they have an owner.
-fn reads<J: Json>(rt: &impl Abort, alloc: Global, json: &str, bytes: &[u8], is_owned: bool) {
+/// Asserts which bytes are read from a JSON text, and where they lie.
+fn reads<J: Json>(rt: &impl Abort, alloc: Global, json: &str, bytes: &[u8]) {
     let read = must(rt, J::from_json(alloc, &value(rt, alloc, json)));
     assert_eq!(rt;
-        (read.bytes(), read.is_borrowed(), read.is_allocated()),
-        (bytes, false, is_owned),
+        (read.bytes(), read.kind()),
+        (bytes, kind_of_copy(bytes.len())),
         "{json}"
     );
 }
@@ -95,25 +95,23 @@ const MADE: &[(&[u8], &str, &str)] = &[
     (b"\x00\xFF", "[0,255]", "{\"Unix\":[0,255]}"),
 ];
 
-/// JSON texts that are read as bytes, and whether these have an owner.
-const BYTES: &[(&str, &[u8], bool)] = &[
-    ("[]", b"", false),
-    ("\"\"", b"", false),
-    ("[1,2,3]", b"\x01\x02\x03", false),
-    ("\"\\u0001\\u0002\\u0003\"", b"\x01\x02\x03", false),
-    ("\"a\"", b"a", false),
-    ("[97]", b"a", false),
-    ("[0,255]", b"\x00\xFF", false),
-    ("\"\\u0000é\"", b"\x00\xC3\xA9", false),
+/// JSON texts that are read as bytes.
+const BYTES: &[(&str, &[u8])] = &[
+    ("[]", b""),
+    ("\"\"", b""),
+    ("[1,2,3]", b"\x01\x02\x03"),
+    ("\"\\u0001\\u0002\\u0003\"", b"\x01\x02\x03"),
+    ("\"a\"", b"a"),
+    ("[97]", b"a"),
+    ("[0,255]", b"\x00\xFF"),
+    ("\"\\u0000é\"", b"\x00\xC3\xA9"),
     (
         "\"abcdefghijklmnopqrstuvwxyz\"",
         b"abcdefghijklmnopqrstuvwxyz",
-        true,
     ),
     (
         "[1,2,3,4,5,6,7,8,9,10,11,12,13,14,15,16,17,18,19,20,21,22,23,24]",
         b"\x01\x02\x03\x04\x05\x06\x07\x08\x09\x0A\x0B\x0C\x0D\x0E\x0F\x10\x11\x12\x13\x14\x15\x16\x17\x18",
-        true,
     ),
 ];
 
@@ -146,8 +144,8 @@ fn byte_strings<J: Json>(rt: &impl Abort, alloc: Global) {
     for (bytes, array, _) in MADE {
         makes::<J>(rt, alloc, bytes, array);
     }
-    for (json, bytes, is_owned) in BYTES {
-        reads::<J>(rt, alloc, json, bytes, *is_owned);
+    for (json, bytes) in BYTES {
+        reads::<J>(rt, alloc, json, bytes);
     }
     for (json, at) in NO_BYTES {
         refuses::<J>(rt, alloc, json, JsonFault::NotJsonBytes(*at));
@@ -185,22 +183,21 @@ fn os_strings<J: Json>(rt: &impl Abort, alloc: Global) {
         makes::<J>(rt, alloc, bytes, object);
     }
     for (json, bytes) in NAMES {
-        reads::<J>(rt, alloc, json, bytes, false);
+        reads::<J>(rt, alloc, json, bytes);
     }
     for (json, fault) in NO_NAMES {
         refuses::<J>(rt, alloc, json, *fault);
     }
 }
 
-/// Texts, those of their values, and whether they have an owner once they are read.
-const TEXTS: &[(&[u8], &str, bool)] = &[
-    (b"", "\"\"", false),
-    (b"a", "\"a\"", false),
-    (b"abc", "\"abc\"", false),
+/// Texts, and those of their values.
+const TEXTS: &[(&[u8], &str)] = &[
+    (b"", "\"\""),
+    (b"a", "\"a\""),
+    (b"abc", "\"abc\""),
     (
         b"abcdefghijklmnopqrstuvwxyz",
         "\"abcdefghijklmnopqrstuvwxyz\"",
-        true,
     ),
 ];
 
@@ -208,9 +205,9 @@ const TEXTS: &[(&[u8], &str, bool)] = &[
 const NO_TEXTS: &[&str] = &["0", "3", "null", "1.5", "[\"a\"]", "{}", "true"];
 
 fn texts<J: Json>(rt: &impl Abort, alloc: Global) {
-    for (text, json, is_owned) in TEXTS {
+    for (text, json) in TEXTS {
         makes::<J>(rt, alloc, text, json);
-        reads::<J>(rt, alloc, json, text, *is_owned);
+        reads::<J>(rt, alloc, json, text);
     }
     for json in NO_TEXTS {
         refuses::<J>(rt, alloc, json, JsonFault::NotJsonString);

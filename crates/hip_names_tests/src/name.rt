@@ -1,13 +1,15 @@
 //! What the tests ask of an OS string and of a path alike, and of an OS string alone. The calls are by their own names where nothing else
 //! is said, and say nothing of their answers, so that a test knows nothing but what it compares.
-use hip_names::{Backend, HipByt, HipOsStr, HipPath, HipStr, Kind};
+use crate::support::Handle;
+use hip_bytes::{RefMut, Source};
+use hip_names::{Backend, HipByt, HipOsStr, HipPath};
 use std::alloc::{AllocError, Global};
-use std::borrow::{CowSlice, CowStr};
+use std::borrow::CowSlice;
 use std::cmp::Ordering;
 use std::fmt;
 use std::hash::Hash;
 
-pub trait Name: Hash + Ord + Drop {
+pub trait Name: Handle + Hash + Ord {
     /// Whether it is compared by components, and not by bytes.
     const IS_PATH: bool;
 
@@ -23,14 +25,6 @@ pub trait Name: Hash + Ord + Drop {
 
     fn into_owned(self, alloc: Global) -> Result<Self, Self>;
 
-    /// By `as_os_str` or `as_path`.
-    fn bytes(&self) -> &[u8];
-
-    fn as_os_str(&self) -> &[u8];
-
-    /// What `is_inline`, `is_borrowed` and `is_allocated` say.
-    fn kind(&self) -> Kind;
-
     fn capacity(&self) -> usize;
 
     fn as_borrowed(&self) -> Option<&'static [u8]>;
@@ -43,44 +37,30 @@ pub trait Name: Hash + Ord + Drop {
     /// By way of a byte string.
     fn into_vec_copied(self, alloc: Global) -> Result<Vec<u8>, AllocError>;
 
-    /// By way of a text.
+    /// By way of a text, and `into_os_string`.
     fn into_vec_by_text(self, alloc: Global) -> Result<Vec<u8>, Self>;
 
-    /// Adds to the vector that `mutate` lends.
-    fn push_by_guard(&mut self, alloc: Global, addition: &str) -> Result<(), AllocError>;
+    /// Adds to the vector that `mutate` lends, and answers how `Debug` showed its guard before.
+    fn push_by_guard(&mut self, alloc: Global, addition: &str) -> Result<String, AllocError>;
 
     fn shrink_to(&mut self, alloc: Global, least: usize) -> Result<(), AllocError>;
 
     fn shrink_to_fit(&mut self, alloc: Global) -> Result<(), AllocError>;
 
-    fn os_str_eq(&self, other: &[u8]) -> bool;
-
-    fn path_eq(&self, other: &[u8]) -> bool;
-
-    fn path_cmp(&self, other: &[u8]) -> Ordering;
+    /// What `os_str_eq`, `path_eq` and `path_cmp` say.
+    fn compared_with(&self, other: &[u8]) -> (bool, bool, Ordering);
 
     /// As `Debug` shows it.
     fn debugged(&self, alloc: Global) -> Result<String, AllocError>;
 
-    /// As `Debug` shows the guard of `mutate`.
-    fn guard_debugged(&mut self, alloc: Global) -> Result<String, AllocError>;
-
-    /// Two names: of a clone of the text that a `Cow` makes, and of the text itself.
-    fn from_texts(alloc: Global, cow: CowStr<'static>) -> Result<(Self, Self), AllocError>;
-
     /// By way of a byte string and of the other type.
     fn there_and_back(self) -> Self;
-
-    /// Of a byte string that is lent.
-    fn from_bytes(bytes: &'static [u8]) -> Self;
 
     /// By `into_owned` of a name that is lent for a shorter time.
     fn owned_from(alloc: Global, text: &str) -> Result<Self, AllocError>;
 
     /// By `with_capacity` of an OS string.
     fn with_capacity(alloc: Global, capacity: usize) -> Result<Self, AllocError>;
-
-    fn inline_capacity() -> usize;
 
     /// By `into_cow` of the byte string.
     fn into_cow(self, alloc: Global) -> Result<CowSlice<'static, u8>, AllocError>;
@@ -116,12 +96,17 @@ pub(crate) fn text_of<T: fmt::Debug>(alloc: Global, value: &T) -> Result<String,
     format!(in alloc; "{value:?}")
 }
 
-fn kind_of(inline: bool, borrowed: bool, allocated: bool) -> Kind {
-    match (inline, borrowed, allocated) {
-        (true, false, false) => Kind::Inline,
-        (false, true, false) => Kind::Borrowed,
-        _ => Kind::Allocated,
-    }
+/// Adds to the vector that a guard lends, and answers how `Debug` showed the guard before.
+fn push_by<S: Source>(
+    guard: RefMut<'_, S>,
+    alloc: Global,
+    addition: &str,
+) -> Result<String, AllocError> {
+    let mut guard = guard;
+    let shown = text_of(alloc, &guard)?;
+    guard.as_mut_vec().extend_from_slice(addition.as_bytes())?;
+    guard.finish(alloc).or(Err(AllocError))?;
+    Ok(shown)
 }
 
 impl<B: Backend> Name for HipOsStr<'static, B> {
@@ -151,18 +136,6 @@ impl<B: Backend> Name for HipOsStr<'static, B> {
         self.into_owned(alloc)
     }
 
-    fn bytes(&self) -> &[u8] {
-        self.as_os_str()
-    }
-
-    fn as_os_str(&self) -> &[u8] {
-        self.as_os_str()
-    }
-
-    fn kind(&self) -> Kind {
-        kind_of(self.is_inline(), self.is_borrowed(), self.is_allocated())
-    }
-
     fn capacity(&self) -> usize {
         self.capacity()
     }
@@ -188,10 +161,8 @@ impl<B: Backend> Name for HipOsStr<'static, B> {
         HipOsStr::from(self.into_str()?).into_os_string(alloc)
     }
 
-    fn push_by_guard(&mut self, alloc: Global, addition: &str) -> Result<(), AllocError> {
-        let mut guard = self.mutate(alloc)?;
-        guard.as_mut_vec().extend_from_slice(addition.as_bytes())?;
-        guard.finish(alloc).or(Err(AllocError))
+    fn push_by_guard(&mut self, alloc: Global, addition: &str) -> Result<String, AllocError> {
+        push_by(self.mutate(alloc)?, alloc, addition)
     }
 
     fn shrink_to(&mut self, alloc: Global, least: usize) -> Result<(), AllocError> {
@@ -202,38 +173,20 @@ impl<B: Backend> Name for HipOsStr<'static, B> {
         self.shrink_to_fit(alloc)
     }
 
-    fn os_str_eq(&self, other: &[u8]) -> bool {
-        self.os_str_eq(other)
-    }
-
-    fn path_eq(&self, other: &[u8]) -> bool {
-        self.path_eq(other)
-    }
-
-    fn path_cmp(&self, other: &[u8]) -> Ordering {
-        self.path_cmp(other)
+    fn compared_with(&self, other: &[u8]) -> (bool, bool, Ordering) {
+        (
+            self.os_str_eq(other),
+            self.path_eq(other),
+            self.path_cmp(other),
+        )
     }
 
     fn debugged(&self, alloc: Global) -> Result<String, AllocError> {
         text_of(alloc, self)
     }
 
-    fn guard_debugged(&mut self, alloc: Global) -> Result<String, AllocError> {
-        let guard = self.mutate(alloc)?;
-        text_of(alloc, &guard)
-    }
-
-    fn from_texts(alloc: Global, cow: CowStr<'static>) -> Result<(Self, Self), AllocError> {
-        let text = HipStr::from_cow(alloc, cow).or(Err(AllocError))?;
-        Ok((HipOsStr::from(text.clone(alloc)?), HipOsStr::from(text)))
-    }
-
     fn there_and_back(self) -> Self {
         HipOsStr::from(HipByt::from(HipOsStr::from(HipPath::from(self))))
-    }
-
-    fn from_bytes(bytes: &'static [u8]) -> Self {
-        HipOsStr::from(HipByt::borrowed(bytes))
     }
 
     fn owned_from(alloc: Global, text: &str) -> Result<Self, AllocError> {
@@ -244,10 +197,6 @@ impl<B: Backend> Name for HipOsStr<'static, B> {
 
     fn with_capacity(alloc: Global, capacity: usize) -> Result<Self, AllocError> {
         HipOsStr::with_capacity(alloc, capacity)
-    }
-
-    fn inline_capacity() -> usize {
-        HipOsStr::<B>::inline_capacity()
     }
 
     fn into_cow(self, alloc: Global) -> Result<CowSlice<'static, u8>, AllocError> {
@@ -286,18 +235,6 @@ impl<B: Backend> Name for HipPath<'static, B> {
         self.into_owned(alloc)
     }
 
-    fn bytes(&self) -> &[u8] {
-        self.as_path()
-    }
-
-    fn as_os_str(&self) -> &[u8] {
-        self.as_os_str()
-    }
-
-    fn kind(&self) -> Kind {
-        kind_of(self.is_inline(), self.is_borrowed(), self.is_allocated())
-    }
-
     fn capacity(&self) -> usize {
         self.capacity()
     }
@@ -323,10 +260,8 @@ impl<B: Backend> Name for HipPath<'static, B> {
         HipPath::from(self.into_str()?).into_os_string(alloc)
     }
 
-    fn push_by_guard(&mut self, alloc: Global, addition: &str) -> Result<(), AllocError> {
-        let mut guard = self.mutate(alloc)?;
-        guard.as_mut_vec().extend_from_slice(addition.as_bytes())?;
-        guard.finish(alloc).or(Err(AllocError))
+    fn push_by_guard(&mut self, alloc: Global, addition: &str) -> Result<String, AllocError> {
+        push_by(self.mutate(alloc)?, alloc, addition)
     }
 
     fn shrink_to(&mut self, alloc: Global, least: usize) -> Result<(), AllocError> {
@@ -337,38 +272,20 @@ impl<B: Backend> Name for HipPath<'static, B> {
         self.shrink_to_fit(alloc)
     }
 
-    fn os_str_eq(&self, other: &[u8]) -> bool {
-        self.os_str_eq(other)
-    }
-
-    fn path_eq(&self, other: &[u8]) -> bool {
-        self.path_eq(other)
-    }
-
-    fn path_cmp(&self, other: &[u8]) -> Ordering {
-        self.path_cmp(other)
+    fn compared_with(&self, other: &[u8]) -> (bool, bool, Ordering) {
+        (
+            self.os_str_eq(other),
+            self.path_eq(other),
+            self.path_cmp(other),
+        )
     }
 
     fn debugged(&self, alloc: Global) -> Result<String, AllocError> {
         text_of(alloc, self)
     }
 
-    fn guard_debugged(&mut self, alloc: Global) -> Result<String, AllocError> {
-        let guard = self.mutate(alloc)?;
-        text_of(alloc, &guard)
-    }
-
-    fn from_texts(alloc: Global, cow: CowStr<'static>) -> Result<(Self, Self), AllocError> {
-        let text = HipStr::from_cow(alloc, cow).or(Err(AllocError))?;
-        Ok((HipPath::from(text.clone(alloc)?), HipPath::from(text)))
-    }
-
     fn there_and_back(self) -> Self {
         HipPath::from(HipOsStr::from(HipByt::from(HipOsStr::from(self))))
-    }
-
-    fn from_bytes(bytes: &'static [u8]) -> Self {
-        HipPath::from(HipOsStr::from(HipByt::borrowed(bytes)))
     }
 
     fn owned_from(alloc: Global, text: &str) -> Result<Self, AllocError> {
@@ -379,10 +296,6 @@ impl<B: Backend> Name for HipPath<'static, B> {
 
     fn with_capacity(alloc: Global, capacity: usize) -> Result<Self, AllocError> {
         Ok(HipPath::from(HipOsStr::with_capacity(alloc, capacity)?))
-    }
-
-    fn inline_capacity() -> usize {
-        HipPath::<B>::inline_capacity()
     }
 
     fn into_cow(self, alloc: Global) -> Result<CowSlice<'static, u8>, AllocError> {

@@ -1,9 +1,10 @@
 //! What hipstr's own tests ask of OS strings and of paths, each by its own calls.
 use crate::name::{Name, OsStr};
-use crate::support::{must, must_refuse};
+use crate::support::{Handle, must, must_refuse};
 use crate::{calls, decoding, hostile, maps};
 use hip_names::{Backend, HipOsStr, HipPath, Kind, Rc, Unique};
 use std::alloc::Global;
+use std::cmp::Ordering;
 use std::process::Abort;
 
 const LETTERS: &str = "abcdefghijklmnopqrstuvwxyz";
@@ -106,10 +107,19 @@ fn into_copies<N: Name>(rt: &impl Abort, alloc: Global) {
     }
 }
 
-/// A long one is a text, in the same owner.
+/// A long one is a text, in the same owner. Any other is handed back.
 fn into_texts<N: Name>(rt: &impl Abort, alloc: Global) {
     let name = taken::<N>(rt, alloc, LONG);
     is_vector(rt, must(rt, name.into_vec_by_text(alloc)), LONG);
+    for (way, kind) in [(Way::Copied, Kind::Inline), (Way::Lent, Kind::Borrowed)] {
+        let name = made::<N>(rt, alloc, way, "abc");
+        is(
+            rt,
+            must_refuse(rt, name.into_vec_by_text(alloc)),
+            "abc",
+            kind,
+        );
+    }
 }
 
 fn borrows<N: Name>(rt: &impl Abort, alloc: Global) {
@@ -158,13 +168,14 @@ fn shrinks_lent<N: Name>(rt: &impl Abort, alloc: Global) {
 /// A long name is equal to its bytes, as bytes and as a path.
 fn equalities<N: Name>(rt: &impl Abort, alloc: Global) {
     let (long, bytes) = (taken::<N>(rt, alloc, LONG), LONG.as_bytes());
-    assert_eq!(rt; (long.os_str_eq(bytes), long.path_eq(bytes)), (true, true));
+    assert_eq!(rt; long.compared_with(bytes), (true, true, Ordering::Equal));
 }
 
 fn guards<N: Name>(rt: &impl Abort, alloc: Global) {
     for way in [Way::Copied, Way::Lent] {
         let mut name = made::<N>(rt, alloc, way, "abc");
-        must(rt, name.push_by_guard(alloc, "/def"));
+        let guard = must(rt, name.push_by_guard(alloc, "/def"));
+        assert_eq!(rt; guard.as_str(), "[97, 98, 99]");
         is(rt, name, "abc/def", Kind::Inline);
     }
 }
@@ -175,7 +186,7 @@ fn guards_of_clones<N: Name>(rt: &impl Abort, alloc: Global) {
     must(rt, string.push_str(LETTERS));
     let mut name = must(rt, N::from_string(alloc, string));
     let clone = must(rt, name.clone(alloc));
-    must(rt, name.push_by_guard(alloc, "/0123456789"));
+    drop(must(rt, name.push_by_guard(alloc, "/0123456789")));
     is(
         rt,
         name,
@@ -186,15 +197,8 @@ fn guards_of_clones<N: Name>(rt: &impl Abort, alloc: Global) {
 }
 
 fn debugs<N: Name>(rt: &impl Abort, alloc: Global) {
-    let mut name = N::from_static("abc");
-    let (said, guard) = (
-        must(rt, name.debugged(alloc)),
-        must(rt, name.guard_debugged(alloc)),
-    );
-    assert_eq!(rt;
-        (said.as_str(), guard.as_str()),
-        ("\"abc\"", "[97, 98, 99]")
-    );
+    let said = must(rt, N::from_static("abc").debugged(alloc));
+    assert_eq!(rt; said.as_str(), "\"abc\"");
 }
 
 fn owns<N: Name>(rt: &impl Abort, alloc: Global) {

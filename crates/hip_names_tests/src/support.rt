@@ -1,5 +1,5 @@
 //! What ends a test, and what the tests ask of all four types.
-use hip_bytes::HipByt;
+use hip_bytes::{HipByt, Kind};
 use hip_names::{HipOsStr, HipPath};
 use hip_text::{Backend, HipStr};
 use std::process::Abort;
@@ -27,9 +27,26 @@ pub trait Handle: Drop {
 
     fn bytes(&self) -> &[u8];
 
-    fn is_borrowed(&self) -> bool;
+    /// What `kind` says, or `is_inline`, `is_borrowed` and `is_allocated`.
+    fn kind(&self) -> Kind;
+}
 
-    fn is_allocated(&self) -> bool;
+/// Where so many bytes lie that were copied.
+pub(crate) fn kind_of_copy(len: usize) -> Kind {
+    if len > 23 {
+        Kind::Allocated
+    } else {
+        Kind::Inline
+    }
+}
+
+/// The kind that is told by three answers.
+fn kind_of(inline: bool, borrowed: bool, allocated: bool) -> Kind {
+    match (inline, borrowed, allocated) {
+        (true, false, false) => Kind::Inline,
+        (false, true, false) => Kind::Borrowed,
+        _ => Kind::Allocated,
+    }
 }
 
 impl<B: Backend> Handle for HipByt<'static, B> {
@@ -41,12 +58,8 @@ impl<B: Backend> Handle for HipByt<'static, B> {
         self.as_slice()
     }
 
-    fn is_borrowed(&self) -> bool {
-        self.is_borrowed()
-    }
-
-    fn is_allocated(&self) -> bool {
-        self.is_allocated()
+    fn kind(&self) -> Kind {
+        self.kind()
     }
 }
 
@@ -59,12 +72,8 @@ impl<B: Backend> Handle for HipStr<'static, B> {
         self.as_bytes()
     }
 
-    fn is_borrowed(&self) -> bool {
-        self.is_borrowed()
-    }
-
-    fn is_allocated(&self) -> bool {
-        self.is_allocated()
+    fn kind(&self) -> Kind {
+        self.kind()
     }
 }
 
@@ -77,12 +86,8 @@ impl<B: Backend> Handle for HipOsStr<'static, B> {
         self.as_os_str()
     }
 
-    fn is_borrowed(&self) -> bool {
-        self.is_borrowed()
-    }
-
-    fn is_allocated(&self) -> bool {
-        self.is_allocated()
+    fn kind(&self) -> Kind {
+        kind_of(self.is_inline(), self.is_borrowed(), self.is_allocated())
     }
 }
 
@@ -95,11 +100,7 @@ impl<B: Backend> Handle for HipPath<'static, B> {
         self.as_path()
     }
 
-    fn is_borrowed(&self) -> bool {
-        self.is_borrowed()
-    }
-
-    fn is_allocated(&self) -> bool {
-        self.is_allocated()
+    fn kind(&self) -> Kind {
+        kind_of(self.is_inline(), self.is_borrowed(), self.is_allocated())
     }
 }

@@ -1,5 +1,4 @@
 //! Kinds of pieces, and how many bytes are copied for them.
-use crate::cuts::{Cut, cut_metered, is_left};
 use crate::text::must;
 use hip_cuts::hip_match::ranges::RangesBack;
 use hip_cuts::{
@@ -103,16 +102,8 @@ fn sees_comma_back<B: Backend>(source: &HipStr<'_, B>, alloc: Global, want: Seen
 /// Whether this is seen of the rest behind a prefix.
 fn sees_rest<B: Backend>(letters: &HipStr<'_, B>, alloc: Global, prefix: &str, want: Seen) -> bool {
     let mut meter = Meter::new();
-    match cut_metered(letters, alloc, Cut::StripPrefix, prefix, &mut meter) {
+    match letters.strip_prefix_metered(alloc, prefix, &mut meter) {
         Ok(rest) => is_seen(rest.map(Ok), meter, want),
-        Err(_) => false,
-    }
-}
-
-/// Whether this is a copy of a text.
-fn is_copy<B: Backend>(copy: Result<HipStr<'_, B>, AllocError>, source: &HipStr<'_, B>) -> bool {
-    match copy {
-        Ok(copy) => copy == *source,
         Err(_) => false,
     }
 }
@@ -153,18 +144,11 @@ fn on_letters<B: Backend>(rt: &impl Abort, alloc: Global) {
     assert!(rt; inline & shared);
 }
 
-fn on_copy<B: Backend>(rt: &impl Abort, alloc: Global) {
-    let source = must(rt, HipStr::<B>::from_str(alloc, "abc"));
-    let is_equal = is_copy(source.clone(alloc), &source);
-    assert!(rt; is_equal & is_left(source.strip_prefix(alloc, "a"), Some("bc")));
-}
-
 #[test]
 fn on_rc(rt: HostRuntime) {
     on_lent::<Rc>(&rt, rt.alloc());
     on::<Rc>(&rt, rt.alloc());
     on_letters::<Rc>(&rt, rt.alloc());
-    on_copy::<Rc>(&rt, rt.alloc());
 }
 
 #[test]
@@ -172,5 +156,4 @@ fn on_unique(rt: HostRuntime) {
     on_lent::<Unique>(&rt, rt.alloc());
     on::<Unique>(&rt, rt.alloc());
     on_letters::<Unique>(&rt, rt.alloc());
-    on_copy::<Unique>(&rt, rt.alloc());
 }

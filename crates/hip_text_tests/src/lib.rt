@@ -17,11 +17,9 @@
 //! Of texts that are taken apart:
 //!
 //! - `fields`: a reader of fields as user code would write it, which is no test.
-//! - `walks`: the walks by name, and whether one gives what is wanted.
-//! - `pieces`: pieces by texts and by characters, from the front and from both ends.
+//! - `walks`: pieces that are drawn without a meter.
 //! - `places`: matches with their positions.
-//! - `white_space`: lines, and runs between white space.
-//! - `cuts`: trims, strips and cuts at one match.
+//! - `cuts`: trims, strips and cuts at one match, without a meter.
 //! - `kinds`: kinds of pieces, and how many bytes are copied for them.
 //! - `closures`: patterns that are closures.
 //! - `clones`: clones of walks that have given their first piece.
@@ -50,12 +48,8 @@ mod made;
 #[cfg(test)]
 mod makers;
 #[cfg(test)]
-mod pieces;
-#[cfg(test)]
 mod places;
 #[cfg(test)]
 mod text;
 #[cfg(test)]
 mod walks;
-#[cfg(test)]
-mod white_space;

@@ -1,24 +1,8 @@
-//! The walks by name, and whether one gives what is wanted.
-ghost use Rattle.std.specs.Prelude.{◌≡◌};
-
-use hip_cuts::hip_match::pattern::{OneChar, ReversePattern};
+//! Pieces that are drawn without a meter, from either end. Each walk's pieces, counted, are those of `hipstr::run` (`ways` of hip_checks).
+use crate::fields::{has_fields, longest_drawn, longest_field};
 use hip_cuts::hip_match::ranges::RangesBack;
-use hip_cuts::{Backend, HipStr, IterWrapper, Pieces, TextCuts, Unnumbered};
+use hip_cuts::{Backend, HipStr, IterWrapper, Pieces, Rc, TextCuts, Unique, Unnumbered, Walk};
 use std::alloc::{AllocError, Global};
-
-/// A walk over what a pattern makes of a text, but for those that tell positions.
-#[derive(Clone, Copy)]
-pub(crate) enum Walk {
-    Matches,
-    RMatches,
-    Split,
-    SplitInclusive,
-    SplitTerminator,
-    SplitN(usize),
-    RSplit,
-    RSplitTerminator,
-    RSplitN(usize),
-}
 
 /// Whether this piece was drawn.
 fn is_piece<B: Backend>(drawn: Option<Result<HipStr<'_, B>, AllocError>>, want: &str) -> bool {
@@ -28,12 +12,23 @@ fn is_piece<B: Backend>(drawn: Option<Result<HipStr<'_, B>, AllocError>>, want: 
     }
 }
 
+/// Whether this piece is drawn from the front.
+fn draws_first<'h, 'b, B: Backend, I: Unnumbered>(
+    pieces: &mut IterWrapper<'h, 'b, B, I>,
+    want: &str,
+) -> bool
+    requires { ⟦<Pieces<'h, HipStr<'b, B>, I> as Walk>⟧.ready pieces.old }
+    ensures { ⟦<Pieces<'h, HipStr<'b, B>, I> as Walk>⟧.ready pieces.new }
+{
+    is_piece(pieces.next(), want)
+}
+
 /// Whether the pieces are these texts, from the front, and then none.
 pub(crate) fn gives<'h, 'b, B: Backend, I: Unnumbered + Drop>(
     mut pieces: IterWrapper<'h, 'b, B, I>,
     want: &[&str],
 ) -> bool
-    requires { ⟦<Pieces<'h, HipStr<'b, B>, I> as hip_cuts::Walk>⟧.ready pieces }
+    requires { ⟦<Pieces<'h, HipStr<'b, B>, I> as Walk>⟧.ready pieces }
 {
     let mut is_same = true;
     for text in want {
@@ -42,99 +37,36 @@ pub(crate) fn gives<'h, 'b, B: Backend, I: Unnumbered + Drop>(
     is_same & pieces.next().is_none()
 }
 
-/// Whether this piece is drawn from the front.
-fn draws_first<'h, 'b, B: Backend, I: Unnumbered>(
-    pieces: &mut IterWrapper<'h, 'b, B, I>,
+/// Whether this piece is the last.
+fn gives_last<'h, 'b, B: Backend, I: Unnumbered + RangesBack + Drop>(
+    mut pieces: IterWrapper<'h, 'b, B, I>,
     want: &str,
 ) -> bool
-    requires { ⟦<Pieces<'h, HipStr<'b, B>, I> as hip_cuts::Walk>⟧.ready pieces.old }
-    ensures { ⟦<Pieces<'h, HipStr<'b, B>, I> as hip_cuts::Walk>⟧.ready pieces.new }
-{
-    is_piece(pieces.next(), want)
-}
-
-/// Whether it is drawn from the back.
-fn draws_last<'h, 'b, B: Backend, I: Unnumbered + RangesBack>(
-    pieces: &mut IterWrapper<'h, 'b, B, I>,
-    want: &str,
-) -> bool
-    requires { ⟦<Pieces<'h, HipStr<'b, B>, I> as hip_cuts::Walk>⟧.ready pieces.old }
-    ensures { ⟦<Pieces<'h, HipStr<'b, B>, I> as hip_cuts::Walk>⟧.ready pieces.new }
+    requires { ⟦<Pieces<'h, HipStr<'b, B>, I> as Walk>⟧.ready pieces }
 {
     is_piece(pieces.next_back(), want)
 }
 
-/// Whether it is drawn from the end that a letter of a script names.
-fn draws_one<'h, 'b, B: Backend, I: Unnumbered + RangesBack>(
-    pieces: &mut IterWrapper<'h, 'b, B, I>,
-    end: u8,
-    want: &str,
-) -> bool
-    requires { ⟦<Pieces<'h, HipStr<'b, B>, I> as hip_cuts::Walk>⟧.ready pieces.old }
-    ensures { ⟦<Pieces<'h, HipStr<'b, B>, I> as hip_cuts::Walk>⟧.ready pieces.new }
-{
-    if end == b'F' {
-        draws_first(pieces, want)
-    } else {
-        draws_last(pieces, want)
-    }
+fn draws<B: Backend>(alloc: Global) -> bool {
+    let source = HipStr::<B>::borrowed("a,bc,,é");
+    gives(source.split(alloc, ','), &["a", "bc", "", "é"])
+        & gives_last(source.split(alloc, ','), "é")
 }
 
-/// Whether the script, of `F` and `B`, draws these texts, and then there are none.
-pub(crate) fn draws<'h, 'b, B: Backend, I: Unnumbered + RangesBack + Drop>(
-    mut pieces: IterWrapper<'h, 'b, B, I>,
-    script: &str,
-    want: &[&str],
-) -> bool
-    requires { ⟦<Pieces<'h, HipStr<'b, B>, I> as hip_cuts::Walk>⟧.ready pieces }
-{
-    let mut is_same = true;
-    for (end, text) in script.as_bytes().iter().zip(want) {
-        is_same &= draws_one(&mut pieces, *end, text);
-    }
-    is_same & pieces.next_back().is_none()
+fn reads_fields<B: Backend>(alloc: Global) -> bool {
+    let line = HipStr::<B>::borrowed("a,bcd,,é");
+    (longest_field(&line, alloc) == Ok(3))
+        & (longest_drawn(&line, alloc) == 3)
+        & (has_fields(&line, 4, alloc) == Ok(true))
+        & (has_fields(&line, 3, alloc) == Ok(false))
 }
 
-/// Whether a walk gives these texts from its front.
-pub(crate) fn walks<B: Backend, P: ReversePattern>(
-    source: &HipStr<'_, B>,
-    alloc: Global,
-    kind: Walk,
-    pattern: P,
-    want: &[&str],
-) -> bool
-    requires { P.can_search pattern }
-{
-    match kind {
-        Walk::Matches => gives(source.matches(alloc, pattern), want),
-        Walk::RMatches => gives(source.rmatches(alloc, pattern), want),
-        Walk::Split => gives(source.split(alloc, pattern), want),
-        Walk::SplitInclusive => gives(source.split_inclusive(alloc, pattern), want),
-        Walk::SplitTerminator => gives(source.split_terminator(alloc, pattern), want),
-        Walk::SplitN(count) => gives(source.splitn(alloc, count, pattern), want),
-        Walk::RSplit => gives(source.rsplit(alloc, pattern), want),
-        Walk::RSplitTerminator => gives(source.rsplit_terminator(alloc, pattern), want),
-        Walk::RSplitN(count) => gives(source.rsplitn(alloc, count, pattern), want),
-    }
+#[test]
+fn on_rc(rt: HostRuntime) {
+    assert!(rt; draws::<Rc>(rt.alloc()) & reads_fields::<Rc>(rt.alloc()));
 }
 
-/// Whether a script draws these texts from a walk. None is drawn from one that has no back.
-pub(crate) fn walks_by_script<B: Backend, P: OneChar>(
-    source: &HipStr<'_, B>,
-    alloc: Global,
-    kind: Walk,
-    pattern: P,
-    script: &str,
-    want: &[&str],
-) -> bool
-    requires { P.can_search pattern }
-{
-    match kind {
-        Walk::Split => draws(source.split(alloc, pattern), script, want),
-        Walk::SplitInclusive => draws(source.split_inclusive(alloc, pattern), script, want),
-        Walk::SplitTerminator => draws(source.split_terminator(alloc, pattern), script, want),
-        Walk::RSplit => draws(source.rsplit(alloc, pattern), script, want),
-        Walk::RSplitTerminator => draws(source.rsplit_terminator(alloc, pattern), script, want),
-        _ => false,
-    }
+#[test]
+fn on_unique(rt: HostRuntime) {
+    assert!(rt; draws::<Unique>(rt.alloc()) & reads_fields::<Unique>(rt.alloc()));
 }

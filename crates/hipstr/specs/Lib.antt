@@ -3,6 +3,7 @@ pub mod Cut
 pub mod Parts
 pub mod Slot
 pub mod Step
+pub mod Ways
 pub mod Run
 pub mod Reason
 pub use Rattle.hip_bytes.specs.Change

@@ -2,8 +2,9 @@
 ghost use Rattle.std.specs.Prelude.{◌≡◌, ◌<◌, ◌&&◌, true, false, length, map, replicate, slice_set};
 ghost use Rattle.hip_match.specs.Draw.{draw};
 ghost use Rattle.hip_match.specs.declared.draw.End.{End};
-ghost use Rattle.hipstr.specs.Cut.{has_back, has_one_end, pieces_of};
+ghost use Rattle.hipstr.specs.Cut.{has_back, has_one_end, occurrences, pieces_of};
 ghost use Rattle.hipstr.specs.Parts.{DrawsPart, HasRoom, MakesParts};
+ghost use Rattle.hipstr.specs.Ways.{goes_one_way, is_counted, pieces_by};
 ghost use Rattle.hipstr.specs.Slot.{state_of, empty_slot};
 
 use crate::command::{How, Pat};
@@ -11,6 +12,7 @@ use crate::pool::Slot;
 use hip_bytes::{Backend, Meter};
 use hip_cuts::{IterWrapper, Pieces, TextCuts, Unnumbered, Walk};
 use hip_match::draw::End;
+use hip_match::pattern::{OneChar, ReversePattern};
 use hip_match::ranges::RangesBack;
 use hip_text::HipStr;
 use std::alloc::{AllocError, Global};
@@ -29,54 +31,148 @@ pub(super) fn make_parts<'b, B: Backend>(
     ensures { MakesParts B.SHARES text.now (draw (pieces_of how.entry text.now.items) script.now) (map state_of spare.old) result (map state_of spare.new) meter.old meter.new }
 {
     match how {
-        How::Split(pattern) => match pattern {
-            Pat::Text(p) => make_front(text.split(alloc, p), script, spare, meter),
-            Pat::Char(c) => make_both(text.split(alloc, c), script, spare, meter),
-            Pat::Set(set) => make_both(text.split(alloc, set), script, spare, meter),
-        },
-        How::Inclusive(pattern) => match pattern {
-            Pat::Text(p) => make_front(text.split_inclusive(alloc, p), script, spare, meter),
-            Pat::Char(c) => make_both(text.split_inclusive(alloc, c), script, spare, meter),
-            Pat::Set(set) => make_both(text.split_inclusive(alloc, set), script, spare, meter),
-        },
-        How::Terminator(pattern) => match pattern {
-            Pat::Text(p) => make_front(text.split_terminator(alloc, p), script, spare, meter),
-            Pat::Char(c) => make_both(text.split_terminator(alloc, c), script, spare, meter),
-            Pat::Set(set) => make_both(text.split_terminator(alloc, set), script, spare, meter),
-        },
-        How::SplitN(count, pattern) => match pattern {
-            Pat::Text(p) => make_front(text.splitn(alloc, count, p), script, spare, meter),
-            Pat::Char(c) => make_front(text.splitn(alloc, count, c), script, spare, meter),
-            Pat::Set(set) => make_front(text.splitn(alloc, count, set), script, spare, meter),
-        },
-        How::Matches(pattern) => match pattern {
-            Pat::Text(p) => make_front(text.matches(alloc, p), script, spare, meter),
-            Pat::Char(c) => make_both(text.matches(alloc, c), script, spare, meter),
-            Pat::Set(set) => make_both(text.matches(alloc, set), script, spare, meter),
-        },
-        How::RSplit(pattern) => match pattern {
-            Pat::Text(p) => make_front(text.rsplit(alloc, p), script, spare, meter),
-            Pat::Char(c) => make_both(text.rsplit(alloc, c), script, spare, meter),
-            Pat::Set(set) => make_both(text.rsplit(alloc, set), script, spare, meter),
-        },
-        How::RTerminator(pattern) => match pattern {
-            Pat::Text(p) => make_front(text.rsplit_terminator(alloc, p), script, spare, meter),
-            Pat::Char(c) => make_both(text.rsplit_terminator(alloc, c), script, spare, meter),
-            Pat::Set(set) => make_both(text.rsplit_terminator(alloc, set), script, spare, meter),
-        },
-        How::RSplitN(count, pattern) => match pattern {
-            Pat::Text(p) => make_front(text.rsplitn(alloc, count, p), script, spare, meter),
-            Pat::Char(c) => make_front(text.rsplitn(alloc, count, c), script, spare, meter),
-            Pat::Set(set) => make_front(text.rsplitn(alloc, count, set), script, spare, meter),
-        },
-        How::RMatches(pattern) => match pattern {
-            Pat::Text(p) => make_front(text.rmatches(alloc, p), script, spare, meter),
-            Pat::Char(c) => make_both(text.rmatches(alloc, c), script, spare, meter),
-            Pat::Set(set) => make_both(text.rmatches(alloc, set), script, spare, meter),
-        },
+        How::Split(pattern) => make_by(alloc, text, Way::Split, pattern, script, spare, meter),
+        How::Inclusive(pattern) => {
+            make_by(alloc, text, Way::Inclusive, pattern, script, spare, meter)
+        }
+        How::Terminator(pattern) => {
+            make_by(alloc, text, Way::Terminator, pattern, script, spare, meter)
+        }
+        How::SplitN(count, pattern) => {
+            make_by(
+                alloc,
+                text,
+                Way::SplitN(count),
+                pattern,
+                script,
+                spare,
+                meter,
+            )
+        }
+        How::Matches(pattern) => make_by(alloc, text, Way::Matches, pattern, script, spare, meter),
+        How::RSplit(pattern) => make_by(alloc, text, Way::RSplit, pattern, script, spare, meter),
+        How::RTerminator(pattern) => {
+            make_by(alloc, text, Way::RTerminator, pattern, script, spare, meter)
+        }
+        How::RSplitN(count, pattern) => {
+            make_by(
+                alloc,
+                text,
+                Way::RSplitN(count),
+                pattern,
+                script,
+                spare,
+                meter,
+            )
+        }
+        How::RMatches(pattern) => make_by(
+            alloc,
+            text,
+            Way::RMatches,
+            pattern,
+            script,
+            spare,
+            meter,
+        ),
         How::Lines => make_both(text.lines(alloc), script, spare, meter),
         How::Words => make_both(text.split_whitespace(alloc), script, spare, meter),
         How::AsciiWords => make_both(text.split_ascii_whitespace(alloc), script, spare, meter),
+    }
+}
+
+/// A way to take a text apart by a pattern.
+#[derive(Clone, Copy)]
+enum Way {
+    Split,
+    Inclusive,
+    Terminator,
+    SplitN(usize),
+    Matches,
+    RSplit,
+    RTerminator,
+    RSplitN(usize),
+    RMatches,
+}
+
+/// The same of a way and the pattern.
+fn make_by<'b, B: Backend>(
+    alloc: Global,
+    text: &HipStr<'b, B>,
+    way: Way,
+    pattern: Pat<'b>,
+    script: &[End],
+    spare: &mut [Slot<'b, B>],
+    meter: &mut Meter,
+) -> Result<usize, AllocError>
+    requires ends { (goes_one_way way pattern && has_back script.now) ≡ false }
+    requires room { HasRoom script.now (map state_of spare.old) }
+    ensures { MakesParts B.SHARES text.now (draw (pieces_by way (occurrences pattern.entry text.now.items) (length text.now.items)) script.now) (map state_of spare.old) result (map state_of spare.new) meter.old meter.new }
+{
+    match pattern {
+        Pat::Text(pattern) => make_by_front(alloc, text, way, pattern, script, spare, meter),
+        Pat::Char(c) => make_by_both(alloc, text, way, c, script, spare, meter),
+        Pat::Set(set) => make_by_both(alloc, text, way, set, script, spare, meter),
+    }
+}
+
+/// The same by any pattern, from the front alone.
+fn make_by_front<'b, B: Backend, P: ReversePattern>(
+    alloc: Global,
+    text: &HipStr<'b, B>,
+    way: Way,
+    pattern: P,
+    script: &[End],
+    spare: &mut [Slot<'b, B>],
+    meter: &mut Meter,
+) -> Result<usize, AllocError>
+    requires search { P.can_search pattern }
+    requires front { has_back script.now ≡ false }
+    requires room { HasRoom script.now (map state_of spare.old) }
+    ensures { MakesParts B.SHARES text.now (draw (pieces_by way (P.ends pattern text.now.items) (length text.now.items)) script.now) (map state_of spare.old) result (map state_of spare.new) meter.old meter.new }
+{
+    match way {
+        Way::Split => make_front(text.split(alloc, pattern), script, spare, meter),
+        Way::Inclusive => make_front(text.split_inclusive(alloc, pattern), script, spare, meter),
+        Way::Terminator => make_front(text.split_terminator(alloc, pattern), script, spare, meter),
+        Way::SplitN(count) => make_front(text.splitn(alloc, count, pattern), script, spare, meter),
+        Way::Matches => make_front(text.matches(alloc, pattern), script, spare, meter),
+        Way::RSplit => make_front(text.rsplit(alloc, pattern), script, spare, meter),
+        Way::RTerminator => {
+            make_front(text.rsplit_terminator(alloc, pattern), script, spare, meter)
+        }
+        Way::RSplitN(count) => {
+            make_front(text.rsplitn(alloc, count, pattern), script, spare, meter)
+        }
+        Way::RMatches => make_front(text.rmatches(alloc, pattern), script, spare, meter),
+    }
+}
+
+/// The same by characters, from both ends where the way has two.
+fn make_by_both<'b, B: Backend, P: OneChar>(
+    alloc: Global,
+    text: &HipStr<'b, B>,
+    way: Way,
+    pattern: P,
+    script: &[End],
+    spare: &mut [Slot<'b, B>],
+    meter: &mut Meter,
+) -> Result<usize, AllocError>
+    requires search { P.can_search pattern }
+    requires ends { (is_counted way && has_back script.now) ≡ false }
+    requires room { HasRoom script.now (map state_of spare.old) }
+    ensures { MakesParts B.SHARES text.now (draw (pieces_by way (P.ends pattern text.now.items) (length text.now.items)) script.now) (map state_of spare.old) result (map state_of spare.new) meter.old meter.new }
+{
+    match way {
+        Way::Split => make_both(text.split(alloc, pattern), script, spare, meter),
+        Way::Inclusive => make_both(text.split_inclusive(alloc, pattern), script, spare, meter),
+        Way::Terminator => make_both(text.split_terminator(alloc, pattern), script, spare, meter),
+        Way::Matches => make_both(text.matches(alloc, pattern), script, spare, meter),
+        Way::RSplit => make_both(text.rsplit(alloc, pattern), script, spare, meter),
+        Way::RTerminator => make_both(text.rsplit_terminator(alloc, pattern), script, spare, meter),
+        Way::RMatches => make_both(text.rmatches(alloc, pattern), script, spare, meter),
+        Way::SplitN(_) | Way::RSplitN(_) => {
+            make_by_front(alloc, text, way, pattern, script, spare, meter)
+        }
     }
 }
 
