@@ -1,7 +1,31 @@
-# Proves, builds and runs hip_play on standard input.
+# Runs hip_play on standard input before anything is proved: an answer within a minute or two of a fresh clone.
+.PHONY: try
+try:
+	@cd crates/hip_play && rt try
+
+# Proves, builds and runs hip_play on standard input. What was built stays: as long as no source below it changed, it is only run.
+PLAY := crates/hip_play/out/hip_play
+# Two checks side by side where there is memory for both (a check takes up to 4 GB), each of as many jobs as rt chooses.
+SIDE_BY_SIDE := $(shell awk '/^MemAvailable/ { print ($$2 > 10000000 ? 2 : 1) }' /proc/meminfo)
+
 .PHONY: play
 play:
-	@cd crates/hip_play && rt run
+	@$(MAKE) --silent -j $(SIDE_BY_SIDE) $(PLAY) < /dev/null >&2
+	@$(PLAY)
+
+# Each library that hip_play stands on is proved again where one of its own files, or a library below it, changed.
+LIBRARIES := hip_raw hip_match hip_bytes hip_text hip_cuts hip_names hipstr hip_script
+sources = $(wildcard crates.txt) $(shell find $(wildcard crates/$(1)/src crates/$(1)/specs crates/$(1)/proofs))
+below = $(foreach name,$(filter $(LIBRARIES),$(shell sed -n 's/^$(1)://p' crates.txt)),crates/$(name)/out/proved)
+
+define library
+crates/$(1)/out/proved: $(call sources,$(1)) $(call below,$(1))
+	cd crates/$(1) && rt lib && touch out/proved
+endef
+$(foreach name,$(LIBRARIES),$(eval $(call library,$(name))))
+
+$(PLAY): $(call sources,hip_play) $(call below,hip_play)
+	cd crates/hip_play && rt run > /dev/null && touch out/hip_play
 
 # The gate: every proof from nothing, every must-fail edit, every test, every program. Four checks at a time, each in one process: a check
 # in several takes up to a third more processor time.

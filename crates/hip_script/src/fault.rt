@@ -3,6 +3,27 @@ ghost use Rattle.std.specs.Prelude.{◌≡◌, ℕ};
 use std::alloc::{AllocError, AllocFailed};
 use std::fmt;
 
+/// Why a line was not read.
+#[derive(Clone, Copy)]
+pub(crate) enum LineFault {
+    /// It is no command.
+    NotACommand,
+    /// Memory ran out.
+    Memory,
+}
+
+impl From<AllocError> for LineFault {
+    fn from(_refused: AllocError) -> LineFault {
+        LineFault::Memory
+    }
+}
+
+impl<T: Drop> From<AllocFailed<T>> for LineFault {
+    fn from(_refused: AllocFailed<T>) -> LineFault {
+        LineFault::Memory
+    }
+}
+
 /// Why lines that were read were not all played.
 #[derive(Clone, Copy)]
 pub(crate) enum Stop {

@@ -6,10 +6,11 @@
 
 mod fault;
 mod line;
-mod literal;
 pub mod play;
 mod print;
+mod said;
 mod script;
+mod verb;
 mod words;
 
 pub use fault::PlayFault;

@@ -1,7 +1,10 @@
-//! What one line says.
+//! What lines say, with their literals.
 
-use crate::words::Words;
-use hipstr::Command;
+use crate::said::{Said, Sought};
+use crate::script::Script;
+use crate::verb::{Verb, Way};
+use hipstr::{Command, How, Pat};
+use std::str;
 
 /// A line that is no command.
 #[derive(Clone, Copy)]
@@ -12,7 +15,7 @@ pub(crate) enum Aside {
     Copied,
 }
 
-/// What one line says.
+/// What a line says.
 #[derive(Clone, Copy)]
 pub(crate) enum Line<'b> {
     /// A command.
@@ -21,77 +24,92 @@ pub(crate) enum Line<'b> {
     Aside(Aside),
 }
 
-/// Reads the words of a line up to its last one.
-pub(crate) fn read_line<'b>(words: &mut Words<'_, 'b>) -> Option<Line<'b>> {
-    let verb = words.plain()?;
-    let aside = match verb {
-        b"show" => Aside::Show(words.number()?),
-        b"copied" => Aside::Copied,
-        _ => return Some(Line::Command(read_command(verb, words)?)),
-    };
-    Some(Line::Aside(aside))
-}
+impl Script {
+    /// What a line says.
+    pub(crate) fn line(&self, said: &Said) -> Line<'_> {
+        Line::Command(match said.verb {
+            Verb::New => Command::New(said.first),
+            Verb::Inline => Command::Inline(said.first, self.literal(said)),
+            Verb::Borrow => Command::Borrow(said.first, self.literal(said)),
+            Verb::Copy => Command::Copy(said.first, self.literal(said)),
+            Verb::Room => Command::Room(said.first, said.second),
+            Verb::Clone => Command::Clone(said.first, said.second),
+            Verb::Slice => Command::Slice(said.first, said.second, said.low, said.high),
+            Verb::Push => Command::Push(said.first, self.literal(said)),
+            Verb::Pop => Command::Pop(said.first),
+            Verb::Truncate => Command::Truncate(said.first, said.second),
+            Verb::Clear => Command::Clear(said.first),
+            Verb::Shrink => Command::Shrink(said.first, said.second),
+            Verb::Upper => Command::Upper(said.first),
+            Verb::Lower => Command::Lower(said.first),
+            Verb::Set => Command::Set(said.first, said.second, said.byte),
+            Verb::Repeat => Command::Repeat(said.first, said.second, said.third),
+            Verb::Join => Command::Join(said.first, said.second, self.literal(said), said.third),
+            Verb::Mutate => Command::Mutate(said.first, self.literal(said)),
+            Verb::Owned => Command::Owned(said.first),
+            Verb::Text => Command::Text(said.first),
+            Verb::Bytes => Command::Bytes(said.first),
+            Verb::Trim => Command::Trim(said.first, said.second, said.side),
+            Verb::TrimMatches => Command::TrimMatches(
+                said.first,
+                said.second,
+                said.side,
+                self.pattern(said),
+            ),
+            Verb::Strip => Command::Strip(said.first, said.second, said.end, self.pattern(said)),
+            Verb::Pieces => Command::Pieces(
+                said.first,
+                self.how(said),
+                said.ends.of(&self.ends),
+                said.second,
+            ),
+            Verb::Once => Command::Once(
+                said.first,
+                said.second,
+                said.third,
+                said.end,
+                self.pattern(said),
+            ),
+            Verb::Compare => Command::Compare(said.first, said.second),
+            Verb::ComparePath => Command::ComparePath(said.first, said.second),
+            Verb::Len => Command::Len(said.first),
+            Verb::Kind => Command::Kind(said.first),
+            Verb::Capacity => Command::Capacity(said.first),
+            Verb::Show => return Line::Aside(Aside::Show(said.first)),
+            Verb::Copied => return Line::Aside(Aside::Copied),
+        })
+    }
 
-/// Reads what follows the verb of a command.
-fn read_command<'b>(verb: &[u8], words: &mut Words<'_, 'b>) -> Option<Command<'b>> {
-    Some(match verb {
-        b"new" => Command::New(words.number()?),
-        b"inline" => Command::Inline(words.number()?, words.literal()?),
-        b"borrow" => Command::Borrow(words.number()?, words.literal()?),
-        b"copy" => Command::Copy(words.number()?, words.literal()?),
-        b"room" => Command::Room(words.number()?, words.number()?),
-        b"clone" => Command::Clone(words.number()?, words.number()?),
-        b"slice" => {
-            let (s, t) = (words.number()?, words.number()?);
-            let (low, high) = words.range()?;
-            Command::Slice(s, t, low, high)
-        }
-        b"push" => Command::Push(words.number()?, words.literal()?),
-        b"pop" => Command::Pop(words.number()?),
-        b"truncate" => Command::Truncate(words.number()?, words.number()?),
-        b"clear" => Command::Clear(words.number()?),
-        b"shrink" => Command::Shrink(words.number()?, words.number()?),
-        b"upper" => Command::Upper(words.number()?),
-        b"lower" => Command::Lower(words.number()?),
-        b"set" => Command::Set(words.number()?, words.number()?, words.byte()?),
-        b"repeat" => Command::Repeat(words.number()?, words.number()?, words.number()?),
-        b"join" => {
-            let (first, count) = (words.number()?, words.number()?);
-            Command::Join(first, count, words.literal()?, words.number()?)
-        }
-        b"mutate" => Command::Mutate(words.number()?, words.literal()?),
-        b"owned" => Command::Owned(words.number()?),
-        b"text" => Command::Text(words.number()?),
-        b"bytes" => Command::Bytes(words.number()?),
-        b"compare" => Command::Compare(words.number()?, words.number()?),
-        b"comparepath" => Command::ComparePath(words.number()?, words.number()?),
-        b"len" => Command::Len(words.number()?),
-        b"kind" => Command::Kind(words.number()?),
-        b"capacity" => Command::Capacity(words.number()?),
-        _ => return read_cut(verb, words),
-    })
-}
+    /// The bytes of a line's literal.
+    fn literal(&self, said: &Said) -> &[u8] {
+        said.literal.of(&self.bytes)
+    }
 
-/// Reads what follows the verb of a command that cuts a text.
-fn read_cut<'b>(verb: &[u8], words: &mut Words<'_, 'b>) -> Option<Command<'b>> {
-    Some(match verb {
-        b"trim" => Command::Trim(words.number()?, words.number()?, words.side()?),
-        b"trimm" => {
-            let (s, t) = (words.number()?, words.number()?);
-            Command::TrimMatches(s, t, words.side()?, words.pattern()?)
+    /// What a line looks for.
+    fn pattern(&self, said: &Said) -> Pat<'_> {
+        match said.sought {
+            Sought::Text => Pat::Text(str::from_utf8(self.literal(said)).unwrap_or("")),
+            Sought::Char(c) => Pat::Char(c),
+            Sought::Set => Pat::Set(said.literal.of(&self.chars)),
         }
-        b"strip" => {
-            let (s, t) = (words.number()?, words.number()?);
-            Command::Strip(s, t, words.end()?, words.pattern()?)
+    }
+
+    /// How a line takes a text apart.
+    fn how(&self, said: &Said) -> How<'_> {
+        let pattern = self.pattern(said);
+        match said.way {
+            Way::Split => How::Split(pattern),
+            Way::Inclusive => How::Inclusive(pattern),
+            Way::Terminator => How::Terminator(pattern),
+            Way::SplitN => How::SplitN(said.count, pattern),
+            Way::Matches => How::Matches(pattern),
+            Way::RSplit => How::RSplit(pattern),
+            Way::RTerminator => How::RTerminator(pattern),
+            Way::RSplitN => How::RSplitN(said.count, pattern),
+            Way::RMatches => How::RMatches(pattern),
+            Way::Lines => How::Lines,
+            Way::Words => How::Words,
+            Way::AsciiWords => How::AsciiWords,
         }
-        b"pieces" => {
-            let (s, how) = (words.number()?, words.how()?);
-            Command::Pieces(s, how, words.ends()?, words.number()?)
-        }
-        b"once" => {
-            let (s, t, u) = (words.number()?, words.number()?, words.number()?);
-            Command::Once(s, t, u, words.end()?, words.pattern()?)
-        }
-        _ => return None,
-    })
+    }
 }

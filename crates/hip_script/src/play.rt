@@ -4,11 +4,10 @@ ghost use Rattle.hip_script.specs.declared.fault.PlayFault.TheVariants.{NotAComm
 
 use crate::fault::{PlayFault, Stop};
 use crate::line::{Aside, Line};
-use crate::literal::Literals;
 use crate::print::{print_answer, print_literal};
-use crate::script::read_script;
-use hipstr::{Backend, Command, Meter, Pool, run};
-use std::alloc::Global;
+use crate::script::Script;
+use hipstr::{Answer, Backend, Command, Meter, Pool, run};
+use std::alloc::{AllocError, Global};
 use std::io;
 use std::io::{BufWriter, ErrorKind, Read, Write};
 
@@ -27,18 +26,24 @@ pub fn play<B: Backend, R: Read + Drop, W: Write + Drop>(
 ) -> Result<(), PlayFault>
     ensures bad_line { (line : ℕ) → result ≡ Err (NotACommand line) → 0 < line }
 {
+    let script = read_script(alloc, &mut reader)?;
+    let Ok(mut out) = BufWriter::new(alloc, writer) else {
+        return Err(PlayFault::Memory);
+    };
+    let played = play_lines::<B, _>(alloc, &script, &mut out);
+    leave(out, played)?;
+    Ok(())
+}
+
+/// Reads a script whole.
+fn read_script<R: Read>(alloc: Global, reader: &mut R) -> Result<Script, PlayFault>
+    ensures bad_line { (line : ℕ) → result ≡ Err (NotACommand line) → 0 < line }
+{
     let mut input = Vec::new(alloc);
     if let Err(error) = reader.read_to_end(&mut input) {
         return Err(read_fault(&error));
     }
-    let literals = Literals::decode(alloc, input.as_slice())?;
-    let script = read_script(alloc, input.as_slice(), &literals)?;
-    let Ok(mut out) = BufWriter::new(alloc, writer) else {
-        return Err(PlayFault::Memory);
-    };
-    let played = play_lines::<B, _>(alloc, script.as_slice(), &mut out);
-    leave(out, played)?;
-    Ok(())
+    Script::read(alloc, input.as_slice())
 }
 
 /// Why the script could not be read.
@@ -54,14 +59,14 @@ fn read_fault(error: &io::Error) -> PlayFault
 /// Plays all lines. Each list of commands between two other lines is one run.
 fn play_lines<B: Backend, W: Write>(
     alloc: Global,
-    lines: &[Line<'_>],
+    script: &Script,
     out: &mut W,
 ) -> Result<(), Stop> {
     let mut pool = Pool::<B>::new(alloc, SLOTS)?;
     let mut meter = Meter::new();
     let mut commands = Vec::new(alloc);
-    for line in lines {
-        match *line {
+    for said in &script.lines {
+        match script.line(said) {
             Line::Command(command) => commands.push(command)?,
             Line::Aside(aside) => {
                 perform(alloc, &mut pool, commands.as_slice(), &mut meter, out)?;
@@ -81,13 +86,23 @@ fn perform<'b, B: Backend, W: Write>(
     meter: &mut Meter,
     out: &mut W,
 ) -> Result<(), Stop> {
-    let answers = run(alloc, pool, commands, meter)?;
+    let answers = answers_of(alloc, pool, commands, meter)?;
     for answer in &answers {
         if print_answer(out, *answer).is_err() {
             return Err(Stop::WriteFailed);
         }
     }
     Ok(())
+}
+
+/// What commands answer. Printing needs nothing of what [`run`] promises.
+fn answers_of<'b, B: Backend>(
+    alloc: Global,
+    pool: &mut Pool<'b, B>,
+    commands: &[Command<'b>],
+    meter: &mut Meter,
+) -> Result<Vec<Answer>, AllocError> {
+    run(alloc, pool, commands, meter)
 }
 
 /// Prints what a line asks for that is no command.

@@ -1,37 +1,31 @@
 //! The words of a line, with one space between two, and what single words say.
+ghost use Rattle.std.specs.Prelude.{◌<◌, length, IfSome};
 
-use crate::literal::Decoded;
-use hipstr::{End, How, Pat, Side};
+use crate::fault::LineFault;
+use crate::said::Span;
 use memchr::memchr;
 use std::ops::Bound;
-use std::str;
 
 /// What is left of a line.
 #[derive(Drop)]
-pub(crate) struct Words<'l, 'b> {
+pub(crate) struct Words<'l> {
     /// What begins at the next word; `None` after the last one.
     rest: Option<&'l [u8]>,
-    literals: Decoded<'b>,
 }
 
-impl<'l, 'b> Words<'l, 'b> {
-    pub(crate) fn new(line: &'l [u8], literals: Decoded<'b>) -> Self {
-        Words {
-            rest: Some(line),
-            literals,
-        }
+impl<'l> Words<'l> {
+    /// All words of a line.
+    pub(crate) fn new(line: &'l [u8]) -> Self {
+        Words { rest: Some(line) }
     }
 
-    /// The literals that the line left, if no word is left.
-    pub(crate) fn finish(self) -> Option<Decoded<'b>> {
-        match self.rest {
-            None => Some(self.literals),
-            Some(_) => None,
-        }
+    /// Whether no word is left.
+    pub(crate) fn is_empty(&self) -> bool {
+        self.rest.is_none()
     }
 
     /// The next word.
-    pub(crate) fn plain(&mut self) -> Option<&'l [u8]> {
+    pub(crate) fn next(&mut self) -> Option<&'l [u8]> {
         let rest = self.rest?;
         match memchr(b' ', rest) {
             Some(at) => {
@@ -45,9 +39,14 @@ impl<'l, 'b> Words<'l, 'b> {
         }
     }
 
+    /// What the next word is the name of.
+    pub(crate) fn one_of<T: Copy>(&mut self, names: &[(&'static str, T)]) -> Option<T> {
+        named(names, self.next()?)
+    }
+
     /// The next word as a number.
     pub(crate) fn number(&mut self) -> Option<usize> {
-        number(self.plain()?)
+        number(self.next()?)
     }
 
     /// The next word as a number that is at most 255.
@@ -57,108 +56,40 @@ impl<'l, 'b> Words<'l, 'b> {
 
     /// The next word as a range.
     pub(crate) fn range(&mut self) -> Option<(Bound<usize>, Bound<usize>)> {
-        range(self.plain()?)
+        range(self.next()?)
     }
 
-    /// The next word as a literal.
-    pub(crate) fn literal(&mut self) -> Option<&'b [u8]> {
-        let rest = self.rest?;
-        if rest.first() != Some(&b'"') {
-            return None;
-        }
-        let (bytes, after) = self.literals.take(rest)?;
+    /// The next word as a literal: where its bytes stand, which are added to the buffer.
+    pub(crate) fn literal(&mut self, buffer: &mut Vec<u8>) -> Result<Span, LineFault> {
+        let start = buffer.len();
+        let Some(Some((b'"', text))) = self.rest.map(|rest| rest.split_first()) else {
+            return Err(LineFault::NotACommand);
+        };
+        let after = decode(text, buffer)?;
         self.rest = match after.split_first() {
             None => None,
-            Some((b' ', words)) => Some(words),
-            Some(_) => return None,
+            Some((b' ', rest)) => Some(rest),
+            Some(_) => return Err(LineFault::NotACommand),
         };
-        Some(bytes)
-    }
-
-    /// The next word as a literal that is a text.
-    fn text(&mut self) -> Option<&'b str> {
-        str::from_utf8(self.literal()?).ok()
-    }
-
-    /// The next words as what is looked for in a text.
-    pub(crate) fn pattern(&mut self) -> Option<Pat<'b>> {
-        match self.plain()? {
-            b"text" => Some(Pat::Text(self.text()?)),
-            b"char" => Some(Pat::Char(only_char(self.text()?)?)),
-            b"any" => {
-                let count = self.text()?.chars().count();
-                Some(Pat::Set(self.literals.take_set(count)?))
-            }
-            _ => None,
-        }
-    }
-
-    /// The next words as how a text is taken apart.
-    pub(crate) fn how(&mut self) -> Option<How<'b>> {
-        Some(match self.plain()? {
-            b"split" => How::Split(self.pattern()?),
-            b"inclusive" => How::Inclusive(self.pattern()?),
-            b"terminator" => How::Terminator(self.pattern()?),
-            b"splitn" => How::SplitN(self.number()?, self.pattern()?),
-            b"matches" => How::Matches(self.pattern()?),
-            b"rsplit" => How::RSplit(self.pattern()?),
-            b"rterminator" => How::RTerminator(self.pattern()?),
-            b"rsplitn" => How::RSplitN(self.number()?, self.pattern()?),
-            b"rmatches" => How::RMatches(self.pattern()?),
-            b"lines" => How::Lines,
-            b"words" => How::Words,
-            b"asciiwords" => How::AsciiWords,
-            _ => return None,
+        Ok(Span {
+            start,
+            end: buffer.len(),
         })
-    }
-
-    /// The next word as the ends that pieces are drawn from: `-`, or letters `F` and `B`.
-    pub(crate) fn ends(&mut self) -> Option<&'b [End]> {
-        let word = match self.plain()? {
-            b"" => return None,
-            b"-" => return Some(&[]),
-            word => word,
-        };
-        for byte in word {
-            if *byte != b'F' && *byte != b'B' {
-                return None;
-            }
-        }
-        self.literals.take_ends(word.len())
-    }
-
-    /// The next word as an end.
-    pub(crate) fn end(&mut self) -> Option<End> {
-        match self.plain()? {
-            b"front" => Some(End::Front),
-            b"back" => Some(End::Back),
-            _ => None,
-        }
-    }
-
-    /// The next word as a side.
-    pub(crate) fn side(&mut self) -> Option<Side> {
-        match self.plain()? {
-            b"start" => Some(Side::Start),
-            b"end" => Some(Side::End),
-            b"both" => Some(Side::Both),
-            _ => None,
-        }
     }
 }
 
-/// The character of a text that is one.
-fn only_char(text: &str) -> Option<char> {
-    let mut chars = text.chars();
-    let c = chars.next()?;
-    match chars.next() {
-        None => Some(c),
-        Some(_) => None,
+/// What a word is the name of.
+fn named<T: Copy>(names: &[(&'static str, T)], word: &[u8]) -> Option<T> {
+    for (name, named) in names {
+        if name.as_bytes() == word {
+            return Some(*named);
+        }
     }
+    None
 }
 
 /// One or more digits, at most the greatest `usize`.
-pub(crate) fn number(word: &[u8]) -> Option<usize> {
+fn number(word: &[u8]) -> Option<usize> {
     if word.is_empty() {
         return None;
     }
@@ -173,7 +104,7 @@ pub(crate) fn number(word: &[u8]) -> Option<usize> {
 }
 
 /// `a..b`, `a..=b`, `a..`, `..b`, `..=b` or `..`.
-pub(crate) fn range(word: &[u8]) -> Option<(Bound<usize>, Bound<usize>)> {
+fn range(word: &[u8]) -> Option<(Bound<usize>, Bound<usize>)> {
     let at = memchr(b'.', word)?;
     let (low, dots) = word.split_at(at);
     let low = if low.is_empty() {
@@ -188,4 +119,43 @@ pub(crate) fn range(word: &[u8]) -> Option<(Bound<usize>, Bound<usize>)> {
         _ => return None,
     };
     Some((low, high))
+}
+
+/// Adds the bytes of a literal whose first `"` was passed, and gives what follows its last one.
+fn decode<'l>(text: &'l [u8], buffer: &mut Vec<u8>) -> Result<&'l [u8], LineFault> {
+    let mut rest = text;
+    while let Some((first, after)) = rest.split_first() {
+        rest = after;
+        match *first {
+            b'"' => return Ok(rest),
+            b'\\' => {
+                let Some((byte, after)) = unescape(rest) else {
+                    return Err(LineFault::NotACommand);
+                };
+                buffer.push(byte)?;
+                rest = after;
+            }
+            byte => buffer.push(byte)?,
+        }
+    }
+    Err(LineFault::NotACommand)
+}
+
+/// The byte that `\"`, `\\` or `\xHH` stands for, and what follows it. The text begins behind the `\`.
+fn unescape(text: &[u8]) -> Option<(u8, &[u8])>
+    ensures shorter { IfSome result (λ found. length found.1.now < length text.now) }
+{
+    match text {
+        [b'x', high, low, rest @ ..] => Some((hex_digit(*high)? * 16 + hex_digit(*low)?, rest)),
+        [byte @ (b'"' | b'\\'), rest @ ..] => Some((*byte, rest)),
+        _ => None,
+    }
+}
+
+/// The value of a hexadecimal digit of either case.
+fn hex_digit(byte: u8) -> Option<u8>
+    ensures { IfSome result (λ digit. digit < 16) }
+{
+    let digit = char::from(byte).to_digit(16)?;
+    Some(digit as u8)
 }
