@@ -31,7 +31,12 @@ $(PLAY): $(call sources,hip_play) $(call below,hip_play)
 # in several takes up to a third more processor time.
 .PHONY: test
 test:
-	RT_JOBS=$${RT_JOBS:-4} rt ci
+	@bash -c 'TIMEFORMAT="The gate took %U processor seconds, %S more in the system, and %R of wall time."; time RT_JOBS=$${RT_JOBS:-4} rt ci'
+
+# The unit that the gate's processor time is told in (docs/BENCHMARKS.md), on this machine at this hour.
+.PHONY: unit
+unit:
+	@bench/unit.sh
 
 # Measures the handles beside plain vectors, and beside hipstr in Rust where HIPSTR_RS names a checkout of it.
 .PHONY: bench

@@ -7,33 +7,38 @@ use std::io::Write;
 
 /// Prints an answer on a line of its own.
 pub(crate) fn print_answer<W: Write>(out: &mut W, answer: Answer) -> io::Result<()> {
-    let word = match answer {
+    let line: &[u8] = match answer {
         Answer::Number(number) => return writeln!(out, "{number}"),
         Answer::Byte(byte) => return writeln!(out, "byte {byte}"),
         Answer::Char(c) => return writeln!(out, "char {}", u32::from(c)),
         Answer::Refused(reason) => return writeln!(out, "refused {reason:?}"),
-        Answer::Done => "done",
-        Answer::Nothing => "nothing",
-        Answer::Order(Ordering::Less) => "less",
-        Answer::Order(Ordering::Equal) => "equal",
-        Answer::Order(Ordering::Greater) => "greater",
-        Answer::Kind(Kind::Inline) => "inline",
-        Answer::Kind(Kind::Borrowed) => "borrowed",
-        Answer::Kind(Kind::Allocated) => "allocated",
+        Answer::Done => b"done\n",
+        Answer::Nothing => b"nothing\n",
+        Answer::Order(Ordering::Less) => b"less\n",
+        Answer::Order(Ordering::Equal) => b"equal\n",
+        Answer::Order(Ordering::Greater) => b"greater\n",
+        Answer::Kind(Kind::Inline) => b"inline\n",
+        Answer::Kind(Kind::Borrowed) => b"borrowed\n",
+        Answer::Kind(Kind::Allocated) => b"allocated\n",
     };
-    writeln!(out, "{word}")
+    out.write_all(line)
 }
 
 /// Prints bytes as a literal: 0x20 to 0x7E stand for themselves save `\"` and `\\`.
 pub(crate) fn print_literal<W: Write>(out: &mut W, bytes: &[u8]) -> io::Result<()> {
     out.write_all(b"\"")?;
     for byte in bytes {
-        match *byte {
-            b'"' => out.write_all(b"\\\""),
-            b'\\' => out.write_all(b"\\\\"),
-            0x20..=0x7E => out.write_all(&[*byte]),
-            byte => write!(out, "\\x{byte:02x}"),
-        }?;
+        print_byte(out, *byte)?;
     }
     out.write_all(b"\"")
+}
+
+/// Prints a byte of a literal.
+fn print_byte<W: Write>(out: &mut W, byte: u8) -> io::Result<()> {
+    match byte {
+        b'"' => out.write_all(b"\\\""),
+        b'\\' => out.write_all(b"\\\\"),
+        0x20..=0x7E => out.write_all(&[byte]),
+        _ => write!(out, "\\x{byte:02x}"),
+    }
 }
