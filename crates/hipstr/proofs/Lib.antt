@@ -4,3 +4,4 @@ pub mod Parts
 pub mod Places
 pub mod Runs
 pub mod Steps
+pub mod Ways

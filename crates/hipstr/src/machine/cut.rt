@@ -79,12 +79,7 @@ impl<'b, B: Backend> Pool<'b, B> {
             return Err(Reason::NoSlot);
         }
         let text = self.text(s)?;
-        let left = match pattern {
-            Pat::Text(pattern) => text_without(alloc, text, end, pattern, meter)?,
-            Pat::Char(c) => text_without(alloc, text, end, c, meter)?,
-            Pat::Set(set) => text_without(alloc, text, end, set, meter)?,
-        };
-        let Some(left) = left else {
+        let Some(left) = stripped(alloc, text, end, pattern, meter)? else {
             return Ok(Answer::Nothing);
         };
         self.put(t, Slot::Text(left));
@@ -188,6 +183,24 @@ fn trimmed_matches<'b, B: Backend, P: DoubleEndedPattern>(
         Side::Start => text.trim_start_matches_metered(alloc, pattern, meter),
         Side::End => text.trim_end_matches_metered(alloc, pattern, meter),
         Side::Both => text.trim_matches_metered(alloc, pattern, meter),
+    }
+}
+
+/// The text without one occurrence at that end, if there is one.
+fn stripped<'b, B: Backend>(
+    alloc: Global,
+    text: &HipStr<'b, B>,
+    end: End,
+    pattern: Pat<'b>,
+    meter: &mut Meter,
+) -> Result<Option<HipStr<'b, B>>, AllocError>
+    ensures stripped { StripAnswers (λ part. part) (stripped end (occurrences pattern.entry text.now.items) (length text.now.items)) text.now result }
+    ensures counted { StripCosts B.SHARES (stripped end (occurrences pattern.entry text.now.items) (length text.now.items)) text.now meter.old meter.new }
+{
+    match pattern {
+        Pat::Text(pattern) => text_without(alloc, text, end, pattern, meter),
+        Pat::Char(c) => text_without(alloc, text, end, c, meter),
+        Pat::Set(set) => text_without(alloc, text, end, set, meter),
     }
 }
 

@@ -4,7 +4,7 @@ ghost use Rattle.hip_match.specs.Draw.{draw};
 ghost use Rattle.hip_match.specs.declared.draw.End.{End};
 ghost use Rattle.hipstr.specs.Cut.{has_back, has_one_end, occurrences, pieces_of};
 ghost use Rattle.hipstr.specs.Parts.{DrawsPart, HasRoom, MakesParts};
-ghost use Rattle.hipstr.specs.Ways.{goes_one_way, is_counted, pieces_by};
+ghost use Rattle.hipstr.specs.Ways.{goes_one_way, is_counted, pieces_by, pieces_walked, walked_of, walks_one_way};
 ghost use Rattle.hipstr.specs.Slot.{state_of, empty_slot};
 
 use crate::command::{How, Pat};
@@ -30,53 +30,56 @@ pub(super) fn make_parts<'b, B: Backend>(
     requires room { HasRoom script.now (map state_of spare.old) }
     ensures { MakesParts B.SHARES text.now (draw (pieces_of how.entry text.now.items) script.now) (map state_of spare.old) result (map state_of spare.new) meter.old meter.new }
 {
+    make_walked(alloc, text, walked_of(how), script, spare, meter)
+}
+
+/// What is walked over: the parts by a pattern, or those by white space.
+#[derive(Clone, Copy)]
+enum Walked<'b> {
+    By(Way, Pat<'b>),
+    Lines,
+    Words,
+    AsciiWords,
+}
+
+/// What a way to take a text apart walks over.
+fn walked_of(how: How<'_>) -> Walked<'_>
+    ensures { result ≡ walked_of how.entry }
+{
     match how {
-        How::Split(pattern) => make_by(alloc, text, Way::Split, pattern, script, spare, meter),
-        How::Inclusive(pattern) => {
-            make_by(alloc, text, Way::Inclusive, pattern, script, spare, meter)
-        }
-        How::Terminator(pattern) => {
-            make_by(alloc, text, Way::Terminator, pattern, script, spare, meter)
-        }
-        How::SplitN(count, pattern) => {
-            make_by(
-                alloc,
-                text,
-                Way::SplitN(count),
-                pattern,
-                script,
-                spare,
-                meter,
-            )
-        }
-        How::Matches(pattern) => make_by(alloc, text, Way::Matches, pattern, script, spare, meter),
-        How::RSplit(pattern) => make_by(alloc, text, Way::RSplit, pattern, script, spare, meter),
-        How::RTerminator(pattern) => {
-            make_by(alloc, text, Way::RTerminator, pattern, script, spare, meter)
-        }
-        How::RSplitN(count, pattern) => {
-            make_by(
-                alloc,
-                text,
-                Way::RSplitN(count),
-                pattern,
-                script,
-                spare,
-                meter,
-            )
-        }
-        How::RMatches(pattern) => make_by(
-            alloc,
-            text,
-            Way::RMatches,
-            pattern,
-            script,
-            spare,
-            meter,
-        ),
-        How::Lines => make_both(text.lines(alloc), script, spare, meter),
-        How::Words => make_both(text.split_whitespace(alloc), script, spare, meter),
-        How::AsciiWords => make_both(text.split_ascii_whitespace(alloc), script, spare, meter),
+        How::Split(pattern) => Walked::By(Way::Split, pattern),
+        How::Inclusive(pattern) => Walked::By(Way::Inclusive, pattern),
+        How::Terminator(pattern) => Walked::By(Way::Terminator, pattern),
+        How::SplitN(count, pattern) => Walked::By(Way::SplitN(count), pattern),
+        How::Matches(pattern) => Walked::By(Way::Matches, pattern),
+        How::RSplit(pattern) => Walked::By(Way::RSplit, pattern),
+        How::RTerminator(pattern) => Walked::By(Way::RTerminator, pattern),
+        How::RSplitN(count, pattern) => Walked::By(Way::RSplitN(count), pattern),
+        How::RMatches(pattern) => Walked::By(Way::RMatches, pattern),
+        How::Lines => Walked::Lines,
+        How::Words => Walked::Words,
+        How::AsciiWords => Walked::AsciiWords,
+    }
+}
+
+/// Makes the pieces of what is walked over.
+fn make_walked<'b, B: Backend>(
+    alloc: Global,
+    text: &HipStr<'b, B>,
+    walked: Walked<'b>,
+    script: &[End],
+    spare: &mut [Slot<'b, B>],
+    meter: &mut Meter,
+) -> Result<usize, AllocError>
+    requires ends { (walks_one_way walked && has_back script.now) ≡ false }
+    requires room { HasRoom script.now (map state_of spare.old) }
+    ensures { MakesParts B.SHARES text.now (draw (pieces_walked walked.entry text.now.items) script.now) (map state_of spare.old) result (map state_of spare.new) meter.old meter.new }
+{
+    match walked {
+        Walked::By(way, pattern) => make_by(alloc, text, way, pattern, script, spare, meter),
+        Walked::Lines => make_both(text.lines(alloc), script, spare, meter),
+        Walked::Words => make_both(text.split_whitespace(alloc), script, spare, meter),
+        Walked::AsciiWords => make_both(text.split_ascii_whitespace(alloc), script, spare, meter),
     }
 }
 
