@@ -4,6 +4,7 @@
 //! - `cuts`: texts that are cut once.
 //! - `ways`: each way to take a text apart, by every script of up to six ends.
 //! - `own_backend`: the same on a backend that a user wrote.
+//! - `user`: functions of a pattern and over a closure, and a struct that keeps a walk, by the names of hipstr alone.
 //!
 //! What costs the check and what saves it is told in `hip_bytes_tests`.
 #![tactic(auto)]
@@ -14,5 +15,7 @@ mod cuts;
 mod own_backend;
 #[cfg(test)]
 mod sessions;
+#[cfg(test)]
+mod user;
 #[cfg(test)]
 mod ways;

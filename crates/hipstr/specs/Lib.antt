@@ -30,3 +30,17 @@ pub use Rattle.hip_bytes.specs.Sources
 pub use Rattle.hip_bytes.specs.Transfer
 pub use Rattle.hip_text.specs.BorshText
 pub use Rattle.hip_names.specs.JsonPath
+pub use Rattle.hip_match.specs.Answers
+pub use Rattle.hip_match.specs.Characters
+pub use Rattle.hip_match.specs.Draw
+pub use Rattle.hip_match.specs.Joined
+pub use Rattle.hip_match.specs.Leftmost
+pub use Rattle.hip_match.specs.Occurrence
+pub use Rattle.hip_match.specs.Pieces
+pub use Rattle.hip_match.specs.Ready
+pub use Rattle.hip_match.specs.Rightmost
+pub use Rattle.hip_match.specs.Runs
+pub use Rattle.hip_match.specs.Texts
+pub use Rattle.hip_match.specs.Trims
+pub use Rattle.hip_cuts.specs.Cut as Trimmed
+pub use Rattle.hip_cuts.specs.Piece

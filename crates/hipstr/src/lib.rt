@@ -7,7 +7,7 @@
 //!
 //! [`bytes`] has the byte strings themselves, [`HipByt`](bytes::HipByt) generic in the [`Backend`]: owners are shared on [`Rc`],
 //! and not on [`Unique`]. [`string`] has the texts, [`HipStr`](string::HipStr): byte strings that are UTF-8, with the
-//! calls that take them apart. [`os_string`] has the OS strings, [`HipOsStr`](os_string::HipOsStr), which needn't be UTF-8, and [`path`] the
+//! calls that take them apart, and [`pattern`] what these look for and the iterators that pieces come from. [`os_string`] has the OS strings, [`HipOsStr`](os_string::HipOsStr), which needn't be UTF-8, and [`path`] the
 //! paths, [`HipPath`](path::HipPath), which are compared by their components. Anyone may implement [`Backend`]; the names that this takes,
 //! and the three representations of a byte string ([`Inline`], [`Borrowed`], [`Allocated`]), are handed on here.
 //!
@@ -23,6 +23,7 @@ mod command;
 mod machine;
 pub mod os_string;
 pub mod path;
+pub mod pattern;
 mod pool;
 pub mod string;
 mod text;

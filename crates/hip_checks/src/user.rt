@@ -1,0 +1,112 @@
+//! What a user writes who names `hipstr` alone: functions of a pattern and over a closure, with clauses that cite what a call is said to
+//! give, and a struct that keeps a walk.
+ghost use Rattle.std.specs.Prelude.{◌≡◌, ◌==◌, ℕ, IfOk, length};
+ghost use Rattle.std.specs.Char.{IsScalar, is_ascii_digit};
+ghost use Rattle.hipstr.specs.Answers.{answer_at};
+ghost use Rattle.hipstr.specs.Characters.{char_ends};
+ghost use Rattle.hipstr.specs.Piece.{AreParts};
+ghost use Rattle.hipstr.specs.Pieces.{split};
+
+use hipstr::pattern::{CharPred, Chosen, Pattern, Split, choose_by};
+use hipstr::string::{HipStr, IterWrapper, Pieces, TextCuts, Walk};
+use hipstr::{Backend, Rc, Unique};
+use std::alloc::{AllocError, Global};
+
+/// The parts of a text between the occurrences of a pattern.
+fn parts<'b, B: Backend, P: Pattern>(
+    alloc: Global,
+    text: &HipStr<'b, B>,
+    pattern: P,
+) -> Result<Vec<HipStr<'b, B>>, AllocError>
+    requires { P.can_search pattern }
+    ensures { IfOk result (λ parts. AreParts text.now (split (P.ends pattern text.now.items) (length text.now.items)) parts.items) }
+{
+    text.split(alloc, pattern).collect()
+}
+
+/// The fields of a line.
+fn fields<'b, B: Backend>(
+    alloc: Global,
+    line: &HipStr<'b, B>,
+) -> Result<Vec<HipStr<'b, B>>, AllocError>
+    ensures { IfOk result (λ fields. AreParts line.now (split (char_ends (λ c. c == 44) line.now.items) (length line.now.items)) fields.items) }
+{
+    parts(alloc, line, ',')
+}
+
+/// That the digits pass.
+fn chosen_digits() -> Chosen
+    ensures { (c : ℕ) → IsScalar c → answer_at result.answers c ≡ is_ascii_digit c }
+{
+    choose_by(&())
+}
+
+/// The parts of a text between its digits.
+fn between_digits<'b, B: Backend>(
+    alloc: Global,
+    text: &HipStr<'b, B>,
+) -> Result<Vec<HipStr<'b, B>>, AllocError> {
+    let digits = CharPred::with(|c| c.is_ascii_digit(), chosen_digits());
+    parts(alloc, text, digits)
+}
+
+/// The fields of a line that are left, and how many were drawn.
+#[derive(Drop)]
+struct Reader<'h, 'b, B: Backend> {
+    fields: IterWrapper<'h, 'b, B, Split<'h, char>>,
+    drawn: usize,
+}
+
+impl<'h, 'b, B: Backend> Reader<'h, 'b, B> {
+    /// The length of the next field, if there is one and memory for it.
+    fn next_len(&mut self) -> Option<usize>
+        requires { ⟦<Pieces<'h, HipStr<'b, B>, Split<'h, char>> as Walk>⟧.ready self.old.fields }
+    {
+        let field = self.fields.next()?.ok()?;
+        self.drawn = self.drawn.saturating_add(1);
+        Some(field.len())
+    }
+}
+
+/// Whether the texts are these.
+fn are<B: Backend>(texts: &Result<Vec<HipStr<'_, B>>, AllocError>, expected: &[&str]) -> bool {
+    let Ok(texts) = texts else {
+        return false;
+    };
+    if texts.len() != expected.len() {
+        return false;
+    }
+    for i in 0..texts.len() {
+        if texts[i].as_str() != expected[i] {
+            return false;
+        }
+    }
+    true
+}
+
+/// Whether a reader gives the first field and counts it.
+fn reads_one<B: Backend>(alloc: Global, line: &HipStr<'_, B>) -> bool {
+    let mut reader = Reader {
+        fields: line.split(alloc, ','),
+        drawn: 0,
+    };
+    reader.next_len() == Some(2) && reader.drawn == 1
+}
+
+fn reads<B: Backend>(alloc: Global) -> bool {
+    let line = HipStr::<B>::borrowed("ab,,c1d");
+    reads_one(alloc, &line)
+        & are(&fields(alloc, &line), &["ab", "", "c1d"])
+        & are(&between_digits(alloc, &line), &["ab,,c", "d"])
+        & are(&parts(alloc, &line, ",,"), &["ab", "c1d"])
+}
+
+#[test]
+fn on_rc(rt: HostRuntime) {
+    assert!(rt; reads::<Rc>(rt.alloc()));
+}
+
+#[test]
+fn on_unique(rt: HostRuntime) {
+    assert!(rt; reads::<Unique>(rt.alloc()));
+}
