@@ -1,5 +1,6 @@
 pub mod Amortised
 pub mod Cut
+pub mod Little
 pub mod Parts
 pub mod Slot
 pub mod Step

@@ -20,6 +20,7 @@
 
 pub mod bytes;
 mod command;
+pub mod laws;
 mod machine;
 pub mod os_string;
 pub mod path;

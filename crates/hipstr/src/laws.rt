@@ -1,0 +1,15 @@
+//! Laws of the machine. Each function does nothing; its contract is the law.
+ghost use Rattle.std.specs.Prelude.{ℕ, true, List};
+ghost use Rattle.hipstr.specs.Little.{CopiesLittle};
+ghost use Rattle.hipstr.specs.Slot.{SlotState};
+ghost use Rattle.hipstr.specs.Step.{Costs};
+
+use crate::command::Command;
+
+/// Where owners are shared, a clone, a slice, a trim or a strip costs at most the 23 bytes that a handle holds itself, whatever its
+/// source holds; a text that is parted in two that for each of its parts, and pieces for each that is drawn; and each of them nothing
+/// where the source is borrowed. With the contract of [`run`](crate::run), whose meter rises by no more than these costs, that is what a
+/// list of commands copies.
+pub fn parts_copy_little(command: Command<'_>)
+    ensures { (slots : List SlotState) (cost : ℕ) → Costs true slots command.entry cost → CopiesLittle slots command.entry cost }
+{}
