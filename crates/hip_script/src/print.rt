@@ -1,6 +1,7 @@
 //! How answers and bytes are printed.
 
-use hipstr::{Answer, Kind};
+use hipstr::string::HipStr;
+use hipstr::{Answer, Backend, Kind};
 use std::cmp::Ordering;
 use std::io;
 use std::io::Write;
@@ -36,4 +37,25 @@ pub(crate) fn print_literal<W: Write>(out: &mut W, bytes: &[u8]) -> io::Result<(
         }?;
     }
     out.write_all(b"\"")
+}
+
+/// Prints records, each on a line of its own.
+pub(crate) fn print_records<B: Backend, W: Write>(
+    out: &mut W,
+    records: &[Vec<HipStr<'_, B>>],
+) -> io::Result<()> {
+    for fields in records {
+        print_record(out, fields)?;
+    }
+    Ok(())
+}
+
+/// Prints a record: its fields as literals, each after one space.
+fn print_record<B: Backend, W: Write>(out: &mut W, fields: &[HipStr<'_, B>]) -> io::Result<()> {
+    out.write_all(b"record")?;
+    for field in fields {
+        out.write_all(b" ")?;
+        print_literal(out, field.as_bytes())?;
+    }
+    writeln!(out)
 }
