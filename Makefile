@@ -50,3 +50,9 @@ walks:
 leaks:
 	@cd crates/hip_play && rt run < /dev/null > /dev/null
 	@bench/leaks.sh
+
+# Runs each scenario of hip_refused_tests again and again, with one request for memory refused, each in turn.
+.PHONY: refuse
+refuse:
+	@cd crates/hip_refused_tests && rt test > /dev/null
+	@bench/refuse.sh
