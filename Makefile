@@ -14,7 +14,7 @@ play:
 	@$(PLAY)
 
 # Each library that hip_play stands on is proved again where one of its own files, or a library below it, changed.
-LIBRARIES := hip_raw hip_match hip_bytes hip_text hip_cuts hip_names hipstr hip_script
+LIBRARIES := hip_raw hip_match hip_bytes hip_text hip_cuts hip_fields hip_names hipstr hip_script
 sources = $(wildcard crates.txt) $(shell find $(wildcard crates/$(1)/src crates/$(1)/specs crates/$(1)/proofs))
 below = $(foreach name,$(filter $(LIBRARIES),$(shell sed -n 's/^$(1)://p' crates.txt)),crates/$(name)/out/proved)
 
@@ -55,3 +55,9 @@ walks:
 leaks:
 	@cd crates/hip_play && rt run < /dev/null > /dev/null
 	@bench/leaks.sh
+
+# Runs each scenario of hip_refused_tests again and again, with one request for memory refused, each in turn.
+.PHONY: refuse
+refuse:
+	@cd crates/hip_refused_tests && rt test > /dev/null
+	@bench/refuse.sh

@@ -11,6 +11,7 @@ pub enum Input {
     Page,
     Mebibyte,
     Words,
+    Records,
 }
 
 impl Input {
@@ -31,6 +32,15 @@ impl Input {
                 let words: Vec<String> = (0..10_000).map(|k| format!("word{k:x}")).collect();
                 let drawn: Vec<&str> = (0..100_000).map(|_| words[next(10_000) as usize].as_str()).collect();
                 return drawn.join(" ").into_bytes();
+            }
+            Input::Records => {
+                let mut lines = String::new();
+                while (lines.len() as u64) < MEBIBYTE {
+                    let fields: Vec<String> = (0..8).map(|_| "abcdefghijklmnopqrstuvwxyz-0123456789"[..next(37) as usize].into()).collect();
+                    lines += &fields.join(",");
+                    lines.push('\n');
+                }
+                return lines.into_bytes();
             }
         };
         (0..len).map(|_| b' ' + next(95) as u8).collect()
@@ -181,6 +191,21 @@ macro_rules! numbered {
     }};
 }
 
+/// Each round takes the fields of each line, which are kept until those of the next are there.
+fn records<'a, V: Bytes<'a>>(text: V, rounds: u64) -> u64 {
+    let whole = std::str::from_utf8(text.bytes()).unwrap_or("");
+    let place = |field: &str| field.as_ptr() as usize - whole.as_ptr() as usize;
+    let (mut sum, mut kept) = (0, Vec::<V>::new());
+    for _ in 0..rounds {
+        for line in whole.lines() {
+            kept = line.split(',').map(|field| text.part(place(field)..place(field) + field.len())).collect();
+            let len: usize = kept.iter().map(|field| field.bytes().len()).sum();
+            sum = mix(mix(sum, kept.len() as u64), len as u64);
+        }
+    }
+    kept.iter().fold(sum, |sum, field| look(sum, field.bytes()))
+}
+
 pub struct Row {
     pub name: &'static str,
     pub input: Input,
@@ -249,6 +274,8 @@ lines! {
     Row |i, r| compared(i, 10, r, |a: &V, b: &V| (a.cmp(b) as i8 + 1) as u64) => hip_cmp10 Rc;
     Row |i, r| compared(i, 1024, r, |a: &V, b: &V| (a == b) as u64) => hip_eq1k Rc;
     Row |i, r| compared(i, 1024, r, |a: &V, b: &V| (a.cmp(b) as i8 + 1) as u64) => hip_cmp1k Rc;
+    Records |i, r| records(V::copied(i), r) => hip_records Rc;
+    Records |i, r| records(V::lent(i), r) => hip_records_borrowed Rc;
     Words |i, r| numbered!(HashMap, V, i, r) => hip_intern_hash Rc;
     Words |i, r| numbered!(BTreeMap, V, i, r) => hip_intern_btree Rc;
 }

@@ -194,6 +194,51 @@ fn kinds(rt: HostRuntime) {
     print::<Unique>(&rt, rt.alloc(), kind_rows());
 }
 
+/// Records of fields, on either backend.
+fn record_rows() -> &'static [Row] {
+    &[
+        (
+            "borrow 0 \"a,b\\x0A\\x0Ac,,d\\x0D\\x0A\"\ntext 0\nfields 0 \",\"\ncopied\nfields 1 \",\"\nfields 16 \",\"\n",
+            "done\ndone\nrecord \"a\" \"b\"\nrecord \"\"\nrecord \"c\" \"\" \"d\"\n0\nrefused NotText\nrefused NoSlot\n",
+        ),
+        // No line, no record; a line that is empty is one, of one field.
+        (
+            "text 0\nfields 0 \",\"\npush 0 \"\\x0A\"\nfields 0 \",\"\ncopied\n",
+            "done\ndone\nrecord \"\"\n1\n",
+        ),
+        // At a line feed a record has one field, its line; at a return, those that end no line stand between fields.
+        (
+            "borrow 0 \"a\\x0D\\x0Ab\\x0Dc\\x0D\"\ntext 0\nfields 0 \"\\x0A\"\nfields 0 \"\\x0d\"\nfields 0 \",\"\n",
+            "done\ndone\nrecord \"a\"\nrecord \"b\\x0dc\\x0d\"\nrecord \"a\"\nrecord \"b\" \"c\" \"\"\nrecord \"a\"\nrecord \"b\\x0dc\\x0d\"\n",
+        ),
+        // A character of four bytes.
+        (
+            "borrow 0 \"a\\xF0\\x9F\\x8C\\x8D\\x0A\\xF0\\x9F\\x8C\\x8Eb\"\ntext 0\nfields 0 \"\\xF0\\x9F\\x8C\\x8D\"\n",
+            "done\ndone\nrecord \"a\" \"\"\nrecord \"\\xf0\\x9f\\x8c\\x8eb\"\n",
+        ),
+        // The meter is the script's; a line of fields is no command, and the text is as it was.
+        (
+            "copy 0 \"a,\\\"\\\\\"\ntext 0\nfields 0 \",\"\nshow 0\ncopied\n",
+            "done\ndone\nrecord \"a\" \"\\\"\\\\\"\ntext \"a,\\\"\\\\\"\n7\n",
+        ),
+    ]
+}
+
+const LONG_FIELD: &str =
+    "copy 0 \"aaaaaaaaaaaaaaaaaaaaaaaaaaaaaaaaaaaaaaaa,bc\\x0A\"\ntext 0\ncopied\nfields 0 \",\"\ncopied\n";
+
+/// A field of 40 bytes copies none where owners are shared, one of 2 bytes its own.
+#[test]
+fn records(rt: HostRuntime) {
+    print::<Rc>(&rt, rt.alloc(), record_rows());
+    print::<Unique>(&rt, rt.alloc(), record_rows());
+    let on_rc = "done\ndone\n44\nrecord \"aaaaaaaaaaaaaaaaaaaaaaaaaaaaaaaaaaaaaaaa\" \"bc\"\n46\n";
+    let on_unique =
+        "done\ndone\n44\nrecord \"aaaaaaaaaaaaaaaaaaaaaaaaaaaaaaaaaaaaaaaa\" \"bc\"\n86\n";
+    print::<Rc>(&rt, rt.alloc(), &[(LONG_FIELD, on_rc)]);
+    print::<Unique>(&rt, rt.alloc(), &[(LONG_FIELD, on_unique)]);
+}
+
 /// What writes over a value, makes one of another, or compares two.
 fn growth_rows() -> &'static [Row] {
     &[

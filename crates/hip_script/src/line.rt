@@ -13,6 +13,8 @@ pub(crate) enum Aside {
     Show(usize),
     /// Prints how many bytes were copied so far.
     Copied,
+    /// Prints the records of the slot's text, whose fields lie between such characters.
+    Fields(usize, char),
 }
 
 /// What a line says.
@@ -77,6 +79,7 @@ impl Script {
             Verb::Capacity => Command::Capacity(said.first),
             Verb::Show => return Line::Aside(Aside::Show(said.first)),
             Verb::Copied => return Line::Aside(Aside::Copied),
+            Verb::Fields => return Line::Aside(Aside::Fields(said.first, said.separator)),
         })
     }
 

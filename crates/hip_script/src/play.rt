@@ -4,9 +4,11 @@ ghost use Rattle.hip_script.specs.declared.fault.PlayFault.TheVariants.{NotAComm
 
 use crate::fault::{PlayFault, Stop};
 use crate::line::{Aside, Line};
-use crate::print::{print_answer, print_literal};
+use crate::print::{print_answer, print_literal, print_records};
 use crate::script::Script;
-use hipstr::{Answer, Backend, Command, Meter, Pool, run};
+use hip_fields::records_metered;
+use hipstr::string::HipStr;
+use hipstr::{Answer, Backend, Command, Meter, Pool, Reason, Slot, run};
 use std::alloc::{AllocError, Global};
 use std::io;
 use std::io::{BufWriter, ErrorKind, Read, Write};
@@ -71,7 +73,7 @@ fn play_lines<B: Backend, W: Write>(
             Line::Aside(aside) => {
                 perform(alloc, &mut pool, commands.as_slice(), &mut meter, out)?;
                 commands.clear();
-                tell(&pool, &meter, aside, out)?;
+                tell(alloc, &pool, &mut meter, aside, out)?;
             }
         }
     }
@@ -107,14 +109,19 @@ fn answers_of<'b, B: Backend>(
 
 /// Prints what a line asks for that is no command.
 fn tell<B: Backend, W: Write>(
+    alloc: Global,
     pool: &Pool<'_, B>,
-    meter: &Meter,
+    meter: &mut Meter,
     aside: Aside,
     out: &mut W,
 ) -> Result<(), Stop> {
     let told = match aside {
         Aside::Show(slot) => show(pool, slot, out),
         Aside::Copied => writeln!(out, "{}", meter.copied()),
+        Aside::Fields(slot, separator) => match records_of(alloc, pool, slot, separator, meter) {
+            Ok(records) => print_records(out, &records),
+            Err(reason) => print_answer(out, Answer::Refused(reason)),
+        },
     };
     told.map_err(|_| Stop::WriteFailed)
 }
@@ -127,6 +134,23 @@ fn show<B: Backend, W: Write>(pool: &Pool<'_, B>, slot: usize, out: &mut W) -> i
     out.write_all(if slot.is_text() { b"text " } else { b"bytes " })?;
     print_literal(out, slot.as_bytes())?;
     writeln!(out)
+}
+
+/// The records of a slot's text. Printing needs nothing of what [`records_metered`] promises.
+fn records_of<'b, B: Backend>(
+    alloc: Global,
+    pool: &Pool<'b, B>,
+    slot: usize,
+    separator: char,
+    meter: &mut Meter,
+) -> Result<Vec<Vec<HipStr<'b, B>>>, Reason> {
+    match pool.slot(slot) {
+        Some(Slot::Text(text)) => {
+            records_metered(alloc, text, separator, meter).map_err(|_| Reason::Memory)
+        }
+        Some(Slot::Bytes(_)) => Err(Reason::NotText),
+        None => Err(Reason::NoSlot),
+    }
 }
 
 /// Writes what waits in the buffer, but nothing more after a failed write.

@@ -1,6 +1,7 @@
 //! How answers and bytes are printed.
 
-use hipstr::{Answer, Kind};
+use hipstr::string::HipStr;
+use hipstr::{Answer, Backend, Kind};
 use std::cmp::Ordering;
 use std::io;
 use std::io::Write;
@@ -41,4 +42,25 @@ fn print_byte<W: Write>(out: &mut W, byte: u8) -> io::Result<()> {
         0x20..=0x7E => out.write_all(&[byte]),
         _ => write!(out, "\\x{byte:02x}"),
     }
+}
+
+/// Prints records, each on a line of its own.
+pub(crate) fn print_records<B: Backend, W: Write>(
+    out: &mut W,
+    records: &[Vec<HipStr<'_, B>>],
+) -> io::Result<()> {
+    for fields in records {
+        print_record(out, fields)?;
+    }
+    Ok(())
+}
+
+/// Prints a record: its fields as literals, each after one space.
+fn print_record<B: Backend, W: Write>(out: &mut W, fields: &[HipStr<'_, B>]) -> io::Result<()> {
+    out.write_all(b"record")?;
+    for field in fields {
+        out.write_all(b" ")?;
+        print_literal(out, field.as_bytes())?;
+    }
+    writeln!(out)
 }

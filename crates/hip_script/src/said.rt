@@ -47,6 +47,8 @@ pub(crate) struct Said {
     pub(crate) way: Way,
     pub(crate) count: usize,
     pub(crate) sought: Sought,
+    /// The character between fields.
+    pub(crate) separator: char,
     /// Where the literal's bytes stand, or of a set its characters.
     pub(crate) literal: Span,
     /// Where the ends stand that pieces are drawn from.
@@ -69,6 +71,7 @@ impl Said {
             way: Way::Lines,
             count: 0,
             sought: Sought::Text,
+            separator: ',',
             literal: Span::EMPTY,
             ends: Span::EMPTY,
         }

@@ -105,6 +105,7 @@ impl Script {
     ) -> Result<(), LineFault> {
         match word {
             Word::Literal => self.read_literal(words, said),
+            Word::Separator => self.read_separator(words, said),
             Word::Pattern => self.read_pattern(words, said),
             Word::Way => self.read_way(words, said),
             Word::Ends => self.read_ends(words, said),
@@ -118,18 +119,21 @@ impl Script {
         Ok(())
     }
 
+    /// Reads the character between fields.
+    fn read_separator(&mut self, words: &mut Words<'_>, said: &mut Said) -> Result<(), LineFault> {
+        said.literal = words.literal(&mut self.bytes)?;
+        said.separator = only_char(text_of(said.literal.of(&self.bytes))?)?;
+        Ok(())
+    }
+
     /// Reads what is looked for in a text.
     fn read_pattern(&mut self, words: &mut Words<'_>, said: &mut Said) -> Result<(), LineFault> {
         let kind = words.one_of(KINDS).ok_or(LineFault::NotACommand)?;
         said.literal = words.literal(&mut self.bytes)?;
-        let Ok(text) = str::from_utf8(said.literal.of(&self.bytes)) else {
-            return Err(LineFault::NotACommand);
-        };
+        let text = text_of(said.literal.of(&self.bytes))?;
         match kind {
             Kind::Text => said.sought = Sought::Text,
-            Kind::Char => {
-                said.sought = Sought::Char(only_char(text).ok_or(LineFault::NotACommand)?);
-            }
+            Kind::Char => said.sought = Sought::Char(only_char(text)?),
             Kind::Any => {
                 said.sought = Sought::Set;
                 said.literal = add_chars(&mut self.chars, text)?;
@@ -208,12 +212,16 @@ fn add_chars(chars: &mut Vec<char>, text: &str) -> Result<Span, AllocError> {
     })
 }
 
+/// Bytes as the text that they are.
+fn text_of(bytes: &[u8]) -> Result<&str, LineFault> {
+    str::from_utf8(bytes).map_err(|_| LineFault::NotACommand)
+}
+
 /// The character of a text that is one.
-fn only_char(text: &str) -> Option<char> {
+fn only_char(text: &str) -> Result<char, LineFault> {
     let mut chars = text.chars();
-    let c = chars.next()?;
-    match chars.next() {
-        None => Some(c),
-        Some(_) => None,
+    match (chars.next(), chars.next()) {
+        (Some(c), None) => Ok(c),
+        _ => Err(LineFault::NotACommand),
     }
 }

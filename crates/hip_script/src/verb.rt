@@ -38,9 +38,10 @@ pub(crate) enum Verb {
     Len,
     Kind,
     Capacity,
-    // These two are no commands.
+    // These three are no commands.
     Show,
     Copied,
+    Fields,
 }
 
 /// What a word says, or the few words of a pattern and of a way.
@@ -62,6 +63,8 @@ pub(crate) enum Word {
     End,
     /// Bytes between two `"`.
     Literal,
+    /// The character between fields: a literal that is just one.
+    Separator,
     /// A word for a pattern, and its literal.
     Pattern,
     /// A word for a way to take a text apart, and what it needs.
@@ -105,6 +108,7 @@ pub(crate) const VERBS: &[(&str, Verb)] = &[
     ("capacity", Verb::Capacity),
     ("show", Verb::Show),
     ("copied", Verb::Copied),
+    ("fields", Verb::Fields),
 ];
 
 impl Verb {
@@ -149,6 +153,7 @@ impl Verb {
                 Word::Pattern,
             ],
             Verb::Copied => &[],
+            Verb::Fields => &[Word::First, Word::Separator],
         }
     }
 }

@@ -1,0 +1,36 @@
+//! The fields of one line.
+ghost use Rattle.std.specs.Prelude.{◌≡◌, slice_range, IfOk};
+ghost use Rattle.hip_text.specs.Meter.{RisesAtMost};
+ghost use Rattle.hip_match.specs.Joined.{parts};
+ghost use Rattle.hip_match.specs.Occurrence.{IsCut};
+ghost use Rattle.hip_fields.specs.Records.{AreFields, fields_cost};
+
+use hip_cuts::hip_match::ranges::Ranges;
+use hip_cuts::{Backend, HipStr, Meter};
+use hip_text::laws::slice_of_slice;
+use std::alloc::{AllocError, Global};
+
+/// The parts of a text at ranges of one of its lines, which lies from `start` up to `end`.
+pub(crate) fn fields_at<'b, B: Backend, I: Ranges + Drop>(
+    alloc: Global,
+    source: &HipStr<'b, B>,
+    start: usize,
+    end: usize,
+    mut ranges: I,
+    meter: &mut Meter,
+) -> Result<Vec<HipStr<'b, B>>, AllocError>
+    requires cut { IsCut source.now.items (start, end) }
+    requires ready { I.ready ranges }
+    requires text { I.text ranges ≡ slice_range source.now.items start end }
+    ensures fields { IfOk result (λ fields.
+        AreFields source.now (parts (slice_range source.now.items start end) (I.rest ranges)) fields.items) }
+    ensures counted { RisesAtMost meter.old meter.new
+        (fields_cost B.SHARES source.now.kind (parts (slice_range source.now.items start end) (I.rest ranges))) }
+{
+    let mut fields = Vec::new(alloc);
+    while let Some((from, to)) = ranges.next() {
+        slice_of_slice(source.as_str(), start, end, from, to);
+        fields.push(source.part_metered(alloc, start + from, start + to, meter)?)?;
+    }
+    Ok(fields)
+}

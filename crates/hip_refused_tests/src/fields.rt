@@ -1,0 +1,127 @@
+//! Records of fields: want of memory is told just where a request was refused, and the text is as it was.
+use crate::refusing::{each, must, refuse, was_refused};
+use hip_cuts::hip_match::ranges::Ranges;
+use hip_cuts::{Backend, HipStr, Kind, Meter, Rc, Unique};
+use hip_fields::reader::{Reading, Records};
+use hip_fields::records;
+use std::alloc::Global;
+use std::process::Abort;
+
+/// How a text is held.
+#[derive(Clone, Copy)]
+enum Held {
+    /// By an owner that no other handle has.
+    Sole,
+    /// By one that a clone has too.
+    Shared,
+    /// By what lends it.
+    Lent,
+    /// In the handle itself.
+    Inline,
+}
+
+const EACH_HELD: &[Held] = &[Held::Sole, Held::Shared, Held::Lent, Held::Inline];
+
+/// Two lines, with fields of 30 bytes and of few.
+const LONG: &str = "aaaaaaaaaaaaaaaaaaaaaaaaaaaaaa,b,c,d,e,f\nbbbbbbbbbbbbbbbbbbbbbbbbbbbbbb,,a\n";
+
+/// Two lines that fit a handle.
+const SHORT: &str = "a,b,c,d,e\nf,g\n";
+
+/// The text of two lines that is held so.
+fn letters(held: Held) -> &'static str {
+    match held {
+        Held::Inline => SHORT,
+        _ => LONG,
+    }
+}
+
+/// A text that is held so, and its clone.
+fn make<B: Backend>(
+    rt: &impl Abort,
+    alloc: Global,
+    held: Held,
+) -> (HipStr<'static, B>, Option<HipStr<'static, B>>) {
+    let text = match held {
+        Held::Lent => HipStr::borrowed(LONG),
+        _ => must(rt, HipStr::from_str(alloc, letters(held))),
+    };
+    let clone = match held {
+        Held::Shared => Some(must(rt, text.clone(alloc))),
+        _ => None,
+    };
+    (text, clone)
+}
+
+/// Asserts that a text is as it was made.
+fn is_kept<B: Backend>(
+    rt: &impl Abort,
+    text: &HipStr<'_, B>,
+    held: Held,
+    kind: Kind,
+    capacity: usize,
+) {
+    assert_eq!(rt;
+        (text.as_str(), text.kind(), text.capacity()),
+        (letters(held), kind, capacity)
+    );
+}
+
+/// All records at once.
+fn gathered<B: Backend>(rt: &impl Abort, alloc: Global, held: Held, k: usize) -> bool {
+    let (text, _clone) = make::<B>(rt, alloc, held);
+    let (kind, capacity) = (text.kind(), text.capacity());
+    refuse(alloc, k);
+    let gathered = records(alloc, &text, ',');
+    let refused = was_refused(alloc);
+    assert_eq!(rt; gathered.is_err(), refused, "at request {k}");
+    is_kept(rt, &text, held, kind, capacity);
+    refused
+}
+
+#[test]
+fn records_gathered(rt: HostRuntime) {
+    for held in EACH_HELD {
+        each(|k| gathered::<Rc>(&rt, rt.alloc(), *held, k));
+        each(|k| gathered::<Unique>(&rt, rt.alloc(), *held, k));
+    }
+}
+
+/// Whether the first record that is left was given, if there is one.
+fn draw<'h, 'b, B: Backend, I: Ranges + Drop>(
+    alloc: Global,
+    records: &mut Records<'h, HipStr<'b, B>, I>,
+) -> Option<bool>
+    requires { ⟦<Records<'h, HipStr<'b, B>, I> as Reading>⟧.ready records.old }
+    ensures { ⟦<Records<'h, HipStr<'b, B>, I> as Reading>⟧.ready records.new }
+{
+    let fields = records.next_record_metered(alloc, &mut Meter::new())?;
+    Some(fields.is_ok())
+}
+
+/// One record after another: one that is refused has been passed, and the other is given.
+fn drawn<B: Backend>(rt: &impl Abort, alloc: Global, held: Held, k: usize) -> bool {
+    let (text, _clone) = make::<B>(rt, alloc, held);
+    let (kind, capacity) = (text.kind(), text.capacity());
+    refuse(alloc, k);
+    let mut records = Records::new(&text, ',');
+    let first = draw(alloc, &mut records);
+    let second = draw(alloc, &mut records);
+    let third = draw(alloc, &mut records);
+    let refused = was_refused(alloc);
+    assert_eq!(rt;
+        (first.is_some(), second.is_some(), third, first == second),
+        (true, true, None, !refused),
+        "at request {k}"
+    );
+    is_kept(rt, &text, held, kind, capacity);
+    refused
+}
+
+#[test]
+fn records_drawn(rt: HostRuntime) {
+    for held in EACH_HELD {
+        each(|k| drawn::<Rc>(&rt, rt.alloc(), *held, k));
+        each(|k| drawn::<Unique>(&rt, rt.alloc(), *held, k));
+    }
+}

@@ -1,0 +1,39 @@
+//! Orders to refuse a request for memory. They are requests themselves, for more than any block can have, so that the C library refuses
+//! them where nothing reads them.
+use std::alloc::Global;
+use std::process::Abort;
+
+const GREATEST: usize = isize::MAX as usize;
+
+/// How many requests of a scenario are refused at most.
+const MOST: usize = 10_000;
+
+/// Orders that the `k`-th request from here on is refused, and no other.
+pub(crate) fn refuse(alloc: Global, k: usize) {
+    let _order = Vec::<u8>::with_capacity(alloc, GREATEST - k.min(MOST));
+}
+
+/// Takes the order back, and says whether it was carried out.
+pub(crate) fn was_refused(alloc: Global) -> bool {
+    let _question = Vec::<u8>::with_capacity(alloc, GREATEST);
+    Vec::<u8>::with_capacity(alloc, 1).is_err()
+}
+
+/// Runs a scenario with its first request refused, then its second, and so on, until it says that none was.
+pub(crate) fn each<F: Fn(usize) -> bool>(scenario: F)
+    requires { F.IsAlwaysCallable scenario }
+{
+    for k in 1..MOST {
+        if !scenario(k) {
+            return;
+        }
+    }
+}
+
+/// The value, or the end of the test where it was refused.
+pub(crate) fn must<T, E: Drop>(rt: &impl Abort, outcome: Result<T, E>) -> T {
+    match outcome {
+        Ok(value) => value,
+        Err(_) => panic!(rt; "a call was refused"),
+    }
+}
