@@ -19,5 +19,6 @@ mod large;
 mod made;
 mod paths;
 mod pieces;
+mod records;
 mod ring;
 mod text;

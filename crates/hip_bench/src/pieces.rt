@@ -93,7 +93,7 @@ pub(crate) fn owned<'b, B: Backend>(alloc: Global, input: &[u8]) -> Option<HipSt
 }
 
 /// The input as a text that is lent.
-fn lent<'b, B: Backend>(input: &'b [u8]) -> Option<HipStr<'b, B>> {
+pub(crate) fn lent<'b, B: Backend>(input: &'b [u8]) -> Option<HipStr<'b, B>> {
     Some(HipStr::borrowed(str::from_utf8(input).ok()?))
 }
 

@@ -10,13 +10,14 @@ use hip_cuts::{Backend, HipStr, Meter};
 use hip_text::laws::slice_of_slice;
 use std::alloc::{AllocError, Global};
 
-/// The parts of a text at ranges of one of its lines, which lies from `start` up to `end`.
+/// The parts of a text at ranges of one of its lines, which lies from `start` up to `end`, in a vector with room for `room` at least.
 pub(crate) fn fields_at<'b, B: Backend, I: Ranges + Drop>(
     alloc: Global,
     source: &HipStr<'b, B>,
     start: usize,
     end: usize,
     mut ranges: I,
+    room: usize,
     meter: &mut Meter,
 ) -> Result<Vec<HipStr<'b, B>>, AllocError>
     requires cut { IsCut source.now.items (start, end) }
@@ -27,7 +28,7 @@ pub(crate) fn fields_at<'b, B: Backend, I: Ranges + Drop>(
     ensures counted { RisesAtMost meter.old meter.new
         (fields_cost B.SHARES source.now.kind (parts (slice_range source.now.items start end) (I.rest ranges))) }
 {
-    let mut fields = Vec::new(alloc);
+    let mut fields = Vec::with_capacity(alloc, room)?;
     while let Some((from, to)) = ranges.next() {
         slice_of_slice(source.as_str(), start, end, from, to);
         fields.push(source.part_metered(alloc, start + from, start + to, meter)?)?;

@@ -31,6 +31,8 @@ pub struct Records<'h, S, I> {
     source: &'h S,
     lines: I,
     separator: char,
+    /// How many fields the last record had.
+    room: usize,
 }
 
 impl<'h, S: Source, I: Ranges> Reading for Records<'h, S, I> {
@@ -58,6 +60,7 @@ impl<'h, S: Source, I: Ranges> Records<'h, S, I> {
             source,
             lines,
             separator,
+            room: 0,
         }
     }
 }
@@ -102,7 +105,9 @@ impl<'h, 'b, B: Backend, I: Ranges + Drop> Records<'h, HipStr<'b, B>, I> {
     {
         let (start, end) = self.lines.next()?;
         let fields = Split::new(&self.source.as_str()[start..end], self.separator);
-        Some(fields_at(alloc, self.source, start, end, fields, meter))
+        let drawn = fields_at(alloc, self.source, start, end, fields, self.room, meter);
+        self.room = count_of(&drawn);
+        Some(drawn)
     }
 
     /// All records that are left, in a vector.
@@ -133,5 +138,13 @@ impl<'h, 'b, B: Backend, I: Ranges + Drop> Records<'h, HipStr<'b, B>, I> {
             records.push(fields?)?;
         }
         Ok(records)
+    }
+}
+
+/// How many fields were drawn.
+fn count_of<T, E>(drawn: &Result<Vec<T>, E>) -> usize {
+    match drawn {
+        Ok(fields) => fields.len(),
+        Err(_) => 0,
     }
 }

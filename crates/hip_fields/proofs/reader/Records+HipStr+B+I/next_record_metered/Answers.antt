@@ -15,6 +15,6 @@ returns-clause-first g c =
     (ap (λ (xs : List ℕ). slice_range xs c.in_ok-start.start c.in_ok-start.end) c.as_str.ensures.items) in (
       fields_of separator line,
       ap (λ (lines : List (ℕ × ℕ)). map (fields_of separator) (parts source.items lines)) c.in_ok-start.ensures.first,
-      subst (λ (ranges : List (ℕ × ℕ)). IfOk c.fields_at.result (λ fields. AreFields source (parts line ranges) fields.items))
-          (pieces-of separator c.range.result.now line _ c.new-fields.ensures.rest text) c.fields_at.ensures.fields,
+      subst (λ (ranges : List (ℕ × ℕ)). IfOk c.fields_at-drawn.result (λ fields. AreFields source (parts line ranges) fields.items))
+          (pieces-of separator c.range.result.now line _ c.new-fields.ensures.rest text) c.fields_at-drawn.ensures.fields,
     )

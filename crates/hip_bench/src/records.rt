@@ -1,0 +1,64 @@
+//! Records of fields. The input is a mebibyte of lines, each of eight fields between commas. Where it isn't a text, the answer is 0.
+use crate::pieces::{lent, owned};
+use crate::ring::{look, mix};
+use hip_fields::reader::{Reading, Records};
+use hip_match::ranges::Ranges;
+use hipstr::string::HipStr;
+use hipstr::{Backend, Rc};
+use std::alloc::Global;
+
+/// Draws all records, of which each is kept until the next is there: a checksum with the number of their fields and of these fields'
+/// bytes more.
+fn draw_records<'h, 'b, B: Backend, I: Ranges + Drop>(
+    alloc: Global,
+    mut records: Records<'h, HipStr<'b, B>, I>,
+    kept: &mut Vec<HipStr<'b, B>>,
+    before: u64,
+) -> Option<u64>
+    requires { ⟦<Records<'h, HipStr<'b, B>, I> as Reading>⟧.ready records }
+{
+    let mut sum = before;
+    while let Some(fields) = records.next_record(alloc) {
+        *kept = fields.ok()?;
+        sum = mix(mix(sum, kept.len() as u64), total_len(kept));
+    }
+    Some(sum)
+}
+
+/// How many bytes texts have together.
+#[inline(always)]
+fn total_len<B: Backend>(texts: &[HipStr<'_, B>]) -> u64 {
+    let mut len = 0u64;
+    for text in texts {
+        len = len.wrapping_add(text.len() as u64);
+    }
+    len
+}
+
+/// Each round draws all records of a text.
+fn rounds_of_records<B: Backend>(
+    alloc: Global,
+    text: Option<HipStr<'_, B>>,
+    rounds: u64,
+) -> Option<u64> {
+    let text = text?;
+    let mut kept = Vec::new(alloc);
+    let mut sum = 0;
+    for _ in 0..rounds {
+        sum = draw_records(alloc, Records::new(&text, ','), &mut kept, sum)?;
+    }
+    for field in &kept {
+        sum = look(sum, field.as_bytes());
+    }
+    Some(sum)
+}
+
+#[unsafe(no_mangle)]
+pub extern "C" fn hip_records(alloc: Global, input: &[u8], rounds: u64) -> u64 {
+    rounds_of_records(alloc, owned::<Rc>(alloc, input), rounds).unwrap_or(0)
+}
+
+#[unsafe(no_mangle)]
+pub extern "C" fn hip_records_borrowed(alloc: Global, input: &[u8], rounds: u64) -> u64 {
+    rounds_of_records(alloc, lent::<Rc>(input), rounds).unwrap_or(0)
+}
