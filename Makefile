@@ -27,6 +27,11 @@ $(foreach name,$(LIBRARIES),$(eval $(call library,$(name))))
 $(PLAY): $(call sources,hip_play) $(call below,hip_play)
 	cd crates/hip_play && rt run > /dev/null && touch out/hip_play
 
+# Copies hipstr and what it stands on into another repository of the kit's: make vendor INTO=DIR.
+.PHONY: vendor
+vendor:
+	@scripts/vendor.sh "$(INTO)"
+
 # The gate: every proof from nothing, every must-fail edit, every test, every program. Four checks at a time, each in one process: a check
 # in several takes up to a third more processor time.
 .PHONY: test

@@ -1,0 +1,53 @@
+#!/usr/bin/env bash
+# vendor.sh INTO   Copies hipstr and hip_fields, with the crates below them, into the repository INTO: their sources, specs, proofs and
+#                  licences into INTO/crates, and their lines into INTO/crates.txt. What stands there already stays as it is: a crate that an
+#                  earlier run copied is copied anew, and any other under such a name, or another line for it, ends the run before it begins.
+set -eu
+into=${1:-}
+[ -n "$into" ] && [ -d "$into" ] || { echo "vendor: tell the folder of a repository, as in make vendor INTO=../mine" >&2; exit 2; }
+into=$(cd "$into" && pwd)
+cd "$(dirname "$0")/.."
+
+# the crates of this repository that the named ones stand on, and themselves, lowest first
+below() {
+    local crate
+    for crate in "$@"; do
+        case " $crates " in *" $crate "*) continue ;; esac
+        below $(sed -n "s/^$crate://p" crates.txt | tr ' ' '\n' | while read -r name; do [ -d "crates/$name" ] && echo "$name"; done)
+        crates="$crates $crate"
+    done
+}
+crates=
+below hipstr hip_fields
+
+for crate in $crates; do
+    line=$(grep "^$crate:" crates.txt)
+    if [ -e "$into/crates/$crate" ] && [ ! -e "$into/crates/$crate/VENDORED" ]; then
+        echo "vendor: crates/$crate stands there, and no earlier run copied it: nothing was changed" >&2
+        exit 1
+    fi
+    if [ -e "$into/crates.txt" ] && grep -q "^$crate[: ]" "$into/crates.txt" && ! grep -qxF "$line" "$into/crates.txt"; then
+        echo "vendor: crates.txt has another line for $crate: nothing was changed" >&2
+        exit 1
+    fi
+done
+
+mkdir -p "$into/crates"
+version=$(git rev-parse --short HEAD 2> /dev/null || echo unknown)
+for crate in $crates; do
+    target=$into/crates/$crate
+    rm -rf "$target/src" "$target/specs" "$target/proofs"
+    mkdir -p "$target"
+    for part in src specs proofs; do
+        [ ! -d "crates/$crate/$part" ] || cp -R "crates/$crate/$part" "$target/"
+    done
+    cp LICENSE-APACHE LICENSE-MIT "$target/"
+    echo "hipstr in Rattle, $version; scripts/vendor.sh replaces this folder's src, specs and proofs" > "$target/VENDORED"
+    line=$(grep "^$crate:" crates.txt)
+    if [ ! -e "$into/crates.txt" ] || ! grep -qxF "$line" "$into/crates.txt"; then
+        echo "$line" >> "$into/crates.txt"
+        echo "crates/$crate copied, and its line added to crates.txt"
+    else
+        echo "crates/$crate copied"
+    fi
+done
