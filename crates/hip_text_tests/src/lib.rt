@@ -23,6 +23,7 @@
 //! - `kinds`: kinds of pieces, and how many bytes are copied for them.
 //! - `closures`: patterns that are closures.
 //! - `clones`: clones of walks that have given their first piece.
+//! - `records`: records of fields over a text's lines, as Rust's `lines` and `split` answer.
 #![tactic(auto)]
 
 #[cfg(test)]
@@ -49,6 +50,8 @@ mod made;
 mod makers;
 #[cfg(test)]
 mod places;
+#[cfg(test)]
+mod records;
 #[cfg(test)]
 mod text;
 #[cfg(test)]

@@ -1,5 +1,5 @@
 //! Texts and what their records are, as Rust's `lines` and `split` answer.
-use crate::support::{must, told};
+use super::support::{must, told};
 use hip_cuts::{Backend, HipStr, Rc, Unique};
 use hip_fields::records;
 use std::alloc::Global;

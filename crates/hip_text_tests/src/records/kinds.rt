@@ -1,5 +1,5 @@
 //! The kinds of fields, and how many bytes are copied for them.
-use crate::support::must;
+use super::support::must;
 use hip_cuts::{Backend, HipStr, Kind, Meter, Rc, Unique};
 use hip_fields::records_metered;
 use std::alloc::Global;

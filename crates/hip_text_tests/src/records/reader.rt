@@ -1,5 +1,5 @@
 //! Records that are drawn one after another.
-use crate::support::{must, tell};
+use super::support::{must, tell};
 use hip_cuts::hip_match::ranges::Ranges;
 use hip_cuts::{Backend, HipStr, Meter, Rc, Unique};
 use hip_fields::reader::{Reading, Records};
