@@ -6,6 +6,7 @@ pub mod Borrowed
 pub mod Buffer
 pub mod BufferLends
 pub mod Cells
+pub mod Fuse
 pub mod Held
 pub mod Inline
 pub mod Lends
@@ -13,6 +14,7 @@ pub mod Meter
 pub mod Ownership
 pub mod Places
 pub mod Sink
+pub mod Sole
 pub mod Sources
 pub mod Transfer
 pub mod Window

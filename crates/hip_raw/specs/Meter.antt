@@ -1,6 +1,6 @@
 -- What calls copy. A meter counts bytes in 128 bits and stays at its greatest number, so a contract says by how much it
 -- rises at most.
-use Rattle.std.specs.Prelude.{◌≡◌, ℕ, ◌+◌, ◌-◌, ◌*◌, ◌^◌, ◌≤◌, min, Bool, true, false, refl}
+use Rattle.std.specs.Prelude.{◌≡◌, ℕ, ◌+◌, ◌-◌, ◌*◌, ◌^◌, ◌≤◌, min, nat_le, if◌then◌else◌, Bool, true, false, refl}
 
 -- a meter that stood at `old` stands at `new`: it has not fallen, and has risen by `most` at most
 pub record RisesAtMost (old new most : ℕ) : Type 0 where
@@ -16,6 +16,15 @@ count_from-small = refl
 
 pub count_from-full : count_from (2 ^ 128 - 2) 5 ≡ 2 ^ 128 - 1
 count_from-full = refl
+
+-- a meter that stood at `old` stands at `new`: it has counted `least` bytes at least
+abbrev pub RisesAtLeast : ℕ → ℕ → ℕ → Type 0
+RisesAtLeast old new least = count_from old least ≤ new
+
+-- it has counted just `n` bytes
+pub record RisesBy (old new n : ℕ) : Type 0 where
+  pub at_most : new ≤ old + n
+  pub at_least : RisesAtLeast old new n
 
 -- the bytes that are copied where an owner can't be shared: none where it can
 abbrev pub unless_shared : Bool → ℕ → ℕ
@@ -33,6 +42,14 @@ times_copied false n = n + n
 
 pub times_copied-examples : (times_copied true 24 ≡ 24) × (times_copied false 24 ≡ 48)
 times_copied-examples = (refl, refl)
+
+-- what an append of `added` bytes behind the first `keep` copies, where owners aren't shared: those bytes alone where all fit the
+-- capacity, else the kept ones too, which move to new room
+abbrev pub append_copies : ℕ → ℕ → ℕ → ℕ
+append_copies capacity keep added = if nat_le (keep + added) capacity then added else keep + added
+
+pub append_copies-examples : (append_copies 64 30 34 ≡ 34) × (append_copies 64 30 35 ≡ 65)
+append_copies-examples = (refl, refl)
 
 -- what appends have paid in advance for the next growth, which moves all bytes once: twice the length less the capacity, nothing where
 -- that is negative

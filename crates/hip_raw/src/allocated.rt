@@ -1,10 +1,10 @@
 //! Bytes that an owner holds.
-ghost use Rattle.std.specs.Prelude.{◌≡◌, ◌+◌, ◌*◌, ◌-◌, ◌^◌, ◌<◌, ◌≤◌, ◌==◌, ◌++◌, max, min, map, false, true, length, take, vec_len, IsSome, IfSome, IfOk, IfErr, OnErr, slice_range, slice_set, if◌then◌else◌, IsOk};
+ghost use Rattle.std.specs.Prelude.{◌≡◌, ◌+◌, ◌*◌, ◌-◌, ◌^◌, ◌<◌, ◌≤◌, ◌==◌, ◌++◌, max, min, map, false, true, length, take, vec_capacity, vec_len, IsSome, IfSome, IfOk, IfErr, OnErr, slice_range, slice_set, if◌then◌else◌, IsOk};
 ghost use Rattle.std.specs.Char.{to_ascii_lowercase, to_ascii_uppercase};
 ghost use Rattle.std.specs.Fn.{FnOnceReturnsAtMut, FnOnceTakesAtMut};
 ghost use Rattle.hip_raw.specs.Appended.{OnDone, OnShared, OnMemory, OnRefused};
 ghost use Rattle.hip_raw.specs.Held.{held_items, held_capacity, OwnAnswers};
-ghost use Rattle.hip_raw.specs.Meter.{RisesAtMost, pot, times_copied, unless_shared};
+ghost use Rattle.hip_raw.specs.Meter.{RisesAtLeast, RisesAtMost, pot, times_copied, unless_shared};
 
 use crate::appended::Appended;
 use crate::ascii_case::{make_ascii_lowercase, make_ascii_uppercase};
@@ -103,6 +103,7 @@ impl<B: Backend> Allocated<B> {
         ensures fits { IfOk result (λ made. length made.items ≤ made.capacity) }
         ensures counted { RisesAtMost meter.old meter.new
             (times_copied B.SHARES (length bytes.now)) }
+        ensures copied { IfOk result (λ made. RisesAtLeast meter.old meter.new (length bytes.now)) }
     {
         Self::with_room_metered(alloc, bytes, bytes.len(), meter)
     }
@@ -121,6 +122,7 @@ impl<B: Backend> Allocated<B> {
         ensures fits { IfOk result (λ made. length made.items ≤ made.capacity) }
         ensures counted { RisesAtMost meter.old meter.new
             (times_copied B.SHARES (length bytes.now)) }
+        ensures copied { IfOk result (λ made. RisesAtLeast meter.old meter.new (length bytes.now)) }
     {
         let owner = B::copy_of(alloc, bytes, room, meter)?;
         Ok(Allocated {
@@ -232,6 +234,7 @@ impl<B: Backend> Allocated<B> {
         ensures capacity { B.SHARES ≡ false → self.old.capacity ≤ self.new.capacity }
         ensures counted { RisesAtMost meter.old meter.new
             (length addition.now + unless_shared B.SHARES (length self.old.items)) }
+        ensures copied { OnDone result (RisesAtLeast meter.old meter.new (length addition.now)) }
         ensures potential { B.SHARES ≡ false → OnDone result (meter.new + pot (length self.new.items) self.new.capacity
             ≤ meter.old + pot (length self.old.items) self.old.capacity + 3 * length addition.now) }
         ensures shared { OnShared result (B.SHARES ≡ true) }
@@ -264,6 +267,7 @@ impl<B: Backend> Allocated<B> {
     #[inline]
     pub fn try_into_vec(self, alloc: Global) -> Result<Vec<u8>, Self>
         ensures items { IfOk result (λ vec. vec.items ≡ self.items) }
+        ensures room { IfOk result (λ vec. self.capacity ≤ vec_capacity vec) }
         ensures handed_back { IfErr result (λ back. back ≡ self) }
     {
         self.try_into_vec_metered(alloc, &mut Meter::new())
@@ -273,6 +277,7 @@ impl<B: Backend> Allocated<B> {
     #[inline]
     pub fn try_into_vec_metered(self, alloc: Global, meter: &mut Meter) -> Result<Vec<u8>, Self>
         ensures items { IfOk result (λ vec. vec.items ≡ self.items) }
+        ensures room { IfOk result (λ vec. self.capacity ≤ vec_capacity vec) }
         ensures counted { RisesAtMost meter.old meter.new (unless_shared B.SHARES (length self.items)) }
         ensures handed_back { IfErr result (λ back. back ≡ self) }
         ensures refused_copies_nothing { OnErr result (meter.new ≡ meter.old) }
@@ -289,6 +294,7 @@ impl<B: Backend> Allocated<B> {
         meter: &mut Meter,
     ) -> Result<(Vec<u8>, Block), Self>
         ensures items { IfOk result (λ taken. taken.0.items ≡ self.items) }
+        ensures room { IfOk result (λ taken. self.capacity ≤ vec_capacity taken.0) }
         ensures counted { RisesAtMost meter.old meter.new (unless_shared B.SHARES (length self.items)) }
         ensures handed_back { IfErr result (λ back. back ≡ self) }
         ensures refused_copies_nothing { OnErr result (meter.new ≡ meter.old) }

@@ -1,7 +1,7 @@
 //! What became of an append, and the append to a vector.
 ghost use Rattle.std.specs.Prelude.{◌≡◌, ◌+◌, ◌<◌, ◌≤◌, ◌++◌, length, take, vec_len, vec_capacity};
 ghost use Rattle.hip_raw.specs.Appended.{OnDone, OnShared, OnMemory, OnRefused};
-ghost use Rattle.hip_raw.specs.Meter.{RisesAtMost};
+ghost use Rattle.hip_raw.specs.Meter.{RisesAtMost, count_from};
 
 use crate::meter::{Meter, extend_counted, extend_within};
 use std::alloc::AllocError;
@@ -28,6 +28,7 @@ pub(crate) fn append_to(
     requires { keep ≤ vec_len vec.old }
     ensures items { OnDone result (vec.new.items ≡ take keep vec.old.items ++ addition.now) }
     ensures counted { RisesAtMost meter.old meter.new (length addition.now) }
+    ensures exact { OnDone result (meter.new ≡ count_from meter.old (length addition.now)) }
     ensures capacity { vec_capacity vec.old ≤ vec_capacity vec.new }
     ensures unshared { OnShared result ⊥ }
     ensures memory { OnMemory result (vec_capacity vec.old < keep + length addition.now) }
@@ -54,6 +55,7 @@ fn append_behind(vec: &mut Vec<u8>, keep: usize, addition: &[u8], meter: &mut Me
     requires { keep ≤ vec_len vec.old }
     ensures items { OnDone result (vec.new.items ≡ take keep vec.old.items ++ addition.now) }
     ensures counted { RisesAtMost meter.old meter.new (length addition.now) }
+    ensures exact { OnDone result (meter.new ≡ count_from meter.old (length addition.now)) }
     ensures capacity { vec_capacity vec.old ≤ vec_capacity vec.new }
     ensures unshared { OnShared result ⊥ }
     ensures memory { OnMemory result (vec_capacity vec.old < keep + length addition.now) }

@@ -1,9 +1,9 @@
 //! What an owner of bytes promises.
-ghost use Rattle.std.specs.Prelude.{◌≡◌, ℕ, ◌+◌, ◌*◌, ◌^◌, ◌<◌, ◌≤◌, Bool, false, true, List, ◌++◌, length, take, vec_len, IsSome, IfOk, IfErr, IfSome, OnErr};
+ghost use Rattle.std.specs.Prelude.{◌≡◌, ℕ, ◌+◌, ◌*◌, ◌^◌, ◌<◌, ◌≤◌, Bool, false, true, List, ◌++◌, length, take, vec_capacity, vec_len, IsSome, IfOk, IfErr, IfSome, OnErr};
 ghost use Rattle.std.specs.Borrow.{sem, LendsIf};
 ghost use Rattle.hip_raw.specs.Appended.{OnDone, OnShared, OnMemory, OnRefused};
 ghost use Rattle.hip_raw.specs.Held.{OwnAnswers};
-ghost use Rattle.hip_raw.specs.Meter.{RisesAtMost, pot, times_copied, unless_shared};
+ghost use Rattle.hip_raw.specs.Meter.{RisesAtLeast, RisesAtMost, RisesBy, append_copies, pot, times_copied, unless_shared};
 ghost use Rattle.hip_raw.specs.Window.{window};
 
 use crate::appended::Appended;
@@ -64,6 +64,7 @@ pub trait Backend: Drop + Sized {
     /// The bytes in a vector, unless the owner is shared. A refused owner is handed back.
     fn try_into_vec(self, alloc: Global, meter: &mut Meter) -> Result<Vec<u8>, Self>
         ensures items { IfOk result (λ vec. vec.items ≡ items self) }
+        ensures room { IfOk result (λ vec. capacity self ≤ vec_capacity vec) }
         ensures counted { RisesAtMost meter.old meter.new (unless_shared SHARES (length (items self))) }
         ensures handed_back { IfErr result (λ back. back ≡ self) }
         ensures refused_copies_nothing { OnErr result (meter.new ≡ meter.old) };
@@ -95,6 +96,9 @@ pub trait Backend: Drop + Sized {
         ensures fits { length (items self.new) ≤ capacity self.new }
         ensures bound { length (items self.new) < 2 ^ 64 }
         ensures counted { RisesAtMost meter.old meter.new (length addition.now + unless_shared SHARES keep) }
+        ensures copied { OnDone result (RisesAtLeast meter.old meter.new (length addition.now)) }
+        ensures exact { SHARES ≡ false → OnDone result
+            (RisesBy meter.old meter.new (append_copies (capacity self.old) keep (length addition.now))) }
         ensures potential { SHARES ≡ false → OnDone result (meter.new + pot (length (items self.new)) (capacity self.new)
             ≤ meter.old + pot keep (capacity self.old) + 3 * length addition.now) }
         ensures shared { OnShared result (SHARES ≡ true) }
@@ -115,6 +119,7 @@ pub trait Backend: Drop + Sized {
         ensures room { IfOk result (λ made. room ≤ capacity made) }
         ensures bound { IfOk result (λ made. length (items made) < 2 ^ 64) }
         ensures counted { RisesAtMost meter.old meter.new (times_copied SHARES (length bytes.now)) }
+        ensures copied { IfOk result (λ made. RisesAtLeast meter.old meter.new (length bytes.now)) }
     {
         let vec = copy_with_capacity(alloc, bytes, room, meter)?;
         match Self::own(alloc, vec, meter) {
@@ -143,6 +148,7 @@ pub trait Backend: Drop + Sized {
     #[inline]
     fn try_take_vec(self, alloc: Global, meter: &mut Meter) -> Result<(Vec<u8>, Block), Self>
         ensures items { IfOk result (λ taken. taken.0.items ≡ items self) }
+        ensures room { IfOk result (λ taken. capacity self ≤ vec_capacity taken.0) }
         ensures counted { RisesAtMost meter.old meter.new (unless_shared SHARES (length (items self))) }
         ensures handed_back { IfErr result (λ back. back ≡ self) }
         ensures refused_copies_nothing { OnErr result (meter.new ≡ meter.old) }

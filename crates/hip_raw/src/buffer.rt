@@ -2,7 +2,7 @@
 ghost use Rattle.std.specs.Prelude.{◌≡◌, ◌+◌, ◌-◌, ◌*◌, ◌^◌, ◌<◌, ◌≤◌, ◌++◌, [], Some, length, replicate, take, IfOk, refl};
 ghost use Rattle.std.specs.Borrow.{sem};
 ghost use Rattle.hip_raw.specs.Appended.{OnDone, OnMemory, OnRefused, OnShared};
-ghost use Rattle.hip_raw.specs.Meter.{RisesAtMost, pot};
+ghost use Rattle.hip_raw.specs.Meter.{RisesAtLeast, RisesAtMost, RisesBy, append_copies, pot};
 
 use crate::appended::Appended;
 use crate::meter::{Meter, fill_at};
@@ -174,6 +174,7 @@ impl Buffer {
         ensures items { self.new.items ≡ take keep self.old.items ++ addition.now }
         ensures capacity { self.new.capacity ≡ self.old.capacity }
         ensures counted { RisesAtMost meter.old meter.new (length addition.now) }
+        ensures copied { RisesAtLeast meter.old meter.new (length addition.now) }
     {
         self.add_zeros(keep, addition.len());
         fill_at(self.as_mut_slice(), keep, addition, meter);
@@ -194,6 +195,8 @@ impl Buffer {
         ensures fits { length self.new.items ≤ self.new.capacity }
         ensures small { self.new.capacity < 2 ^ 63 }
         ensures counted { RisesAtMost meter.old meter.new (length addition.now + keep) }
+        ensures exact { OnDone result
+            (RisesBy meter.old meter.new (append_copies self.old.capacity keep (length addition.now))) }
         ensures potential { OnDone result (meter.new + pot (length self.new.items) self.new.capacity
             ≤ meter.old + pot keep self.old.capacity + 3 * length addition.now) }
         ensures unshared { OnShared result ⊥ }
@@ -229,6 +232,7 @@ impl Buffer {
         ensures capacity { OnDone result (self.new.capacity ≡ 2 * (keep + length addition.now)) }
         ensures small { self.new.capacity < 2 ^ 63 }
         ensures counted { RisesAtMost meter.old meter.new (length addition.now + keep) }
+        ensures exact { OnDone result (RisesBy meter.old meter.new (keep + length addition.now)) }
         ensures unshared { OnShared result ⊥ }
         ensures refused { OnRefused result (self.new ≡ self.old) }
         ensures refused_copies_nothing { OnRefused result (meter.new ≡ meter.old) }

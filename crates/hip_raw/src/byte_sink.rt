@@ -1,5 +1,5 @@
 //! Where bytes are written to.
-ghost use Rattle.std.specs.Prelude.{⊤, ◌≡◌, ◌<◌, ℕ, List, Option, length, IfOk};
+ghost use Rattle.std.specs.Prelude.{⊤, ◌≡◌, ◌<◌, ℕ, List, Option, Some, length, IfOk};
 ghost use Rattle.std.specs.Io.{WritesAtMost};
 ghost use Rattle.std.specs.Io.KnownBytes.{WriteAppends};
 ghost use Rattle.hip_raw.specs.Sources.{failed_writes, writer_of};
@@ -75,8 +75,6 @@ impl VecSink {
 }
 
 impl ByteSink for VecSink {
-    ghost use Rattle.std.specs.Prelude.{Some};
-
     ghost written = { λ sink. Some sink.items };
 
     ghost failures = { λ sink. sink.failures };
@@ -84,7 +82,13 @@ impl ByteSink for VecSink {
     ghost may_be_full = { λ _. ⊥ };
 
     #[inline]
-    fn write(&mut self, bytes: &[u8]) -> Result<usize, IoFault> {
+    fn write(&mut self, bytes: &[u8]) -> Result<usize, IoFault>
+        ensures within { WritesAtMost result bytes.now }
+        ensures bytes { WriteAppends (Some self.old.items) (Some self.new.items) result bytes.now }
+        ensures full { IfOk result (λ count. count ≡ 0 → 0 < length bytes.now → ⊥) }
+        ensures failures { CountsRefusal result self.old.failures self.new.failures }
+        ensures whole { IfOk result (λ count. count ≡ length bytes.now) }
+    {
         match self.filling.push_slice(bytes, &mut Meter::new()) {
             Ok(()) => Ok(bytes.len()),
             Err(AllocError) => {

@@ -1,5 +1,5 @@
 //! Where bytes are read from.
-ghost use Rattle.std.specs.Prelude.{◌≡◌, ℕ, List, Option};
+ghost use Rattle.std.specs.Prelude.{◌≡◌, ℕ, List, Option, Some, length, min, IfOk};
 ghost use Rattle.std.specs.Io.{ReadsAtMost};
 ghost use Rattle.std.specs.Io.KnownBytes.{ReadConsumes};
 ghost use Rattle.hip_raw.specs.Sources.{failed_reads, reader_of, rest_of};
@@ -31,7 +31,7 @@ pub trait ByteSource {
         ensures { result ≡ failures self.now };
 }
 
-/// The bytes of a slice, from its front. No read fails.
+/// The bytes of a slice, from its front. No read fails, and each gives as many bytes as there are and fit.
 #[derive(Clone, Copy, Debug)]
 pub struct SliceSource<'a> {
     rest: &'a [u8],
@@ -56,14 +56,17 @@ impl<'a> SliceSource<'a> {
 }
 
 impl<'a> ByteSource for SliceSource<'a> {
-    ghost use Rattle.std.specs.Prelude.{Some};
-
     ghost to_come = { λ source. Some (rest_of source) };
 
     ghost failures = { λ _. 0 };
 
     #[inline]
-    fn read(&mut self, room: &mut [u8]) -> Result<usize, IoFault> {
+    fn read(&mut self, room: &mut [u8]) -> Result<usize, IoFault>
+        ensures within { ReadsAtMost result room.new }
+        ensures bytes { ReadConsumes (Some (rest_of self.old)) (Some (rest_of self.new)) result room.new }
+        ensures failures { CountsRefusal result 0 0 }
+        ensures as_many { IfOk result (λ count. count ≡ min (length room.old) (length (rest_of self.old))) }
+    {
         let count = room.len().min(self.rest.len());
         fill_counted(&mut room[..count], &self.rest[..count], &mut Meter::new());
         self.rest = &self.rest[count..];

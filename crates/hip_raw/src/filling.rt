@@ -1,6 +1,6 @@
 //! Bytes that gather in a vector.
 ghost use Rattle.std.specs.Prelude.{◌≡◌, ◌+◌, ◌^◌, ◌<◌, ◌≤◌, ◌++◌, [], length, take, vec_len, vec_capacity, IfOk, OnOk, OnErr};
-ghost use Rattle.hip_raw.specs.Meter.{RisesAtMost};
+ghost use Rattle.hip_raw.specs.Meter.{RisesAtLeast, RisesAtMost, count_from};
 
 use crate::meter::{Meter, fill_at, fill_counted};
 use std::alloc::{AllocError, Global};
@@ -78,6 +78,7 @@ impl Filling {
         ensures items { self.new.items ≡ (self.old.items ++ gap.now) ++ bytes.now }
         ensures capacity { self.old.capacity ≤ self.new.capacity }
         ensures counted { RisesAtMost meter.old meter.new (length gap.now + length bytes.now) }
+        ensures copied { RisesAtLeast meter.old meter.new (length gap.now + length bytes.now) }
     {
         let end = self.len + gap.len() + bytes.len();
         if self.vec.len() < end {
@@ -100,6 +101,7 @@ impl Filling {
         ensures items { OnOk result (self.new.items ≡ (self.old.items ++ gap.now) ++ bytes.now) }
         ensures capacity { self.old.capacity ≤ self.new.capacity }
         ensures counted { RisesAtMost meter.old meter.new (length gap.now + length bytes.now) }
+        ensures copied { OnOk result (RisesAtLeast meter.old meter.new (length gap.now + length bytes.now)) }
         ensures memory { OnErr result
             (self.old.capacity < length self.old.items + length gap.now + length bytes.now) }
         ensures err { OnErr result (self.new ≡ self.old) }
@@ -120,6 +122,7 @@ impl Filling {
         ensures items { self.new.items ≡ self.old.items ++ addition.now }
         ensures capacity { self.old.capacity ≤ self.new.capacity }
         ensures counted { RisesAtMost meter.old meter.new (length addition.now) }
+        ensures copied { RisesAtLeast meter.old meter.new (length addition.now) }
     {
         self.push_behind_within(&[], addition, meter);
     }
@@ -155,6 +158,7 @@ impl Filling {
         ensures items { self.new.items ≡ self.old.items ++ take count self.old.items }
         ensures capacity { self.old.capacity ≤ self.new.capacity }
         ensures counted { RisesAtMost meter.old meter.new count }
+        ensures copied { RisesAtLeast meter.old meter.new count }
     {
         let start = self.len;
         let end = start + count;
@@ -184,6 +188,7 @@ fn repeat_front(room: &mut [u8], start: usize, count: usize, meter: &mut Meter)
     ensures items { take (start + count) room.new ≡ take start room.old ++ take count room.old }
     ensures len { length room.new ≡ length room.old }
     ensures counted { RisesAtMost meter.old meter.new count }
+    ensures exact { meter.new ≡ count_from meter.old count }
 {
     let (front, back) = room.split_at_mut(start);
     fill_counted(&mut back[..count], &front[..count], meter);

@@ -84,6 +84,7 @@ impl<const N: usize, L: Length<N>> Inline<N, L> {
         ensures fits { IsSome result ↔ (length bytes.now ≤ N) }
         ensures items { IfSome result (λ inline. inline ≡ bytes.now) }
         ensures counted { RisesAtMost meter.old meter.new (length bytes.now) }
+        ensures exact { IfSome result (λ inline. meter.new ≡ count_from meter.old (length bytes.now)) }
         ensures refused_copies_nothing { IfNone result (meter.new ≡ meter.old) }
     {
         if bytes.len() <= N {
@@ -108,6 +109,7 @@ impl<const N: usize, L: Length<N>> Inline<N, L> {
         requires { length bytes.now ≤ N }
         ensures items { result ≡ bytes.now }
         ensures counted { RisesAtMost meter.old meter.new (length bytes.now) }
+        ensures exact { meter.new ≡ count_from meter.old (length bytes.now) }
     {
         let mut inline = Self::empty();
         inline.push_slice_unchecked_metered(bytes, meter);
@@ -177,6 +179,7 @@ impl<const N: usize, L: Length<N>> Inline<N, L> {
         requires { length self.old + length addition.now ≤ N }
         ensures items { self.new ≡ self.old ++ addition.now }
         ensures counted { RisesAtMost meter.old meter.new (length addition.now) }
+        ensures exact { meter.new ≡ count_from meter.old (length addition.now) }
     {
         let start = self.row.len.get();
         let end = start + addition.len();
@@ -192,6 +195,7 @@ impl<const N: usize, L: Length<N>> Inline<N, L> {
         requires fits { length self.old + count ≤ N }
         ensures items { self.new ≡ self.old ++ take count self.old }
         ensures counted { RisesAtMost meter.old meter.new count }
+        ensures exact { meter.new ≡ count_from meter.old count }
     {
         let start = self.row.len.get();
         let room = &mut self.row.cells.items[..];

@@ -8,12 +8,12 @@
 //!   a vector that was taken out leaves a [`Block`]. Where a handle begins in its owner's list is a [`Start`], which takes no bytes where
 //!   it is always the [`Front`].
 //! - [`Inline`], [`Borrowed`] and [`Allocated`] are the three representations of a byte string: in the handle itself, with a
-//!   [`Length`] that may be one byte, lent by another value, or a range of an owner's list.
+//!   [`Length`] that may be one byte, lent by another value, or a range of an owner's list. A [`Sole`] holds one that no other shares.
 //! - [`equal`] and [`order`] are `==` and `cmp` of bytes, [`make_ascii_lowercase`] and [`make_ascii_uppercase`] move ASCII letters in
 //!   place: each by blocks of up to 64 bytes.
 //! - [`ByteSource`] and [`ByteSink`] are what bytes are read from and written to, seen as the bytes still to come, or written, and a count of
 //!   failures: [`SliceSource`] and [`VecSink`] in memory, [`FromRead`] and [`ToWrite`] over readers and writers of the standard library. An
-//!   [`IoFault`] says that a call failed, and moved nothing.
+//!   [`IoFault`] says that a call failed, and moved nothing. A [`Fuse`] around a reader or a writer fails at one call, for tests.
 //!
 //! A call that copies has a form with the suffix `_metered` and a last argument `&mut Meter`; the plain call is that form with a fresh
 //! meter. A call that takes memory on some backend is passed the allocator first, and a refused one changes nothing. The calls of a
@@ -22,8 +22,8 @@
 //! The words of the contracts stand in `specs/`: `Held` (what a contract sees of an owner and of an allocated handle), `Meter` (what is
 //! copied, and what growth is paid by), `Window` (a part of a list), `Appended` (facts by the answer of an append), `Allocated` (what
 //! holds of a handle's range), `Buffer` and `Places` (what holds of a buffer, and of its row of places), `Block`, `Borrowed`, `Inline`,
-//! `Alike` (where two lists have the same bytes), `Transfer` (what a read or a write does to the count of failures), `Sink` and
-//! `Sources`.
+//! `Alike` (where two lists have the same bytes), `Transfer` (what a read or a write does to the count of failures), `Sink`,
+//! `Sources`, `Fuse` and `Sole`.
 #![tactic(auto)]
 
 mod allocated;
@@ -37,11 +37,13 @@ mod byte_sink;
 mod byte_source;
 mod compare;
 mod filling;
+mod fuse;
 mod inline;
 mod io_fault;
 mod meter;
 mod rc;
 mod room;
+mod sole;
 mod start;
 mod unique;
 
@@ -55,6 +57,7 @@ pub use byte_sink::{ByteSink, ToWrite, VecSink};
 pub use byte_source::{ByteSource, FromRead, SliceSource};
 pub use compare::{equal, order};
 pub use filling::Filling;
+pub use fuse::Fuse;
 pub use inline::Inline;
 pub use inline::length::{INLINE_CAPACITY, Length};
 pub use io_fault::IoFault;
@@ -63,5 +66,6 @@ pub use meter::{
 };
 pub use rc::Rc;
 pub use room::Room;
+pub use sole::Sole;
 pub use start::{Front, Start};
 pub use unique::Unique;

@@ -1,6 +1,6 @@
 //! The meter, and the function by which bytes are copied.
 ghost use Rattle.std.specs.Prelude.{◌≡◌, ◌+◌, ◌-◌, ◌^◌, ◌<◌, ◌≤◌, ◌++◌, length, take, vec_len, vec_capacity, IfOk, IsOk, OnOk, OnErr};
-ghost use Rattle.hip_raw.specs.Meter.{RisesAtMost, count_from};
+ghost use Rattle.hip_raw.specs.Meter.{RisesAtLeast, RisesAtMost, count_from};
 
 use std::alloc::{AllocError, Global};
 use std::marker::Model;
@@ -88,6 +88,7 @@ pub(crate) fn fill_at(room: &mut [u8], at: usize, bytes: &[u8], meter: &mut Mete
     ensures items { take result room.new ≡ take at room.old ++ bytes.now }
     ensures len { length room.new ≡ length room.old }
     ensures counted { RisesAtMost meter.old meter.new (length bytes.now) }
+    ensures copied { RisesAtLeast meter.old meter.new (length bytes.now) }
 {
     if bytes.len() >= 32 {
         return fill_range(room, at, bytes, meter);
@@ -120,6 +121,7 @@ fn fill_width<'a>(
     ensures left { length bytes.now < width + width → length result.1.now < width }
     ensures len { length room.new ≡ length room.old }
     ensures counted { RisesAtMost meter.old meter.new (result.0 - at) }
+    ensures copied { RisesAtLeast meter.old meter.new (result.0 - at) }
 {
     if bytes.len() < width {
         return (at, bytes);
@@ -136,6 +138,7 @@ fn fill_range(room: &mut [u8], at: usize, bytes: &[u8], meter: &mut Meter) -> us
     ensures items { take result room.new ≡ take at room.old ++ bytes.now }
     ensures len { length room.new ≡ length room.old }
     ensures counted { RisesAtMost meter.old meter.new (length bytes.now) }
+    ensures copied { RisesAtLeast meter.old meter.new (length bytes.now) }
 {
     let end = at + bytes.len();
     fill_counted(&mut room[at..end], bytes, meter);

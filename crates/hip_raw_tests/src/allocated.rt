@@ -202,3 +202,34 @@ fn is_whole<B: Backend>(rt: &impl Abort, alloc: Global, whole: Allocated<B>) {
     let vec = must(rt, whole.try_into_vec(alloc));
     assert_eq!(rt; vec.as_slice(), [0, 1, 2].as_slice());
 }
+
+/// Writes over the first byte, where no other range shares the owner, and says whether it did.
+fn writes_held<B: Backend>(bytes: &mut Allocated<B>) -> bool {
+    let Some(mut held) = bytes.sole() else {
+        return false;
+    };
+    let written = held.with_mut_slice(|bytes| {
+        if let Some(first) = bytes.first_mut() {
+            *first = b'+';
+        }
+    });
+    written.is_ok() && held.as_slice().first() == Some(&b'+')
+}
+
+fn is_held_when_sole<B: Backend>(rt: &impl Abort, alloc: Global) {
+    let mut whole = must(rt, Allocated::<B>::from_slice(alloc, STARS));
+    let other = must(rt, whole.slice_unchecked(alloc, 0..42));
+    let alone = writes_held(&mut whole);
+    let first = whole.as_slice().first().copied();
+    assert_eq!(rt; (alone, first), (!B::SHARES, Some(if alone { b'+' } else { b'*' })));
+    has(rt, &other, STARS);
+    drop(other);
+    assert!(rt; writes_held(&mut whole));
+    assert_eq!(rt; whole.as_slice().first(), Some(&b'+'));
+}
+
+#[test]
+fn bytes_are_held_where_no_other_range_shares_them(rt: HostRuntime) {
+    is_held_when_sole::<Rc>(&rt, rt.alloc());
+    is_held_when_sole::<Unique>(&rt, rt.alloc());
+}

@@ -5,6 +5,7 @@
 //! - `handles`: bytes in the handle itself, lent bytes.
 //! - `allocated`: ranges of an owner's bytes.
 //! - `owners`: what an owner promises.
+//! - `fuses`: readers and writers that fail at one call.
 //! - `blocks`: comparisons and ASCII case, which go by blocks of bytes.
 //! - `support`: the ends of a test that a call brings about.
 //!
@@ -17,6 +18,8 @@ mod allocated;
 mod blocks;
 #[cfg(test)]
 mod copies;
+#[cfg(test)]
+mod fuses;
 #[cfg(test)]
 mod handles;
 #[cfg(test)]
