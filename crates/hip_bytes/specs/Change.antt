@@ -5,17 +5,18 @@ use Rattle.hip_bytes.specs.Kinds.{cut_kind, kept_capacity, owned_kind, PushedKin
 use Rattle.hip_bytes.specs.Cost.{CutNeedsMemory, PushNeedsMemory, WriteNeedsMemory}
 use Rattle.hip_bytes.specs.declared.kind.Kind.TheVariants.{Allocated}
 
--- the handle got these items at its end
+-- the handle got these items at its end; where there are none, it is as it was
 pub record IsPushed (shares : Bool) (old new : Handle) (addition : List ℕ) : Type 0 where
   pub items : new.items ≡ old.items ++ addition
-  pub kind : PushedKind shares old.kind (length new.items) new.kind
-  pub capacity : HasCapacity new.kind (length new.items) new.capacity
+  pub kind : 0 < length addition → PushedKind shares old.kind (length new.items) new.kind
+  pub capacity : 0 < length addition → HasCapacity new.kind (length new.items) new.capacity
+  pub unchanged : length addition ≡ 0 → new ≡ old
   pub kept : shares ≡ false → old.kind ≡ Allocated → old.capacity ≤ new.capacity
 
 -- a push adds its items, or is refused where so many may want memory
 abbrev pub PushAnswers : {T E : Type 0} → Bool → Handle → List ℕ → Result T E → Handle → Type 0
 PushAnswers shares old addition (Ok done) new = IsPushed shares old new addition
-PushAnswers shares old addition (Err error) new = PushNeedsMemory shares old.kind old.capacity (length old.items + length addition) × (new ≡ old)
+PushAnswers shares old addition (Err error) new = PushNeedsMemory shares old.kind old.capacity (length old.items) (length addition) × (new ≡ old)
 
 -- the handle keeps its first `len` items; where it has no more, it is as it was
 pub record IsShortened (old new : Handle) (len : ℕ) : Type 0 where

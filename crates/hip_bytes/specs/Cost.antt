@@ -23,6 +23,10 @@ cut_cost shares Allocated len = if nat_le len INLINE_CAPACITY then len else unle
 abbrev pub taken_cost : Bool → ℕ → ℕ
 taken_cost shares len = if nat_le len INLINE_CAPACITY then len else unless_shared shares len
 
+-- a push of `added` bytes on `len`; one of nothing copies none
+abbrev pub push_cost : Bool → ℕ → ℕ → ℕ
+push_cost shares len added = if nat_le added 0 then 0 else times_copied shares (len + added)
+
 -- a handle that loses bytes at its end
 abbrev pub shortened_cost : Kind → ℕ
 shortened_cost Inline = 0
@@ -66,11 +70,15 @@ PushIsPaid shares old new added before after = shares ≡ false → old.kind ≡
 abbrev pub CutNeedsMemory : Kind → ℕ → Type 0
 CutNeedsMemory kind len = (kind ≡ Allocated) × (INLINE_CAPACITY < len)
 
--- a push that leaves `len` bytes on a handle of some capacity may want memory: on an owner that isn't shared where they pass it
-abbrev pub PushNeedsMemory : Bool → Kind → ℕ → ℕ → Type 0
-PushNeedsMemory shares Inline capacity len = INLINE_CAPACITY < len
-PushNeedsMemory shares Borrowed capacity len = INLINE_CAPACITY < len
-PushNeedsMemory shares Allocated capacity len = shares ≡ false → capacity < len
+-- `len` bytes put together on a handle of some capacity may want memory: on an owner that isn't shared where they pass it
+abbrev pub GrowthNeedsMemory : Bool → Kind → ℕ → ℕ → Type 0
+GrowthNeedsMemory shares Inline capacity len = INLINE_CAPACITY < len
+GrowthNeedsMemory shares Borrowed capacity len = INLINE_CAPACITY < len
+GrowthNeedsMemory shares Allocated capacity len = shares ≡ false → capacity < len
+
+-- a push of `added` bytes on `len` may want memory where the bytes together may; one of nothing doesn't
+abbrev pub PushNeedsMemory : Bool → Kind → ℕ → ℕ → ℕ → Type 0
+PushNeedsMemory shares kind capacity len added = (0 < added) × GrowthNeedsMemory shares kind capacity (len + added)
 
 -- bytes that are made the handle's own may want memory
 abbrev pub OwnNeedsMemory : Kind → ℕ → Type 0

@@ -1,7 +1,7 @@
 -- What a call that makes a handle may answer. A refusal says where memory may be wanted.
 use Rattle.std.specs.Prelude.{◌≡◌, ℕ, ◌*◌, ◌^◌, ◌<◌, ◌≤◌, Bool, List, length, Option, Result, Ok, Err}
 use Rattle.std.specs.List.{join_by, repeat}
-use Rattle.hip_raw.specs.Meter.{RisesAtMost}
+use Rattle.hip_raw.specs.Meter.{RisesAtLeast, RisesAtMost}
 use Rattle.hip_bytes.specs.Handle.{Handle}
 use Rattle.hip_bytes.specs.Kinds.{cut_kind, owned_kind, Holds, HoldsByLength}
 use Rattle.hip_bytes.specs.Cost.{CopyNeedsMemory, CutNeedsMemory, OwnNeedsMemory}
@@ -63,7 +63,8 @@ GatherAnswers shown into steps pieces sep (Ok handle) = HoldsByLength handle han
 GatherAnswers shown into steps pieces sep (Err Memory) = GivesFirst into steps pieces (λ given. INLINE_CAPACITY < length (join_by shown sep given))
 GatherAnswers shown into steps pieces sep (Err TooLong) = GivesFirst into steps pieces (λ given. 2 ^ 64 ≤ length (join_by shown sep given))
 
--- how far a meter rises by it
+-- how far a meter rises by it: where it was put together, no less than what stands there
 abbrev pub GatherCosts : {I T A : Type 0} → Bool → (A → List ℕ) → (I → T → Type 0) → (T → Option A → T → Type 0) → I → List ℕ → Result Handle GrowFault → ℕ → ℕ → Type 0
-GatherCosts shares shown into steps pieces sep (Ok handle) old new = RisesAtMost old new (join_cost shares (length handle.items))
+GatherCosts shares shown into steps pieces sep (Ok handle) old new =
+    RisesAtMost old new (join_cost shares (length handle.items)) × RisesAtLeast old new (length handle.items)
 GatherCosts shares shown into steps pieces sep (Err fault) old new = GivesFirst into steps pieces (λ given. RisesAtMost old new (join_cost shares (length (join_by shown sep given))))

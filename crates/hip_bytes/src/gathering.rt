@@ -1,6 +1,6 @@
 //! A list of bytes that is being made of others.
 ghost use Rattle.std.specs.Prelude.{◌≡◌, ◌≤◌, ◌<◌, ◌+◌, ◌^◌, ◌&&◌, true, false, [], ◌++◌, nat_le, length, take, IfOk, OnOk, OnErr};
-ghost use Rattle.hip_raw.specs.Meter.{RisesAtMost, unless_shared};
+ghost use Rattle.hip_raw.specs.Meter.{RisesAtLeast, RisesAtMost, unless_shared};
 ghost use Rattle.hip_bytes.specs.Kinds.{by_length, HasCapacity};
 ghost use Rattle.hip_bytes.specs.Gathering.{spill_cost};
 ghost use Rattle.hip_bytes.specs.declared.kind.TheConstants.{INLINE_CAPACITY};
@@ -102,6 +102,7 @@ impl Gathering {
         ensures too_long { result ≡ Err GrowFault.TooLong → 2 ^ 64 ≤ length self.old.items + length gap.now + length bytes.now }
         ensures memory { result ≡ Err GrowFault.Memory → self.old.in_handle ≡ true → INLINE_CAPACITY < length self.old.items + length gap.now + length bytes.now }
         ensures counted { OnOk result (RisesAtMost meter.old meter.new (length gap.now + length bytes.now + spill_cost self.old.in_handle self.new.in_handle)) }
+        ensures copied { OnOk result (RisesAtLeast meter.old meter.new (length gap.now + length bytes.now)) }
         ensures refused_copies_nothing { OnErr result (meter.new ≡ meter.old) }
     {
         let Some(more) = gap.len().checked_add(bytes.len()) else {
@@ -133,6 +134,7 @@ impl Gathering {
         ensures room { self.old.room ≤ self.new.room }
         ensures place { self.new.in_handle ≡ self.old.in_handle }
         ensures counted { RisesAtMost meter.old meter.new (length bytes.now) }
+        ensures copied { RisesAtLeast meter.old meter.new (length bytes.now) }
     {
         match &mut self.place {
             Place::Handle(inline) => inline.push_slice_unchecked_metered(bytes, meter),
@@ -149,6 +151,7 @@ impl Gathering {
         ensures room { self.old.room ≤ self.new.room }
         ensures place { self.new.in_handle ≡ self.old.in_handle }
         ensures counted { RisesAtMost meter.old meter.new count }
+        ensures copied { RisesAtLeast meter.old meter.new count }
     {
         match &mut self.place {
             Place::Handle(inline) => inline.push_front_unchecked_metered(count, meter),
@@ -197,6 +200,7 @@ fn spilled(
     ensures items { IfOk result (λ filling. filling.items ≡ (inline.now ++ gap.now) ++ bytes.now) }
     ensures too_long { result ≡ Err GrowFault.TooLong → 2 ^ 64 ≤ length inline.now + length gap.now + length bytes.now }
     ensures counted { OnOk result (RisesAtMost meter.old meter.new (length inline.now + length gap.now + length bytes.now)) }
+    ensures copied { OnOk result (RisesAtLeast meter.old meter.new (length gap.now + length bytes.now)) }
     ensures refused_copies_nothing { OnErr result (meter.new ≡ meter.old) }
 {
     let more = gap.len() + bytes.len();

@@ -9,10 +9,10 @@
 //! - [`BorshFault`] says why a Borsh form wasn't written to a [`ByteSink`] or read from a [`ByteSource`], [`JsonFault`] why a JSON value
 //!   wasn't read.
 //! - [`RefMut`] lends a value of a [`Source`], as a handle is one, as a vector; [`mutate`] makes one in functions that are generic in
-//!   the source.
+//!   the source. [`with_mutated`] lends the vector to a closure, and [`MutateFault`] says what a refusal left.
 //! - [`Piece`] is what joins are made of, bytes or texts.
 //! - What an implementor of [`Backend`], or a caller of the representations, names is handed on: [`Room`], [`Start`], [`Front`],
-//!   [`Appended`], [`Block`], [`Inline`], [`Length`], [`Borrowed`], [`Allocated`], [`fill_counted`], [`copy_counted`].
+//!   [`Appended`], [`Block`], [`Inline`], [`Length`], [`Borrowed`], [`Allocated`], [`Sole`], [`fill_counted`], [`copy_counted`].
 //!
 //! A call that copies has a form with the suffix `_metered` and a last argument `&mut Meter`; the plain call is that form with a
 //! fresh meter. Conversions from a `Cow`, and into a vector or a `Cow`, have none. A call that may want memory takes the allocator first,
@@ -31,6 +31,7 @@ mod hip_byt;
 mod json_fault;
 mod kind;
 pub mod laws;
+mod mutate_fault;
 mod piece;
 mod range;
 mod ref_mut;
@@ -40,13 +41,14 @@ pub use borsh_fault::BorshFault;
 pub use grow_fault::GrowFault;
 pub use hip_byt::HipByt;
 pub use hip_raw::{
-    Allocated, Appended, Backend, Block, Borrowed, ByteSink, ByteSource, FromRead, Front, Inline,
-    IoFault, Length, Meter, Rc, Room, SliceSource, Start, ToWrite, Unique, VecSink, copy_counted,
-    fill_counted,
+    Allocated, Appended, Backend, Block, Borrowed, ByteSink, ByteSource, FromRead, Front, Fuse,
+    Inline, IoFault, Length, Meter, Rc, Room, SliceSource, Sole, Start, ToWrite, Unique, VecSink,
+    copy_counted, fill_counted,
 };
 pub use json_fault::JsonFault;
 pub use kind::{INLINE_CAPACITY, Kind};
+pub use mutate_fault::MutateFault;
 pub use piece::Piece;
 pub use range::{bound_of, end_of, range_of, start_of};
-pub use ref_mut::{RefMut, Source, mutate, mutate_metered};
+pub use ref_mut::{RefMut, Source, mutate, mutate_metered, with_mutated, with_mutated_metered};
 pub use slice_error::{SliceError, SliceErrorKind, SliceRefusal};

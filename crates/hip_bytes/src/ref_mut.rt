@@ -1,10 +1,13 @@
 //! A value lent out as a vector.
-ghost use Rattle.std.specs.Prelude.{◌≡◌, ℕ, List, [], length, vec_len, IfOk, IfErr, OnOk, OnErr};
+ghost use Rattle.std.specs.Prelude.{◌≡◌, ℕ, List, [], length, IfOk, IfErr, OnOk, OnErr};
 ghost use Rattle.std.specs.Borrow.{sem, follows};
 ghost use Rattle.hip_raw.specs.Meter.{RisesAtMost};
+ghost use Rattle.std.specs.Vec.{vec_items};
+ghost use Rattle.hip_bytes.specs.Mutated.{MutateAnswers, MutateCosts, TakesItems};
 ghost use Rattle.hip_bytes.specs.RefMut.{lender, lent_items, lent_source};
 ghost use mir.Syntax.{named};
 
+use crate::mutate_fault::MutateFault;
 use hip_raw::{Block, Meter};
 use std::alloc::{AllocError, Global};
 use std::fmt;
@@ -47,8 +50,8 @@ pub trait Source: Drop {
         meter: &mut Meter,
     ) -> Result<(), Vec<u8>>
         ensures put { OnOk result (has_put self.new vec.items) }
-        ensures memory { OnErr result (put_needs_memory (vec_len vec)) }
-        ensures counted { RisesAtMost meter.old meter.new (put_cost (vec_len vec)) }
+        ensures memory { OnErr result (put_needs_memory (length vec.items)) }
+        ensures counted { RisesAtMost meter.old meter.new (put_cost (length vec.items)) }
         ensures err { OnErr result (self.new ≡ self.old) }
         ensures handed_back { IfErr result (λ back. back ≡ vec) };
 }
@@ -76,6 +79,40 @@ pub fn mutate_metered<'a, S: Source>(
 {
     let (vec, block) = source.lend_vec_metered(alloc, meter)?;
     Ok(RefMut::new(source, vec, block))
+}
+
+/// Calls `f` with a value's bytes in a vector, and makes the value that of the vector which `f` leaves. Where no vector could be lent `f`
+/// isn't called and the value is as it was; where the vector couldn't be put back the value is empty.
+pub fn with_mutated<S: Source, R: Drop, F: FnOnce(&mut Vec<u8>) -> R + Drop>(
+    source: &mut S,
+    alloc: Global,
+    f: F,
+) -> Result<R, MutateFault<R>>
+    requires { TakesItems vec_items F.FnOnce f (S.items source.old) }
+    ensures { MutateAnswers vec_items F.FnOnce f (S.items source.old) source.old source.new S.has_put S.is_emptied S.put_needs_memory result }
+{
+    with_mutated_metered(source, alloc, f, &mut Meter::new())
+}
+
+/// [`with_mutated`], counted. What `f` copies isn't.
+pub fn with_mutated_metered<S: Source, R: Drop, F: FnOnce(&mut Vec<u8>) -> R + Drop>(
+    source: &mut S,
+    alloc: Global,
+    f: F,
+    meter: &mut Meter,
+) -> Result<R, MutateFault<R>>
+    requires { TakesItems vec_items F.FnOnce f (S.items source.old) }
+    ensures mutated { MutateAnswers vec_items F.FnOnce f (S.items source.old) source.old source.new S.has_put S.is_emptied S.put_needs_memory result }
+    ensures counted { MutateCosts vec_items F.FnOnce f (S.items source.old) meter.old meter.new S.put_cost result }
+{
+    let Ok((mut lent, block)) = source.lend_vec_metered(alloc, meter) else {
+        return Err(MutateFault::Lend);
+    };
+    let answer = f(&mut lent);
+    match source.put_back_metered(alloc, block, lent, meter) {
+        Ok(()) => Ok(answer),
+        Err(back) => Err(MutateFault::PutBack(answer, back)),
+    }
 }
 
 /// A value's bytes in a vector, to be written back by [`RefMut::finish`]. While it lives the value is empty, and where it is dropped

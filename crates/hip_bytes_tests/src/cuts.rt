@@ -54,7 +54,10 @@ const COPIED_SHRINKS: &[Step] = &[
     Step(Call::Pop(None), b"", Kind::Inline),
 ];
 
-const LENT_SHRINKS: &[Step] = &[Step(Call::Truncate(5), b"aaaaa", Kind::Borrowed)];
+const LENT_SHRINKS: &[Step] = &[
+    Step(Call::PushSlice(b""), &[b'a'; 30], Kind::Borrowed),
+    Step(Call::Truncate(5), b"aaaaa", Kind::Borrowed),
+];
 
 const ROOM_CLEARED: &[Step] = &[Step(Call::Clear, b"", Kind::Allocated)];
 
@@ -105,6 +108,24 @@ fn in_place<H: Bytes>(rt: &impl Abort, alloc: Global) {
     must(rt, room.push_slice_metered(alloc, &[b'b'; 30], &mut meter));
     must(rt, room.push_metered(alloc, b'c', &mut meter));
     assert_eq!(rt; (meter.copied(), room.len()), (61, 61));
+}
+
+/// A push of nothing leaves an allocated handle as it is, and copies nothing.
+fn stays<H: Bytes>(rt: &impl Abort, alloc: Global, mut handle: H) {
+    let (len, capacity) = (handle.len(), handle.capacity());
+    let mut meter = Meter::new();
+    must(rt, handle.push_slice_metered(alloc, b"", &mut meter));
+    assert_eq!(rt;
+        (handle.kind(), handle.len(), handle.capacity(), meter.copied()),
+        (Kind::Allocated, len, capacity, 0)
+    );
+}
+
+/// On bytes that another handle shares, and on room in which nothing stands.
+fn nothing_is_pushed<H: Bytes>(rt: &impl Abort, alloc: Global) {
+    let letters = must(rt, H::from_slice(alloc, LETTERS));
+    stays(rt, alloc, must(rt, letters.clone(alloc)));
+    stays(rt, alloc, must(rt, H::with_capacity(alloc, 42)));
 }
 
 fn room_is_kept<H: Bytes>(rt: &impl Abort, alloc: Global) {
@@ -180,6 +201,7 @@ fn bounded_parts<H: Bytes>(rt: &impl Abort, alloc: Global) {
 pub(crate) fn in_place_on<H: Bytes>(rt: &impl Abort, alloc: Global) {
     runs::<H>(rt, alloc);
     in_place::<H>(rt, alloc);
+    nothing_is_pushed::<H>(rt, alloc);
     room_is_kept::<H>(rt, alloc);
     lent_capacity::<H>(rt);
 }

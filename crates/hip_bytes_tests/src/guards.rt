@@ -1,8 +1,8 @@
 //! Bytes that are taken out, or lent out by a guard, as a vector.
 use crate::groups::{Group, on_rc, on_unique};
 use crate::support::{Bytes, LETTERS, holds, is, must, text_of};
-use hipstr::bytes::mutate;
-use hipstr::{Kind, Meter};
+use hipstr::bytes::{HipByt, mutate, with_mutated};
+use hipstr::{Kind, Meter, Rc};
 use std::alloc::Global;
 use std::process::Abort;
 
@@ -54,11 +54,9 @@ fn lets_go<H: Bytes>(rt: &impl Abort, alloc: Global, handle: &mut H) {
     holds(rt, handle, b"", Kind::Inline);
 }
 
-/// Cuts the vector that is lent to five bytes.
+/// Cuts the vector that a closure is handed to five bytes.
 fn shortens<H: Bytes>(rt: &impl Abort, alloc: Global, handle: &mut H) {
-    let mut guard = must(rt, handle.mutate(alloc));
-    guard.as_mut_vec().truncate(5);
-    must(rt, guard.finish(alloc));
+    must(rt, with_mutated(handle, alloc, |vec: &mut Vec<u8>| vec.truncate(5)));
 }
 
 fn lends_a_vector<H: Bytes>(rt: &impl Abort, alloc: Global) {
@@ -130,6 +128,14 @@ pub(crate) fn all<H: Bytes>(rt: &impl Abort, alloc: Global) {
     shows_a_vector::<H>(rt, alloc);
     lends_a_shared_list::<H>(rt, alloc);
     lends_a_sole_list::<H>(rt, alloc);
+}
+
+#[test]
+fn a_closure_writes(rt: HostRuntime) {
+    let mut handle = must(&rt, HipByt::<Rc>::from_slice(rt.alloc(), b"Hello"));
+    let pushed = handle.with_mutated(rt.alloc(), |vec: &mut Vec<u8>| vec.push(b'!'));
+    must(&rt, must(&rt, pushed));
+    assert_eq!(&rt; handle.as_slice(), b"Hello!".as_slice());
 }
 
 #[test]

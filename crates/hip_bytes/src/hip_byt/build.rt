@@ -1,8 +1,8 @@
 //! Values that are made of others.
-ghost use Rattle.std.specs.Prelude.{◌≡◌, ◌≤◌, ◌<◌, ◌+◌, ◌*◌, ◌^◌, [], ◌++◌, nat_le, length, take, IfOk, IfErr, OnErr};
+ghost use Rattle.std.specs.Prelude.{◌≡◌, ◌≢◌, ◌≤◌, ◌<◌, ◌+◌, ◌*◌, ◌^◌, [], ◌++◌, nat_le, length, take, IfOk, IfErr, OnErr};
 ghost use Rattle.std.specs.List.{join_by, repeat};
 ghost use Rattle.std.specs.Option.{SomeIff};
-ghost use Rattle.hip_raw.specs.Meter.{RisesAtMost};
+ghost use Rattle.hip_raw.specs.Meter.{RisesAtLeast, RisesAtMost};
 ghost use Rattle.hip_bytes.specs.Cost.{clone_cost};
 ghost use Rattle.hip_bytes.specs.Join.{gap_at, joined, join_cost, repeat_cost};
 ghost use Rattle.hip_bytes.specs.Made.{CloneAnswers, JoinAnswers, RepeatAnswers};
@@ -33,6 +33,7 @@ impl<'b, B: Backend> HipByt<'b, B> {
     ) -> Result<Self, GrowFault>
         ensures repeated { RepeatAnswers self.now n result }
         ensures counted { RisesAtMost meter.old meter.new (repeat_cost B.SHARES self.now.kind (length self.now.items) n) }
+        ensures copied { n ≢ 1 → IfOk result (λ handle. RisesAtLeast meter.old meter.new (length handle.items)) }
         ensures refused_counts_none { result ≡ Err GrowFault.TooLong → meter.new ≡ meter.old }
     {
         if self.is_empty() {
@@ -63,6 +64,7 @@ impl<'b, B: Backend> HipByt<'b, B> {
     ) -> Result<Self, GrowFault>
         ensures joined { JoinAnswers (joined [] slices.now) result }
         ensures counted { RisesAtMost meter.old meter.new (join_cost B.SHARES (length (joined [] slices.now))) }
+        ensures copied { IfOk result (λ handle. RisesAtLeast meter.old meter.new (length handle.items)) }
         ensures refused_counts_none { result ≡ Err GrowFault.TooLong → meter.new ≡ meter.old }
     {
         Self::join_slices_metered(alloc, slices, &[], meter)
@@ -84,6 +86,7 @@ impl<'b, B: Backend> HipByt<'b, B> {
     ) -> Result<Self, GrowFault>
         ensures joined { JoinAnswers (joined sep.now slices.now) result }
         ensures counted { RisesAtMost meter.old meter.new (join_cost B.SHARES (length (joined sep.now slices.now))) }
+        ensures copied { IfOk result (λ handle. RisesAtLeast meter.old meter.new (length handle.items)) }
         ensures refused_counts_none { result ≡ Err GrowFault.TooLong → meter.new ≡ meter.old }
     {
         Self::join_piece_slices_metered(alloc, slices, sep, meter)
@@ -100,6 +103,7 @@ impl<'b, B: Backend> HipByt<'b, B> {
         ensures joined { JoinAnswers (join_by P.bytes sep.now pieces.now) result }
         ensures kept { IfOk result (λ handle. P.keeps handle.items) }
         ensures counted { RisesAtMost meter.old meter.new (join_cost B.SHARES (length (join_by P.bytes sep.now pieces.now))) }
+        ensures copied { IfOk result (λ handle. RisesAtLeast meter.old meter.new (length handle.items)) }
         ensures refused_counts_none { result ≡ Err GrowFault.TooLong → meter.new ≡ meter.old }
     {
         let Some(len) = joined_len(pieces, sep) else {
@@ -148,6 +152,7 @@ fn joined_within<P: Piece>(
     ensures place { IfOk result (λ made. made.in_handle ≡ nat_le len INLINE_CAPACITY) }
     ensures memory { OnErr result (INLINE_CAPACITY < len) }
     ensures counted { RisesAtMost meter.old meter.new len }
+    ensures copied { IfOk result (λ made. RisesAtLeast meter.old meter.new len) }
 {
     if len <= INLINE_CAPACITY {
         let mut inline = Inline::empty();
@@ -199,6 +204,7 @@ fn repeated(
     ensures place { IfOk result (λ made. made.in_handle ≡ nat_le len INLINE_CAPACITY) }
     ensures memory { OnErr result (INLINE_CAPACITY < len) }
     ensures counted { RisesAtMost meter.old meter.new len }
+    ensures copied { IfOk result (λ made. RisesAtLeast meter.old meter.new len) }
 {
     let mut made = Gathering::with_room(alloc, len)?;
     if n == 0 {

@@ -1,9 +1,9 @@
 //! Pushes, and cuts in place.
 ghost use Rattle.std.specs.Prelude.{◌≡◌, ◌≤◌, ◌<◌, ◌+◌, ◌↔◌, ◌∷◌, [], ◌++◌, length, take, max, min, IfOk, IfNone, IsSome, OnOk, OnErr, OnSome};
 ghost use Rattle.std.specs.Option.{option_to_list};
-ghost use Rattle.hip_raw.specs.Meter.{RisesAtMost, times_copied};
+ghost use Rattle.hip_raw.specs.Meter.{RisesAtLeast, RisesAtMost, times_copied};
 ghost use Rattle.hip_bytes.specs.Change.{IsShortened, PopAnswers, PushAnswers, ShrinkAnswers};
-ghost use Rattle.hip_bytes.specs.Cost.{CutNeedsMemory, PushIsPaid, PushNeedsMemory, shortened_cost, shrink_cost};
+ghost use Rattle.hip_bytes.specs.Cost.{CutNeedsMemory, PushIsPaid, PushNeedsMemory, push_cost, shortened_cost, shrink_cost};
 ghost use Rattle.hip_bytes.specs.Repr.{handle_of};
 ghost use Rattle.hip_bytes.specs.Kinds.{by_length, cut_kind, kept_capacity, PushedKind, HasCapacity};
 ghost use Rattle.hip_bytes.specs.declared.kind.TheConstants.{INLINE_CAPACITY};
@@ -27,6 +27,7 @@ fn joined<'b, B: Backend>(
     ensures capacity { IfOk result (λ repr. HasCapacity (handle_of repr).kind (length front.now + length back.now) (handle_of repr).capacity) }
     ensures memory { OnErr result (INLINE_CAPACITY < length front.now + length back.now) }
     ensures counted { RisesAtMost meter.old meter.new (times_copied B.SHARES (length front.now + length back.now)) }
+    ensures copied { IfOk result (λ repr. RisesAtLeast meter.old meter.new (length front.now + length back.now)) }
 {
     let Some(len) = front.len().checked_add(back.len()) else {
         return Err(AllocError);
@@ -47,7 +48,8 @@ fn joined<'b, B: Backend>(
 }
 
 impl<'b, B: Backend> HipByt<'b, B> {
-    /// Adds bytes at the end: in place where they fit the handle itself or its owner is not shared, else in a copy.
+    /// Adds bytes at the end: in place where they fit the handle itself or its owner is not shared, else in a copy. Where there are none
+    /// to add, nothing changes, whatever the representation.
     #[inline(always)]
     pub fn push_slice(&mut self, alloc: Global, addition: &[u8]) -> Result<(), AllocError>
         ensures push { PushAnswers B.SHARES self.old addition.now result self.new }
@@ -64,9 +66,13 @@ impl<'b, B: Backend> HipByt<'b, B> {
         meter: &mut Meter,
     ) -> Result<(), AllocError>
         ensures push { PushAnswers B.SHARES self.old addition.now result self.new }
-        ensures counted { RisesAtMost meter.old meter.new (times_copied B.SHARES (length self.old.items + length addition.now)) }
+        ensures counted { RisesAtMost meter.old meter.new (push_cost B.SHARES (length self.old.items) (length addition.now)) }
+        ensures copied { OnOk result (RisesAtLeast meter.old meter.new (length addition.now)) }
         ensures paid { PushIsPaid B.SHARES self.old self.new (length addition.now) meter.old meter.new }
     {
+        if addition.is_empty() {
+            return Ok(());
+        }
         match &mut self.bare.repr {
             Repr::Inline(inline) if addition.len() <= INLINE_CAPACITY - inline.len() => {
                 inline.push_slice_unchecked_metered(addition, meter);
@@ -101,6 +107,7 @@ impl<'b, B: Backend> HipByt<'b, B> {
         ensures capacity { OnOk result (HasCapacity self.new.kind (length self.new.items) self.new.capacity) }
         ensures memory { OnErr result (INLINE_CAPACITY < length self.old.items + length addition.now) }
         ensures counted { RisesAtMost meter.old meter.new (times_copied B.SHARES (length self.old.items + length addition.now)) }
+        ensures copied { OnOk result (RisesAtLeast meter.old meter.new (length self.old.items + length addition.now)) }
         ensures err { OnErr result (self.new ≡ self.old) }
     {
         self.bare.repr = joined(alloc, self.as_slice(), addition, meter)?;
@@ -124,7 +131,8 @@ impl<'b, B: Backend> HipByt<'b, B> {
         meter: &mut Meter,
     ) -> Result<(), AllocError>
         ensures push { PushAnswers B.SHARES self.old (byte ∷ []) result self.new }
-        ensures counted { RisesAtMost meter.old meter.new (times_copied B.SHARES (length self.old.items + 1)) }
+        ensures counted { RisesAtMost meter.old meter.new (push_cost B.SHARES (length self.old.items) 1) }
+        ensures copied { OnOk result (RisesAtLeast meter.old meter.new 1) }
         ensures paid { PushIsPaid B.SHARES self.old self.new 1 meter.old meter.new }
     {
         self.push_slice_metered(alloc, &[byte], meter)

@@ -1,7 +1,7 @@
 //! Values that are made of the items of an iterator, which is read once.
 ghost use Rattle.std.specs.Prelude.{◌≡◌, ◌≤◌, ◌<◌, ◌+◌, ◌^◌, [], nat_le, length, IfOk, OnErr};
 ghost use Rattle.std.specs.Iterator.{IsFinite};
-ghost use Rattle.hip_raw.specs.Meter.{RisesAtMost};
+ghost use Rattle.hip_raw.specs.Meter.{RisesAtLeast, RisesAtMost};
 ghost use Rattle.std.specs.List.{join_by};
 ghost use Rattle.hip_bytes.specs.Join.{bytes_of, GivesAll, GivesFirst};
 ghost use Rattle.hip_bytes.specs.Made.{GatherAnswers, GatherCosts};
@@ -102,6 +102,7 @@ fn gathered<P: Piece, I: IntoIterator<Item = P>>(
     ensures too_long { result ≡ Err GrowFault.TooLong → GivesFirst I.into_iter_gives I.IntoIter.next_gives pieces (λ xs. 2 ^ 64 ≤ length (join_by P.bytes sep.now xs)) }
     ensures memory { result ≡ Err GrowFault.Memory → GivesFirst I.into_iter_gives I.IntoIter.next_gives pieces (λ xs. INLINE_CAPACITY < length (join_by P.bytes sep.now xs)) }
     ensures counted { IfOk result (λ made. RisesAtMost meter.old meter.new (length made.items + INLINE_CAPACITY)) }
+    ensures copied { IfOk result (λ made. RisesAtLeast meter.old meter.new (length made.items)) }
     ensures refused_counts { OnErr result (GivesFirst I.into_iter_gives I.IntoIter.next_gives pieces (λ xs. RisesAtMost meter.old meter.new (length (join_by P.bytes sep.now xs) + INLINE_CAPACITY))) }
 {
     let mut made = Gathering::new();

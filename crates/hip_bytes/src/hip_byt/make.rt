@@ -1,6 +1,6 @@
 //! Makers.
 ghost use Rattle.std.specs.Prelude.{◌≡◌, ◌≤◌, ◌<◌, ◌↔◌, [], length, vec_len, IsSome, IfSome, IfNone, IfOk, IfErr, OnErr};
-ghost use Rattle.hip_raw.specs.Meter.{RisesAtMost, times_copied};
+ghost use Rattle.hip_raw.specs.Meter.{RisesAtLeast, RisesAtMost, times_copied};
 ghost use Rattle.hip_bytes.specs.Cost.{taken_cost};
 ghost use Rattle.hip_bytes.specs.Kinds.{by_length, Holds, IsEmptyInline};
 ghost use Rattle.hip_bytes.specs.Made.{MakeAnswers};
@@ -34,6 +34,7 @@ impl<'b, B: Backend> HipByt<'b, B> {
         requires { length bytes.now ≤ INLINE_CAPACITY }
         ensures holds { Holds result Kind.Inline bytes.now }
         ensures counted { RisesAtMost meter.old meter.new (length bytes.now) }
+        ensures copied { RisesAtLeast meter.old meter.new (length bytes.now) }
     {
         HipByt::of(Repr::Inline(Inline::new_unchecked_metered(bytes, meter)))
     }
@@ -53,6 +54,7 @@ impl<'b, B: Backend> HipByt<'b, B> {
         ensures fits { IsSome result ↔ (length bytes.now ≤ INLINE_CAPACITY) }
         ensures holds { IfSome result (λ handle. Holds handle Kind.Inline bytes.now) }
         ensures counted { RisesAtMost meter.old meter.new (length bytes.now) }
+        ensures copied { IfSome result (λ handle. RisesAtLeast meter.old meter.new (length bytes.now)) }
         ensures none { IfNone result (meter.new ≡ meter.old) }
     {
         if bytes.len() <= INLINE_CAPACITY {
@@ -112,6 +114,7 @@ impl<'b, B: Backend> HipByt<'b, B> {
     ) -> Result<Self, AllocError>
         ensures made { MakeAnswers bytes.now result }
         ensures counted { RisesAtMost meter.old meter.new (times_copied B.SHARES (length bytes.now)) }
+        ensures copied { IfOk result (λ handle. RisesAtLeast meter.old meter.new (length bytes.now)) }
     {
         if bytes.len() <= INLINE_CAPACITY {
             return Ok(Self::inline_metered(bytes, meter));

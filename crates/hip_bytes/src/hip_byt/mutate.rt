@@ -3,11 +3,15 @@ ghost use Rattle.std.specs.Prelude.{◌≡◌, ◌<◌, length, IfOk};
 ghost use Rattle.hip_raw.specs.Meter.{RisesAtMost};
 ghost use Rattle.hip_bytes.specs.Cost.{taken_cost};
 ghost use Rattle.hip_bytes.specs.Kinds.{HoldsByLength, IsEmptyInline};
+ghost use Rattle.std.specs.Vec.{vec_items};
+ghost use Rattle.hip_bytes.specs.Mutated.{MutateAnswers, MutateCosts, TakesItems};
 ghost use Rattle.hip_bytes.specs.RefMut.{lender, lent_items, lent_source};
+ghost use Rattle.hip_bytes.specs.declared.kind.TheConstants.{INLINE_CAPACITY};
 
 use super::{HipByt, Repr};
 use crate::kind::INLINE_CAPACITY;
-use crate::ref_mut::{RefMut, Source, mutate_metered};
+use crate::mutate_fault::MutateFault;
+use crate::ref_mut::{RefMut, Source, mutate_metered, with_mutated_metered};
 use hip_raw::{Allocated, Backend, Block, Meter, copy_counted};
 use std::alloc::{AllocError, Global};
 use std::mem;
@@ -84,5 +88,32 @@ impl<'b, B: Backend> HipByt<'b, B> {
         ensures counted { RisesAtMost meter.old meter.new (length self.old.items) }
     {
         mutate_metered(self, alloc, meter)
+    }
+
+    /// Calls `f` with the bytes in a vector, and makes the value that of the vector which `f` leaves. Where no vector could be lent `f`
+    /// isn't called and the value is as it was; where the vector couldn't be put back the value is empty.
+    pub fn with_mutated<R: Drop, F: FnOnce(&mut Vec<u8>) -> R + Drop>(
+        &mut self,
+        alloc: Global,
+        f: F,
+    ) -> Result<R, MutateFault<R>>
+        requires { TakesItems vec_items F.FnOnce f self.old.items }
+        ensures { MutateAnswers vec_items F.FnOnce f self.old.items self.old self.new HoldsByLength IsEmptyInline (λ len. INLINE_CAPACITY < len) result }
+    {
+        self.with_mutated_metered(alloc, f, &mut Meter::new())
+    }
+
+    /// [`HipByt::with_mutated`], counted. What `f` copies isn't.
+    pub fn with_mutated_metered<R: Drop, F: FnOnce(&mut Vec<u8>) -> R + Drop>(
+        &mut self,
+        alloc: Global,
+        f: F,
+        meter: &mut Meter,
+    ) -> Result<R, MutateFault<R>>
+        requires { TakesItems vec_items F.FnOnce f self.old.items }
+        ensures mutated { MutateAnswers vec_items F.FnOnce f self.old.items self.old self.new HoldsByLength IsEmptyInline (λ len. INLINE_CAPACITY < len) result }
+        ensures counted { MutateCosts vec_items F.FnOnce f self.old.items meter.old meter.new (taken_cost B.SHARES) result }
+    {
+        with_mutated_metered(self, alloc, f, meter)
     }
 }

@@ -28,6 +28,7 @@ loop-i-2-preserved g c =
         never_falls = omega (arith, more.counted.never_falls, c.loop-i-2.invariant.counted.never_falls);
         at_most = omega (arith, more.counted.at_most, c.loop-i-2.invariant.counted.at_most, grown);
       };
+      copied = omega (arith, more.copied, c.loop-i-2.invariant.copied, grown);
     }
 
 pub push_slice_unchecked_metered-requires : goal.push_slice_unchecked_metered-requires
@@ -60,4 +61,5 @@ loop-i-preserved g c =
         never_falls = omega (arith, more.counted.never_falls, behind.counted.never_falls, c.loop-i.invariant.counted.never_falls);
         at_most = omega (arith, more.counted.at_most, behind.counted.at_most, c.loop-i.invariant.counted.at_most, grown);
       };
+      copied = omega (arith, more.exact, behind.exact, c.loop-i.invariant.copied, grown);
     }

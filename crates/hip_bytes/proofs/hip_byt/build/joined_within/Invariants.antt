@@ -1,6 +1,6 @@
 use Rattle.std.proofs.Common.{◌≡◌, ◌≤◌, length, take}
 use Rattle.std.specs.List.{join_by}
-use Rattle.hip_raw.specs.Meter.{RisesAtMost}
+use Rattle.hip_raw.specs.Meter.{RisesAtLeast, RisesAtMost}
 use Rattle.hip_bytes.proofs.hip_byt.build.joined_within.Given as goal
 
 -- the join so far lies in the handle
@@ -9,6 +9,7 @@ invariant-loop-i g l = record {
   items : l.inline ≡ join_by g.P.Piece.bytes l.sep (take l.i l.pieces);
   kept : g.P.Piece.keeps l.inline;
   counted : RisesAtMost l.fn.meter l.meter (length l.inline);
+  copied : RisesAtLeast l.fn.meter l.meter (length l.inline);
 }
 
 -- the join so far lies in the vector, with room for the rest
@@ -18,4 +19,5 @@ invariant-loop-i-2 g l = record {
   kept : g.P.Piece.keeps l.filling.items;
   room : l.len ≤ l.filling.capacity;
   counted : RisesAtMost l.fn.meter l.meter (length l.filling.items);
+  copied : RisesAtLeast l.fn.meter l.meter (length l.filling.items);
 }

@@ -39,6 +39,7 @@ loop-done-preserved c =
       room = omega arith;
       place = c.add_front_within.ensures.place ∙ c.loop-done.invariant.place;
       counted = record { never_falls = omega arith; at_most = omega (arith, add-mul done more (length bytes)) };
+      copied = omega (arith, c.add_front_within.ensures.copied, c.loop-done.invariant.copied, add-mul done more (length bytes));
     }
 
 pub returns-clause-len : goal.returns-clause-len

@@ -1,6 +1,6 @@
 use Rattle.std.proofs.Common.{◌≡◌, ◌≤◌, ◌<◌, ◌*◌, ◌-◌, nat_le, length}
 use Rattle.std.specs.List.{repeat}
-use Rattle.hip_raw.specs.Meter.{RisesAtMost}
+use Rattle.hip_raw.specs.Meter.{RisesAtLeast, RisesAtMost}
 use Rattle.hip_bytes.specs.declared.kind.TheConstants.{INLINE_CAPACITY}
 use Rattle.hip_bytes.proofs.hip_byt.build.repeated.Given as goal
 
@@ -13,6 +13,7 @@ invariant-loop-done l = record {
   room : l.len ≤ l.made.room;
   place : l.made.in_handle ≡ nat_le l.len INLINE_CAPACITY;
   counted : RisesAtMost l.fn.meter l.meter (l.done * length l.bytes);
+  copied : RisesAtLeast l.fn.meter l.meter (l.done * length l.bytes);
 }
 
 -- the repetitions that are left

@@ -38,4 +38,5 @@ loop-piece-preserved g c =
         never_falls = omega (arith, more.counted.never_falls);
         at_most = omega (arith, more.counted.at_most, spilled_once c.loop-piece.made.in_handle c.add_behind.new.self.in_handle (nat_le (length c.add_behind.new.self.items) INLINE_CAPACITY) more.place);
       };
+      copied = omega (arith, more.copied, c.loop-piece.invariant.copied, length_is);
     }

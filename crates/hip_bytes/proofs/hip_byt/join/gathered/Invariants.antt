@@ -1,6 +1,6 @@
 use Rattle.std.proofs.Common.{◌≡◌, ◌+◌, nat_le, length, if◌then◌else◌}
 use Rattle.std.specs.List.{join_by}
-use Rattle.hip_raw.specs.Meter.{RisesAtMost}
+use Rattle.hip_raw.specs.Meter.{RisesAtLeast, RisesAtMost}
 use Rattle.hip_bytes.specs.Join.{gap_at}
 use Rattle.hip_bytes.specs.declared.kind.TheConstants.{INLINE_CAPACITY}
 use Rattle.hip_bytes.proofs.hip_byt.join.gathered.Given as goal
@@ -13,4 +13,5 @@ invariant-loop-piece g l = record {
   gap : l.gap ≡ gap_at (length l.yielded) l.sep;
   place : l.made.in_handle ≡ nat_le (length l.made.items) INLINE_CAPACITY;
   counted : RisesAtMost l.fn.meter l.meter (length l.made.items + (if l.made.in_handle then 0 else INLINE_CAPACITY));
+  copied : RisesAtLeast l.fn.meter l.meter (length l.made.items);
 }
