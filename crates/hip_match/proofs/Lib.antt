@@ -17,3 +17,4 @@ pub mod RunLemmas
 pub mod LaneLemmas
 pub mod MarkLemmas
 pub mod GapLemmas
+pub mod OrderLemmas

@@ -13,4 +13,5 @@ pub mod Joined
 pub mod Answers
 pub mod Marks
 pub mod Ready
+pub mod Clones
 pub mod Rows

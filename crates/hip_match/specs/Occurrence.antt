@@ -1,5 +1,5 @@
 -- Where a pattern occurs in a text, at byte positions as in Rust's `str`. `ends` gives the end of the occurrence that starts at a place, if there is one.
-use Rattle.std.specs.Prelude.{◌≡◌, ℕ, zero, suc, ◌+◌, ◌<◌, ◌≤◌, ◌==◌, nat_lt, nat_le, Bool, false, ◌&&◌, ◌||◌, Option, None, Some, List, MatchOption, length, slice_index, if◌then◌else◌}
+use Rattle.std.specs.Prelude.{◌≡◌, ◌↔◌, ℕ, zero, suc, ◌+◌, ◌<◌, ◌≤◌, ◌==◌, nat_lt, nat_le, Bool, false, ◌&&◌, ◌||◌, Option, None, Some, List, MatchOption, length, slice_index, if◌then◌else◌}
 use Rattle.std.specs.Str.{IsCharBoundary}
 
 -- the range lies between boundaries of the text
@@ -50,6 +50,10 @@ start_among ends from (suc n) j = if ends_at (ends (from + n)) j then Some (from
 -- the start of the occurrence that ends at j
 abbrev pub start_of : (ℕ → Option ℕ) → ℕ → Option ℕ
 start_of ends j = start_among ends 0 (j + 1) j
+
+-- an occurrence starts and ends at the same places, whether it is looked for from its start or from its end
+abbrev pub EndsMatchStarts : (ℕ → Option ℕ) → Type 0
+EndsMatchStarts ends = (a j : ℕ) → (start_of ends j ≡ Some a) ↔ (ends a ≡ Some j)
 
 -- no occurrence that starts before i ends after it
 abbrev pub NoneCrosses : (ℕ → Option ℕ) → ℕ → Type 0

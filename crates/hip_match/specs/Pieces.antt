@@ -74,3 +74,12 @@ rsplit_terminator ends n = without_empty_first (rsplit ends n)
 
 abbrev pub rsplitn : ℕ → (ℕ → Option ℕ) → ℕ → List (ℕ × ℕ)
 rsplitn count ends n = at_most_from count (rsplit ends n) 0
+
+-- ---- the ranges lie in order within a text of n bytes: each starts at or after the end of the one before and ends at or after its own
+-- start, and the last ends at or before the text's end
+abbrev pub AreInOrder : ℕ → List (ℕ × ℕ) → Type 0
+AreInOrder n ranges = InOrder 0 ranges n
+
+-- the same of ranges that are listed from the back
+abbrev pub AreInReverseOrder : ℕ → List (ℕ × ℕ) → Type 0
+AreInReverseOrder n ranges = InOrderBack 0 ranges n

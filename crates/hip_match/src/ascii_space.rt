@@ -5,7 +5,7 @@ ghost use Rattle.hip_match.specs.Occurrence.{IsCut};
 ghost use Rattle.hip_match.specs.Ready.{IsWindow};
 ghost use Rattle.hip_match.specs.Runs.{nonempty, split_ascii_whitespace};
 
-use crate::ranges::{Ranges, RangesBack};
+use crate::ranges::{CloneRanges, Ranges, RangesBack};
 use std::simd::prelude::*;
 
 const LANES: usize = 64;
@@ -241,6 +241,12 @@ impl<'h> Ranges for AsciiRuns<'h> {
         }
         self.take_rest()
     }
+}
+
+impl<'h> CloneRanges for AsciiRuns<'h> {
+    ghost use Rattle.std.proofs.Common.{rules};
+
+    ghost clone_keeps = { Prim.search rules };
 }
 
 impl<'h> RangesBack for AsciiRuns<'h> {

@@ -5,9 +5,11 @@ ghost use Rattle.hip_match.specs.Characters.{char_ends};
 ghost use Rattle.hip_match.specs.Draw.{draw, fronts, backs, left_by};
 ghost use Rattle.hip_match.specs.Joined.{joined, parts, together};
 ghost use Rattle.hip_match.specs.Leftmost.{IsLeftmost, leftmost};
-ghost use Rattle.hip_match.specs.Pieces.{split, split_inclusive};
+ghost use Rattle.hip_match.specs.Occurrence.{EndsMatchStarts};
+ghost use Rattle.hip_match.specs.Pieces.{split, split_inclusive, split_terminator, splitn, rsplit, rsplit_terminator, rsplitn};
+ghost use Rattle.hip_match.specs.Pieces.{AreInOrder, AreInReverseOrder};
 ghost use Rattle.hip_match.specs.Rightmost.{IsRightmost, rightmost};
-ghost use Rattle.hip_match.specs.Runs.{AreRuns, split_whitespace, split_ascii_whitespace};
+ghost use Rattle.hip_match.specs.Runs.{AreRuns, lines, split_whitespace, split_ascii_whitespace};
 ghost use Rattle.hip_match.specs.Texts.{text_ends};
 
 use crate::draw::End;
@@ -56,4 +58,34 @@ pub fn ended_pieces_are_the_text<P: Pattern>(pattern: &P, text: &str)
 pub fn white_space_parts_the_longest_runs(text: &str)
     ensures unicode { AreRuns is_whitespace text.now (split_whitespace text.now) }
     ensures ascii { AreRuns is_ascii_whitespace text.now (split_ascii_whitespace text.now) }
+{}
+
+/// An occurrence is the same, whether it is looked for from its start or from its end.
+pub fn ends_match_starts<P: ReversePattern>(pattern: &P, text: &str)
+    ensures { EndsMatchStarts (P.ends pattern.now text.now) }
+{}
+
+/// The ranges that a pattern makes of a text from its front lie in order.
+pub fn ranges_lie_in_order<P: Pattern>(pattern: &P, count: usize, text: &str)
+    ensures matches { AreInOrder (length text.now) (leftmost (P.ends pattern.now text.now) (length text.now)) }
+    ensures split { AreInOrder (length text.now) (split (P.ends pattern.now text.now) (length text.now)) }
+    ensures inclusive { AreInOrder (length text.now) (split_inclusive (P.ends pattern.now text.now) (length text.now)) }
+    ensures terminator { AreInOrder (length text.now) (split_terminator (P.ends pattern.now text.now) (length text.now)) }
+    ensures splitn { AreInOrder (length text.now) (splitn count (P.ends pattern.now text.now) (length text.now)) }
+{}
+
+/// Those from its end lie in reverse order.
+pub fn ranges_lie_in_reverse_order<P: ReversePattern>(pattern: &P, count: usize, text: &str)
+    ensures matches { AreInReverseOrder (length text.now) (rightmost (P.ends pattern.now text.now) (length text.now)) }
+    ensures split { AreInReverseOrder (length text.now) (rsplit (P.ends pattern.now text.now) (length text.now)) }
+    ensures terminator { AreInReverseOrder (length text.now)
+        (rsplit_terminator (P.ends pattern.now text.now) (length text.now)) }
+    ensures splitn { AreInReverseOrder (length text.now) (rsplitn count (P.ends pattern.now text.now) (length text.now)) }
+{}
+
+/// Lines and the runs between white space lie in order.
+pub fn lines_and_runs_lie_in_order(text: &str)
+    ensures lines { AreInOrder (length text.now) (lines text.now) }
+    ensures unicode { AreInOrder (length text.now) (split_whitespace text.now) }
+    ensures ascii { AreInOrder (length text.now) (split_ascii_whitespace text.now) }
 {}

@@ -1,4 +1,27 @@
-//! Finding text: patterns, and iterators over the ranges that they cut a text into.
+//! Finding text: **each walk is a list of ranges of one text, declared as Rust's `str` tells it, and whatever is drawn of it from
+//! either end is what that list has there.**
+//!
+//! - [`Pattern`] is what can be looked for: a `char`, `&str`, `&&str`, `&String`, `&[char]`, `&[char; N]`, and by a [`CharPred`] a
+//!   closure on characters, whose answers are a [`Chosen`] list, made by [`choose_by`] where types are open. [`ReversePattern`] is found
+//!   from the end too, [`DoubleEndedPattern`] may be trimmed from both ends, each match of a [`OneChar`] is one character, and the
+//!   clones of a [`ClonePattern`] are found where it is.
+//! - [`Ranges`] is a walk from its front, [`RangesBack`] from both ends, and the clones of [`CloneRanges`] give what they do: [`Split`],
+//!   [`SplitInclusive`], [`SplitTerminator`], [`SplitN`], [`Matches`] and [`MatchIndices`] from a text's front, [`RSplit`],
+//!   [`RSplitTerminator`], [`RSplitN`], [`RMatches`] and [`RMatchIndices`] from its end, [`Lines`], [`SplitWhitespace`] and
+//!   [`SplitAsciiWhitespace`].
+//! - [`trim_start`], [`trim_end`], [`trim::trim`] and [`trim_matches`] with its kin, [`strip_prefix`], [`strip_suffix`], [`split_once`]
+//!   and [`rsplit_once`] give one range or two.
+//! - [`draw_into`] draws a walk by a script of [`End`]s.
+//! - [`laws`] has what holds of the declared lists, each law as the contract of a function that does nothing.
+//!
+//! No call takes memory, but that a clone of a walk may want what a clone of its pattern wants.
+//!
+//! The words of the contracts stand in `specs/`: `Occurrence` (where a pattern occurs, and what a search gives), `Characters` and `Texts`
+//! (where sets of characters and texts occur), `Leftmost` and `Rightmost` (the lists of matches), `Pieces` (the parts between matches, and
+//! lists in order), `Runs` (lines, and runs between white space), `Trims` (what is removed from the ends), `Draw` (what a script draws),
+//! `Joined` (pieces put together again), `Answers` (what a closure answers), `Ready` and `Marks` (what a walk keeps of its places) and
+//! `Clones` (what its clone keeps); what they give for texts as one writes them down stands in `Rows`, and `CharLaws` and `TextLaws` have
+//! what holds of the places where characters and texts occur.
 #![tactic(auto)]
 
 mod ascii_space;
@@ -19,3 +42,20 @@ pub mod split;
 pub mod texts;
 pub mod trim;
 pub mod white_space;
+
+pub use chosen::Chosen;
+pub use draw::{End, draw_into};
+pub use lines::Lines;
+pub use matches::{MatchIndices, Matches};
+pub use pattern::{ClonePattern, DoubleEndedPattern, OneChar, Pattern, ReversePattern};
+pub use predicate::{CharPred, choose_by};
+pub use ranges::{CloneRanges, Ranges, RangesBack};
+pub use rmatches::{RMatchIndices, RMatches};
+pub use rsplit::{RSplit, RSplitN, RSplitTerminator};
+pub use split::{Split, SplitInclusive, SplitN, SplitTerminator};
+pub use texts::TextSearcher;
+pub use trim::{
+    rsplit_once, split_once, strip_prefix, strip_suffix, trim_end, trim_end_matches, trim_matches,
+    trim_start, trim_start_matches,
+};
+pub use white_space::{SplitAsciiWhitespace, SplitWhitespace};

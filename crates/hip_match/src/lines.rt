@@ -1,9 +1,12 @@
 //! The lines of a text.
-ghost use Rattle.std.specs.Prelude.{◌≡◌, map};
+ghost use Rattle.std.specs.Prelude.{◌≡◌, ◌==◌, map};
+ghost use Rattle.std.proofs.Common.{ap};
+ghost use Rattle.hip_match.specs.Characters.{char_ends};
+ghost use Rattle.hip_match.specs.Clones.{lines_kept};
 ghost use Rattle.hip_match.specs.Occurrence.{IsCut};
 ghost use Rattle.hip_match.specs.Runs.{line_of, lines};
 
-use crate::ranges::{Ranges, RangesBack};
+use crate::ranges::{CloneRanges, Ranges, RangesBack};
 use crate::split::SplitInclusive;
 
 /// The lines of a text, each ended by a line feed or by the text's end. The line feed is left out, and so is one carriage return before it.
@@ -60,6 +63,11 @@ impl<'h> Ranges for Lines<'h> {
         let part = self.parts.next()?;
         Some(without_line_end(self.text, part))
     }
+}
+
+impl<'h> CloneRanges for Lines<'h> {
+    ghost clone_keeps = { λ s copy is. lines_kept _ _ _ _ s.text.now copy.text.now _ _ (ap (λ t. t.now) is.0)
+        (is.1 (λ p q same. record { searchable = λ h. h; occurs = ap (λ c. char_ends (λ d. d == c)) same })) };
 }
 
 impl<'h> RangesBack for Lines<'h> {

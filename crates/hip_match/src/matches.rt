@@ -1,16 +1,18 @@
 //! The occurrences of a pattern, leftmost first.
 ghost use Rattle.std.specs.Prelude.{◌≡◌, ◌<◌, [], IfSome, length, if◌then◌else◌};
 ghost use Rattle.std.specs.Iterator.{YieldsLast};
+ghost use Rattle.hip_match.specs.Clones.{ClonesKeep, KeepsRanges};
 ghost use Rattle.hip_match.specs.Occurrence.{IsCut};
 ghost use Rattle.hip_match.specs.Leftmost.{leftmost, leftmost_between};
 ghost use Rattle.hip_match.specs.Ready.{IsFrontWindow, IsBetween, TakesLastCut};
 
 use crate::boundaries::boundary_after;
-use crate::pattern::{OneChar, Pattern};
-use crate::ranges::{Ranges, RangesBack};
+use crate::pattern::{ClonePattern, OneChar, Pattern};
+use crate::ranges::{CloneRanges, Ranges, RangesBack};
+use std::alloc::AllocError;
 
 /// The occurrences of a pattern in a text, leftmost first, no two overlapping.
-#[derive(Clone, Drop)]
+#[derive(Drop)]
 pub struct Matches<'h, P: Pattern> {
     text: &'h str,
     pattern: P,
@@ -18,6 +20,34 @@ pub struct Matches<'h, P: Pattern> {
     from: usize,
     to: usize,
     done: bool,
+}
+
+// The searcher is prepared anew, so that nothing but the pattern's clone may want memory.
+impl<'h, P: Pattern + Clone> Clone for Matches<'h, P> {
+    ghost is_clone = { λ m copy. ClonesKeep P.is_clone P.can_search P.ends → KeepsRanges
+        ⟦<Matches<'h, P> as Ranges>⟧.ready
+        ⟦<Matches<'h, P> as Ranges>⟧.text
+        ⟦<Matches<'h, P> as Ranges>⟧.rest
+        m copy };
+
+    ghost is_infallible = { λ m. P.is_infallible m.pattern };
+
+    fn clone(&self) -> Result<Self, AllocError> {
+        let pattern = self.pattern.clone()?;
+        let searcher = pattern.searcher();
+        Ok(Matches {
+            text: self.text,
+            pattern,
+            searcher,
+            from: self.from,
+            to: self.to,
+            done: self.done,
+        })
+    }
+}
+
+impl<'h, P: ClonePattern> CloneRanges for Matches<'h, P> {
+    ghost clone_keeps = { λ _ _ is. is P.clones_keep };
 }
 
 impl<'h, P: Pattern> Matches<'h, P> {
@@ -129,9 +159,29 @@ impl<'h, P: OneChar> RangesBack for Matches<'h, P> {
 }
 
 /// The ranges of the occurrences of a pattern in a text, leftmost first: those of [`Matches`].
-#[derive(Clone, Drop)]
+#[derive(Drop)]
 pub struct MatchIndices<'h, P: Pattern> {
     matches: Matches<'h, P>,
+}
+
+impl<'h, P: Pattern + Clone> Clone for MatchIndices<'h, P> {
+    ghost is_clone = { λ s copy. ClonesKeep P.is_clone P.can_search P.ends → KeepsRanges
+        ⟦<MatchIndices<'h, P> as Ranges>⟧.ready
+        ⟦<MatchIndices<'h, P> as Ranges>⟧.text
+        ⟦<MatchIndices<'h, P> as Ranges>⟧.rest
+        s copy };
+
+    ghost is_infallible = { λ s. P.is_infallible s.matches.pattern };
+
+    fn clone(&self) -> Result<Self, AllocError> {
+        Ok(MatchIndices {
+            matches: self.matches.clone()?,
+        })
+    }
+}
+
+impl<'h, P: ClonePattern> CloneRanges for MatchIndices<'h, P> {
+    ghost clone_keeps = { λ _ _ is. is P.clones_keep };
 }
 
 impl<'h, P: Pattern> MatchIndices<'h, P> {

@@ -2,6 +2,7 @@
 ghost use Rattle.std.specs.Prelude.{◌≡◌, ℕ, List, Option, Some};
 ghost use Rattle.std.specs.Option.{is_some};
 ghost use Rattle.std.specs.Str.{IsUtf8, IsCharBoundary};
+ghost use Rattle.hip_match.specs.Clones.{ClonesKeep};
 ghost use Rattle.hip_match.specs.Occurrence.{IsNextMatch, IsLastMatch, IsCut, IsOneChar, start_of};
 
 /// What can be looked for in a text from its front.
@@ -9,7 +10,7 @@ ghost use Rattle.hip_match.specs.Occurrence.{IsNextMatch, IsLastMatch, IsCut, Is
 /// A pattern occurs at most once from a given start. The positions are byte positions at character boundaries.
 pub trait Pattern: Drop {
     /// What is prepared once for all searches of a walk.
-    type Searcher: Clone + Drop;
+    type Searcher: Drop;
 
     /// What a search asks of the pattern: nothing but for a [`CharPred`](crate::predicate::CharPred), whose closure has to be callable.
     ghost can_search: { Self → Type 0 } = { λ _. Unit {0} };
@@ -105,4 +106,10 @@ pub trait OneChar: ReversePattern {
 
     /// Each occurrence is one character.
     ghost one_char: { (p : Self) (t : List ℕ) (a b : ℕ) → IsUtf8 t → Self.ends p t a ≡ Some b → IsOneChar t (a, b) };
+}
+
+/// A pattern whose clones are found where it is.
+pub trait ClonePattern: Pattern + Clone {
+    /// A clone may be searched for where the pattern may, and occurs where it does.
+    ghost clones_keep: { ClonesKeep Self.is_clone Self.can_search Self.ends };
 }

@@ -1,6 +1,7 @@
 //! What each iterator of this crate is: a list of ranges at boundaries of one text.
 ghost use Rattle.std.specs.Prelude.{◌≡◌, ℕ, List, IfSome};
 ghost use Rattle.std.specs.Iterator.{YieldsFirst, YieldsLast};
+ghost use Rattle.hip_match.specs.Clones.{KeepsRanges};
 ghost use Rattle.hip_match.specs.Occurrence.{IsCut};
 
 /// A list of ranges of a text, given from the front.
@@ -32,4 +33,11 @@ pub trait RangesBack: Ranges {
         ensures cut { IfSome result (IsCut (Self.text self.old)) }
         ensures text { Self.text self.new ≡ Self.text self.old }
         ensures ready { Self.ready self.new };
+}
+
+/// Ranges whose clones give what they do.
+pub trait CloneRanges: Ranges + Clone {
+    /// A clone is ready where the ranges are, and gives the same ranges of the same text.
+    ghost clone_keeps: { (ranges copy : Self) → Self.is_clone ranges copy
+        → KeepsRanges Self.ready Self.text Self.rest ranges copy };
 }

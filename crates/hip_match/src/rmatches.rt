@@ -1,14 +1,16 @@
 //! The occurrences of a pattern, rightmost first.
 ghost use Rattle.std.specs.Prelude.{◌≡◌, [], length, if◌then◌else◌};
+ghost use Rattle.hip_match.specs.Clones.{ClonesKeep, KeepsRanges};
 ghost use Rattle.hip_match.specs.Rightmost.{rightmost, rightmost_between};
 ghost use Rattle.hip_match.specs.Ready.{IsBackWindow, IsBetweenBack};
 
 use crate::boundaries::boundary_before;
-use crate::pattern::{OneChar, ReversePattern};
-use crate::ranges::{Ranges, RangesBack};
+use crate::pattern::{ClonePattern, OneChar, ReversePattern};
+use crate::ranges::{CloneRanges, Ranges, RangesBack};
+use std::alloc::AllocError;
 
 /// The occurrences of a pattern in a text, rightmost first, no two overlapping.
-#[derive(Clone, Drop)]
+#[derive(Drop)]
 pub struct RMatches<'h, P: ReversePattern> {
     text: &'h str,
     pattern: P,
@@ -16,6 +18,34 @@ pub struct RMatches<'h, P: ReversePattern> {
     from: usize,
     to: usize,
     done: bool,
+}
+
+// The searcher is prepared anew, so that nothing but the pattern's clone may want memory.
+impl<'h, P: ReversePattern + Clone> Clone for RMatches<'h, P> {
+    ghost is_clone = { λ m copy. ClonesKeep P.is_clone P.can_search P.ends → KeepsRanges
+        ⟦<RMatches<'h, P> as Ranges>⟧.ready
+        ⟦<RMatches<'h, P> as Ranges>⟧.text
+        ⟦<RMatches<'h, P> as Ranges>⟧.rest
+        m copy };
+
+    ghost is_infallible = { λ m. P.is_infallible m.pattern };
+
+    fn clone(&self) -> Result<Self, AllocError> {
+        let pattern = self.pattern.clone()?;
+        let searcher = pattern.reverse_searcher();
+        Ok(RMatches {
+            text: self.text,
+            pattern,
+            searcher,
+            from: self.from,
+            to: self.to,
+            done: self.done,
+        })
+    }
+}
+
+impl<'h, P: ReversePattern + ClonePattern> CloneRanges for RMatches<'h, P> {
+    ghost clone_keeps = { λ _ _ is. is P.clones_keep };
 }
 
 impl<'h, P: ReversePattern> RMatches<'h, P> {
@@ -94,9 +124,29 @@ impl<'h, P: OneChar> RangesBack for RMatches<'h, P> {
 }
 
 /// The ranges of the rightmost occurrences of a pattern in a text, last first: those of [`RMatches`].
-#[derive(Clone, Drop)]
+#[derive(Drop)]
 pub struct RMatchIndices<'h, P: ReversePattern> {
     matches: RMatches<'h, P>,
+}
+
+impl<'h, P: ReversePattern + Clone> Clone for RMatchIndices<'h, P> {
+    ghost is_clone = { λ s copy. ClonesKeep P.is_clone P.can_search P.ends → KeepsRanges
+        ⟦<RMatchIndices<'h, P> as Ranges>⟧.ready
+        ⟦<RMatchIndices<'h, P> as Ranges>⟧.text
+        ⟦<RMatchIndices<'h, P> as Ranges>⟧.rest
+        s copy };
+
+    ghost is_infallible = { λ s. P.is_infallible s.matches.pattern };
+
+    fn clone(&self) -> Result<Self, AllocError> {
+        Ok(RMatchIndices {
+            matches: self.matches.clone()?,
+        })
+    }
+}
+
+impl<'h, P: ReversePattern + ClonePattern> CloneRanges for RMatchIndices<'h, P> {
+    ghost clone_keeps = { λ _ _ is. is P.clones_keep };
 }
 
 impl<'h, P: ReversePattern> RMatchIndices<'h, P> {

@@ -1,19 +1,44 @@
 //! The parts of a text between the occurrences of a pattern, from its end.
 ghost use Rattle.std.specs.Prelude.{◌≡◌, [], length, if◌then◌else◌};
+ghost use Rattle.hip_match.specs.Clones.{ClonesKeep, KeepsRanges};
 ghost use Rattle.hip_match.specs.Pieces.{rsplit, rsplit_terminator, rsplitn, gaps_back, at_most_from, without_empty_first};
 ghost use Rattle.hip_match.specs.Ready.{IsBetweenBack};
 
-use crate::pattern::{OneChar, ReversePattern};
-use crate::ranges::{Ranges, RangesBack};
+use crate::pattern::{ClonePattern, OneChar, ReversePattern};
+use crate::ranges::{CloneRanges, Ranges, RangesBack};
 use crate::rmatches::RMatches;
+use std::alloc::AllocError;
 
 /// The parts of a text between the rightmost occurrences of a pattern, last first.
-#[derive(Clone, Drop)]
+#[derive(Drop)]
 pub struct RSplit<'h, P: ReversePattern> {
     matches: RMatches<'h, P>,
     start: usize,
     end: usize,
     done: bool,
+}
+
+impl<'h, P: ReversePattern + Clone> Clone for RSplit<'h, P> {
+    ghost is_clone = { λ s copy. ClonesKeep P.is_clone P.can_search P.ends → KeepsRanges
+        ⟦<RSplit<'h, P> as Ranges>⟧.ready
+        ⟦<RSplit<'h, P> as Ranges>⟧.text
+        ⟦<RSplit<'h, P> as Ranges>⟧.rest
+        s copy };
+
+    ghost is_infallible = { λ s. P.is_infallible s.matches.pattern };
+
+    fn clone(&self) -> Result<Self, AllocError> {
+        Ok(RSplit {
+            matches: self.matches.clone()?,
+            start: self.start,
+            end: self.end,
+            done: self.done,
+        })
+    }
+}
+
+impl<'h, P: ReversePattern + ClonePattern> CloneRanges for RSplit<'h, P> {
+    ghost clone_keeps = { λ _ _ is. is P.clones_keep };
 }
 
 impl<'h, P: ReversePattern> RSplit<'h, P> {
@@ -82,11 +107,32 @@ impl<'h, P: OneChar> RangesBack for RSplit<'h, P> {
 }
 
 /// The parts of a text between the rightmost occurrences of a pattern, last first, without the first of them where that is empty.
-#[derive(Clone, Drop)]
+#[derive(Drop)]
 pub struct RSplitTerminator<'h, P: ReversePattern> {
     split: RSplit<'h, P>,
     // An empty part at the end of the text is still to be left out.
     beginning: bool,
+}
+
+impl<'h, P: ReversePattern + Clone> Clone for RSplitTerminator<'h, P> {
+    ghost is_clone = { λ s copy. ClonesKeep P.is_clone P.can_search P.ends → KeepsRanges
+        ⟦<RSplitTerminator<'h, P> as Ranges>⟧.ready
+        ⟦<RSplitTerminator<'h, P> as Ranges>⟧.text
+        ⟦<RSplitTerminator<'h, P> as Ranges>⟧.rest
+        s copy };
+
+    ghost is_infallible = { λ s. P.is_infallible s.split.matches.pattern };
+
+    fn clone(&self) -> Result<Self, AllocError> {
+        Ok(RSplitTerminator {
+            split: self.split.clone()?,
+            beginning: self.beginning,
+        })
+    }
+}
+
+impl<'h, P: ReversePattern + ClonePattern> CloneRanges for RSplitTerminator<'h, P> {
+    ghost clone_keeps = { λ _ _ is. is P.clones_keep };
 }
 
 impl<'h, P: ReversePattern> RSplitTerminator<'h, P> {
@@ -138,12 +184,35 @@ impl<'h, P: OneChar> RangesBack for RSplitTerminator<'h, P> {
 }
 
 /// At most so many parts of a text between the rightmost occurrences of a pattern, last first, of which the last of so many begins at the text's start.
-#[derive(Clone, Drop)]
+#[derive(Drop)]
 pub struct RSplitN<'h, P: ReversePattern> {
     matches: RMatches<'h, P>,
     start: usize,
     end: usize,
     count: usize,
+}
+
+impl<'h, P: ReversePattern + Clone> Clone for RSplitN<'h, P> {
+    ghost is_clone = { λ s copy. ClonesKeep P.is_clone P.can_search P.ends → KeepsRanges
+        ⟦<RSplitN<'h, P> as Ranges>⟧.ready
+        ⟦<RSplitN<'h, P> as Ranges>⟧.text
+        ⟦<RSplitN<'h, P> as Ranges>⟧.rest
+        s copy };
+
+    ghost is_infallible = { λ s. P.is_infallible s.matches.pattern };
+
+    fn clone(&self) -> Result<Self, AllocError> {
+        Ok(RSplitN {
+            matches: self.matches.clone()?,
+            start: self.start,
+            end: self.end,
+            count: self.count,
+        })
+    }
+}
+
+impl<'h, P: ReversePattern + ClonePattern> CloneRanges for RSplitN<'h, P> {
+    ghost clone_keeps = { λ _ _ is. is P.clones_keep };
 }
 
 impl<'h, P: ReversePattern> RSplitN<'h, P> {

@@ -5,7 +5,7 @@ ghost use Rattle.hip_match.specs.Characters.{char_ends};
 ghost use Rattle.hip_match.specs.CharLaws.{char_ends-spans, char_ends-one_start, char_ends-one_char};
 
 use crate::chars::{CharSet, end_of, first_of, last_of, start_before};
-use crate::pattern::{DoubleEndedPattern, OneChar, Pattern, ReversePattern};
+use crate::pattern::{ClonePattern, DoubleEndedPattern, OneChar, Pattern, ReversePattern};
 use crate::texts::{find_char, rfind_char};
 
 impl CharSet for char {
@@ -41,6 +41,12 @@ impl Pattern for char {
     }
 
     ghost spans = { λ c. char_ends-spans (λ d. d == c) };
+}
+
+impl ClonePattern for char {
+    ghost use Rattle.std.proofs.Common.{rules};
+
+    ghost clones_keep = { Prim.search rules };
 }
 
 impl ReversePattern for char {
@@ -131,6 +137,12 @@ impl<'a> Pattern for &'a [char] {
     ghost spans = { λ s. char_ends-spans (λ d. list_any (λ c. c == d) s.now) };
 }
 
+impl<'a> ClonePattern for &'a [char] {
+    ghost use Rattle.std.proofs.Common.{rules};
+
+    ghost clones_keep = { Prim.search rules };
+}
+
 impl<'a> ReversePattern for &'a [char] {
     #[inline]
     fn reverse_searcher(&self) {}
@@ -202,6 +214,12 @@ impl<'a, const N: usize> Pattern for &'a [char; N] {
     }
 
     ghost spans = { λ s. char_ends-spans (λ d. list_any (λ c. c == d) s.now) };
+}
+
+impl<'a, const N: usize> ClonePattern for &'a [char; N] {
+    ghost use Rattle.std.proofs.Common.{rules};
+
+    ghost clones_keep = { Prim.search rules };
 }
 
 impl<'a, const N: usize> ReversePattern for &'a [char; N] {

@@ -1,19 +1,44 @@
 //! The parts of a text between the occurrences of a pattern, from its front.
 ghost use Rattle.std.specs.Prelude.{◌≡◌, [], length, if◌then◌else◌};
+ghost use Rattle.hip_match.specs.Clones.{ClonesKeep, KeepsRanges};
 ghost use Rattle.hip_match.specs.Pieces.{split, split_inclusive, split_terminator, splitn, gaps, ended, at_most_to, without_empty_last};
 ghost use Rattle.hip_match.specs.Ready.{IsBetween};
 
 use crate::matches::Matches;
-use crate::pattern::{OneChar, Pattern};
-use crate::ranges::{Ranges, RangesBack};
+use crate::pattern::{ClonePattern, OneChar, Pattern};
+use crate::ranges::{CloneRanges, Ranges, RangesBack};
+use std::alloc::AllocError;
 
 /// The parts of a text between the occurrences of a pattern, one more than there are occurrences.
-#[derive(Clone, Drop)]
+#[derive(Drop)]
 pub struct Split<'h, P: Pattern> {
     matches: Matches<'h, P>,
     start: usize,
     end: usize,
     done: bool,
+}
+
+impl<'h, P: Pattern + Clone> Clone for Split<'h, P> {
+    ghost is_clone = { λ s copy. ClonesKeep P.is_clone P.can_search P.ends → KeepsRanges
+        ⟦<Split<'h, P> as Ranges>⟧.ready
+        ⟦<Split<'h, P> as Ranges>⟧.text
+        ⟦<Split<'h, P> as Ranges>⟧.rest
+        s copy };
+
+    ghost is_infallible = { λ s. P.is_infallible s.matches.pattern };
+
+    fn clone(&self) -> Result<Self, AllocError> {
+        Ok(Self {
+            matches: self.matches.clone()?,
+            start: self.start,
+            end: self.end,
+            done: self.done,
+        })
+    }
+}
+
+impl<'h, P: ClonePattern> CloneRanges for Split<'h, P> {
+    ghost clone_keeps = { λ _ _ is. is P.clones_keep };
 }
 
 impl<'h, P: Pattern> Split<'h, P> {
@@ -82,12 +107,35 @@ impl<'h, P: OneChar> RangesBack for Split<'h, P> {
 }
 
 /// The parts of a text, each ended by an occurrence of a pattern, which belongs to it. A last empty part is left out.
-#[derive(Clone, Drop)]
+#[derive(Drop)]
 pub struct SplitInclusive<'h, P: Pattern> {
     matches: Matches<'h, P>,
     start: usize,
     end: usize,
     done: bool,
+}
+
+impl<'h, P: Pattern + Clone> Clone for SplitInclusive<'h, P> {
+    ghost is_clone = { λ s copy. ClonesKeep P.is_clone P.can_search P.ends → KeepsRanges
+        ⟦<SplitInclusive<'h, P> as Ranges>⟧.ready
+        ⟦<SplitInclusive<'h, P> as Ranges>⟧.text
+        ⟦<SplitInclusive<'h, P> as Ranges>⟧.rest
+        s copy };
+
+    ghost is_infallible = { λ s. P.is_infallible s.matches.pattern };
+
+    fn clone(&self) -> Result<Self, AllocError> {
+        Ok(SplitInclusive {
+            matches: self.matches.clone()?,
+            start: self.start,
+            end: self.end,
+            done: self.done,
+        })
+    }
+}
+
+impl<'h, P: ClonePattern> CloneRanges for SplitInclusive<'h, P> {
+    ghost clone_keeps = { λ _ _ is. is P.clones_keep };
 }
 
 impl<'h, P: Pattern> SplitInclusive<'h, P> {
@@ -164,11 +212,32 @@ impl<'h, P: OneChar> RangesBack for SplitInclusive<'h, P> {
 }
 
 /// The parts of a text between the occurrences of a pattern, without the last where that is empty.
-#[derive(Clone, Drop)]
+#[derive(Drop)]
 pub struct SplitTerminator<'h, P: Pattern> {
     split: Split<'h, P>,
     // A last empty part is still to be left out.
     ending: bool,
+}
+
+impl<'h, P: Pattern + Clone> Clone for SplitTerminator<'h, P> {
+    ghost is_clone = { λ s copy. ClonesKeep P.is_clone P.can_search P.ends → KeepsRanges
+        ⟦<SplitTerminator<'h, P> as Ranges>⟧.ready
+        ⟦<SplitTerminator<'h, P> as Ranges>⟧.text
+        ⟦<SplitTerminator<'h, P> as Ranges>⟧.rest
+        s copy };
+
+    ghost is_infallible = { λ s. P.is_infallible s.split.matches.pattern };
+
+    fn clone(&self) -> Result<Self, AllocError> {
+        Ok(SplitTerminator {
+            split: self.split.clone()?,
+            ending: self.ending,
+        })
+    }
+}
+
+impl<'h, P: ClonePattern> CloneRanges for SplitTerminator<'h, P> {
+    ghost clone_keeps = { λ _ _ is. is P.clones_keep };
 }
 
 impl<'h, P: Pattern> SplitTerminator<'h, P> {
@@ -220,12 +289,35 @@ impl<'h, P: OneChar> RangesBack for SplitTerminator<'h, P> {
 }
 
 /// At most so many parts of a text between the occurrences of a pattern, of which the last of so many runs to the end.
-#[derive(Clone, Drop)]
+#[derive(Drop)]
 pub struct SplitN<'h, P: Pattern> {
     matches: Matches<'h, P>,
     start: usize,
     end: usize,
     count: usize,
+}
+
+impl<'h, P: Pattern + Clone> Clone for SplitN<'h, P> {
+    ghost is_clone = { λ s copy. ClonesKeep P.is_clone P.can_search P.ends → KeepsRanges
+        ⟦<SplitN<'h, P> as Ranges>⟧.ready
+        ⟦<SplitN<'h, P> as Ranges>⟧.text
+        ⟦<SplitN<'h, P> as Ranges>⟧.rest
+        s copy };
+
+    ghost is_infallible = { λ s. P.is_infallible s.matches.pattern };
+
+    fn clone(&self) -> Result<Self, AllocError> {
+        Ok(SplitN {
+            matches: self.matches.clone()?,
+            start: self.start,
+            end: self.end,
+            count: self.count,
+        })
+    }
+}
+
+impl<'h, P: ClonePattern> CloneRanges for SplitN<'h, P> {
+    ghost clone_keeps = { λ _ _ is. is P.clones_keep };
 }
 
 impl<'h, P: Pattern> SplitN<'h, P> {

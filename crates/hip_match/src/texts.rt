@@ -7,14 +7,14 @@ ghost use Rattle.hip_match.specs.Texts.{text_ends};
 ghost use Rattle.hip_match.specs.Characters.{char_ends};
 ghost use Rattle.hip_match.specs.TextLaws.{text_ends-spans, text_ends-one_start};
 
-use crate::pattern::{Pattern, ReversePattern};
+use crate::pattern::{ClonePattern, Pattern, ReversePattern};
 use memchr::arch::all::packedpair::Pair;
 use memchr::arch::all::{is_prefix, is_suffix, packedpair};
 use memchr::memmem::{Finder, FinderRev};
 use memchr::{memchr, memmem, memrchr};
 
 /// What a walk by a text prepares of it: nothing of a short one.
-#[derive(Clone, Drop)]
+#[derive(Drop)]
 pub struct TextSearcher<'p> {
     finder: Option<Finder<'p>>,
     reverse_finder: Option<FinderRev<'p>>,
@@ -290,6 +290,12 @@ impl<'p> Pattern for &'p str {
     ghost spans = { λ p. text_ends-spans p.now };
 }
 
+impl<'p> ClonePattern for &'p str {
+    ghost use Rattle.std.proofs.Common.{rules};
+
+    ghost clones_keep = { Prim.search rules };
+}
+
 impl<'p> ReversePattern for &'p str {
     #[inline]
     fn reverse_searcher(&self) -> TextSearcher<'p> {
@@ -360,6 +366,12 @@ impl<'p, 'q> Pattern for &'q &'p str {
     ghost spans = { λ p. text_ends-spans p.now.now };
 }
 
+impl<'p, 'q> ClonePattern for &'q &'p str {
+    ghost use Rattle.std.proofs.Common.{rules};
+
+    ghost clones_keep = { Prim.search rules };
+}
+
 impl<'p, 'q> ReversePattern for &'q &'p str {
     #[inline]
     fn reverse_searcher(&self) -> TextSearcher<'p> {
@@ -428,6 +440,12 @@ impl<'p> Pattern for &'p String {
     }
 
     ghost spans = { λ p. text_ends-spans (string_bytes p.now) };
+}
+
+impl<'p> ClonePattern for &'p String {
+    ghost use Rattle.std.proofs.Common.{rules};
+
+    ghost clones_keep = { Prim.search rules };
 }
 
 impl<'p> ReversePattern for &'p String {

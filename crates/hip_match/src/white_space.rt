@@ -1,14 +1,16 @@
 //! The runs of a text between white space.
 ghost use Rattle.std.specs.Prelude.{◌≡◌};
+ghost use Rattle.std.proofs.Common.{refl};
 ghost use Rattle.std.specs.Char.{is_whitespace};
 ghost use Rattle.hip_match.specs.Characters.{char_ends};
 ghost use Rattle.hip_match.specs.CharLaws.{char_ends-spans, char_ends-one_start, char_ends-one_char};
+ghost use Rattle.hip_match.specs.Clones.{made_kept};
 ghost use Rattle.hip_match.specs.Runs.{nonempty, split_whitespace, split_ascii_whitespace};
 
 use crate::ascii_space::AsciiRuns;
 use crate::chars::{CharSet, end_of, first_of, last_of, start_before};
-use crate::pattern::{DoubleEndedPattern, OneChar, Pattern, ReversePattern};
-use crate::ranges::{Ranges, RangesBack};
+use crate::pattern::{ClonePattern, DoubleEndedPattern, OneChar, Pattern, ReversePattern};
+use crate::ranges::{CloneRanges, Ranges, RangesBack};
 use crate::split::Split;
 
 // The characters of white space, by Unicode's `White_Space`.
@@ -53,6 +55,12 @@ impl Pattern for WhiteSpace {
     }
 
     ghost spans = { λ _. char_ends-spans is_whitespace };
+}
+
+impl ClonePattern for WhiteSpace {
+    ghost use Rattle.std.proofs.Common.{rules};
+
+    ghost clones_keep = { Prim.search rules };
 }
 
 impl ReversePattern for WhiteSpace {
@@ -117,6 +125,11 @@ impl<R: Ranges> Ranges for Runs<R> {
     }
 }
 
+impl<R: CloneRanges> CloneRanges for Runs<R> {
+    ghost clone_keeps = { λ s copy is. made_kept _ _ _ _ _ _ nonempty nonempty refl
+        (R.clone_keeps s.ranges copy.ranges is) };
+}
+
 impl<R: RangesBack> RangesBack for Runs<R> {
     #[inline]
     fn next_back(&mut self) -> Option<(usize, usize)> {
@@ -164,6 +177,11 @@ impl<'h> Ranges for SplitWhitespace<'h> {
     }
 }
 
+impl<'h> CloneRanges for SplitWhitespace<'h> {
+    ghost clone_keeps = { λ s copy is. made_kept _ _ _ _ _ _ nonempty nonempty refl
+        (is (λ p q same. record { searchable = λ h. h; occurs = refl })) };
+}
+
 impl<'h> RangesBack for SplitWhitespace<'h> {
     #[inline]
     fn next_back(&mut self) -> Option<(usize, usize)> {
@@ -202,6 +220,12 @@ impl<'h> Ranges for SplitAsciiWhitespace<'h> {
     fn next(&mut self) -> Option<(usize, usize)> {
         self.runs.next()
     }
+}
+
+impl<'h> CloneRanges for SplitAsciiWhitespace<'h> {
+    ghost use Rattle.std.proofs.Common.{rules};
+
+    ghost clone_keeps = { Prim.search rules };
 }
 
 impl<'h> RangesBack for SplitAsciiWhitespace<'h> {

@@ -1,9 +1,10 @@
 //! That laws can be stated by a caller, and the tests at a place.
 use hip_match::draw::End;
 use hip_match::laws::{
-    ended_pieces_are_the_text, ends_meet, join_undoes_split, join_undoes_split_by_char,
-    just_one_list_is_leftmost, just_one_list_is_rightmost, one_char_reverses,
-    white_space_parts_the_longest_runs,
+    ended_pieces_are_the_text, ends_match_starts, ends_meet, join_undoes_split,
+    join_undoes_split_by_char, just_one_list_is_leftmost, just_one_list_is_rightmost,
+    lines_and_runs_lie_in_order, one_char_reverses, ranges_lie_in_order,
+    ranges_lie_in_reverse_order, white_space_parts_the_longest_runs,
 };
 use hip_match::pattern::{DoubleEndedPattern, OneChar};
 
@@ -19,6 +20,10 @@ fn laws(_rt: HostRuntime) {
     ended_pieces_are_the_text(&&['a', ','], text);
     ends_meet(&[(0, 2), (3, 4)], &[End::Back]);
     white_space_parts_the_longest_runs(text);
+    ends_match_starts(&"é", text);
+    ranges_lie_in_order(&",", 2, text);
+    ranges_lie_in_reverse_order(&',', 2, text);
+    lines_and_runs_lie_in_order(text);
 }
 
 #[test]

@@ -1,7 +1,10 @@
+use Rattle.std.proofs.Common.{refl, ◌∙◌}
 use Rattle.hip_match_tests.proofs.by_closures.clone_of.Goals as goal
 
 pub gives-requires-clause-ready : goal.gives-requires-clause-ready
 gives-requires-clause-ready g c =
-    let same = c.in_ok-clone.ensures.cases in
-    let inner = same.0.1.1 in
-    rw (same.0.0, same.0.1.0.0, same.0.1.0.1, inner.0, inner.1.0, inner.1.1.0, inner.1.1.1, same.1.0, same.1.1.0) c.new-pieces.ensures.ready
+    (c.in_ok-clone.ensures.cases (λ p q same. record { searchable = λ h. rw (same.0, same.1) h; occurs = rw same.1 refl })).ready c.new-pieces.ensures.ready
+
+pub gives-requires-clause-text : goal.gives-requires-clause-text
+gives-requires-clause-text g c =
+    (c.in_ok-clone.ensures.cases (λ p q same. record { searchable = λ h. rw (same.0, same.1) h; occurs = rw same.1 refl })).text ∙ c.new-pieces.ensures.text

@@ -1,4 +1,4 @@
-use Rattle.std.proofs.Common.{◌≡◌, ℕ, ◌-◌, ◌*◌, ◌^◌, subst, sym, arith}
+use Rattle.std.proofs.Common.{ℕ, ◌-◌, ◌*◌, subst, sym, arith}
 use Rattle.std.specs.Int.Bits.{bit_xor}
 use Rattle.hip_match.specs.Marks.{AreBackMarks}
 use Rattle.hip_match.proofs.MarkLemmas.{back_passed, one_bit}

@@ -1,0 +1,76 @@
+-- What clones of patterns and of iterators keep.
+use Rattle.std.specs.Prelude.{◌≡◌, ℕ, Bool, Option, List, [], map, if◌then◌else◌}
+use Rattle.std.proofs.Common.{refl, sym, ◌∙◌}
+use Rattle.hip_match.specs.Leftmost.{leftmost_between}
+use Rattle.hip_match.specs.Rightmost.{rightmost_between}
+use Rattle.hip_match.specs.Ready.{IsFrontWindow, IsBackWindow}
+use Rattle.hip_match.specs.Runs.{line_of}
+
+-- the pattern q may be searched for where p may, and occurs where p does
+pub record KeepsPattern {P : Type 0} (can_search : P → Type 0) (ends : P → List ℕ → ℕ → Option ℕ) (p q : P)
+    : Type 0 where
+  pub searchable : can_search p → can_search q
+  pub occurs : ends q ≡ ends p
+
+-- each clone of a pattern is such
+abbrev pub ClonesKeep : {P : Type 0} → (P → P → Type 0) → (P → Type 0) → (P → List ℕ → ℕ → Option ℕ) → Type 0
+ClonesKeep {P} is_clone can_search ends = (p q : P) → is_clone p q → KeepsPattern can_search ends p q
+
+-- what is ready stays so, of the same text and with the same ranges still to come
+pub record Keeps (can copy_can : Type 0) (t copy_t : List ℕ) (l copy_l : List (ℕ × ℕ)) : Type 0 where
+  pub ready : can → copy_can
+  pub text : copy_t ≡ t
+  pub rest : copy_l ≡ l
+
+-- the iterator `copy` is ready where i is, and gives the same ranges of the same text
+abbrev pub KeepsRanges : {I : Type 0} → (I → Type 0) → (I → List ℕ) → (I → List (ℕ × ℕ)) → I → I → Type 0
+KeepsRanges ready text rest i copy = Keeps (ready i) (ready copy) (text i) (text copy) (rest i) (rest copy)
+
+-- ---- what follows of the parts of an iterator
+
+-- the leftmost matches that are left in a window
+pub front_kept : (can copy_can : Type 0) (t u : List ℕ) (e f : List ℕ → ℕ → Option ℕ) (i j k l : ℕ) (d b : Bool)
+    → (can → copy_can) → u ≡ t → f ≡ e → j ≡ i → l ≡ k → b ≡ d
+    → Keeps (IsFrontWindow can t (e t) i k) (IsFrontWindow copy_can u (f u) j l) t u
+    (if d then [] else leftmost_between (e t) i k) (if b then [] else leftmost_between (f u) j l)
+front_kept can copy_can t u e f i j k l d b move text ends from to done =
+    record {
+      ready = λ h. rw (text, ends, from, to) (record { searchable = move h.searchable; window = h.window; whole = h.whole });
+      text = text;
+      rest = rw (text, ends, from, to, done) refl;
+    }
+
+-- the rightmost ones
+pub back_kept : (can copy_can : Type 0) (t u : List ℕ) (e f : List ℕ → ℕ → Option ℕ) (i j k l : ℕ) (d b : Bool)
+    → (can → copy_can) → u ≡ t → f ≡ e → j ≡ i → l ≡ k → b ≡ d
+    → Keeps (IsBackWindow can t (e t) i k) (IsBackWindow copy_can u (f u) j l) t u
+    (if d then [] else rightmost_between (e t) i k) (if b then [] else rightmost_between (f u) j l)
+back_kept can copy_can t u e f i j k l d b move text ends from to done =
+    record {
+      ready = λ h. rw (text, ends, from, to) (record { searchable = move h.searchable; window = h.window; whole = h.whole });
+      text = text;
+      rest = rw (text, ends, from, to, done) refl;
+    }
+
+-- the parts that a place, a list of matches and another place make, where what lies in order between the places stays so
+pub parts_kept : {A : Type 0} (Between : List ℕ → ℕ → List (ℕ × ℕ) → ℕ → Type 0)
+    (parts : A → ℕ → List (ℕ × ℕ) → ℕ → List (ℕ × ℕ)) (can copy_can : Type 0) (t u : List ℕ) (l m : List (ℕ × ℕ))
+    (i j k n : ℕ) (d b : A) → Keeps can copy_can t u l m → j ≡ i → n ≡ k → b ≡ d
+    → Keeps (can × Between t i l k) (copy_can × Between u j m n) t u (parts d i l k) (parts b j m n)
+parts_kept Between parts can copy_can t u l m i j k n d b kept from to last =
+    record {
+      ready = λ h. (kept.ready h.0, rw (kept.text, kept.rest, from, to) h.1);
+      text = kept.text;
+      rest = rw (kept.rest, from, to, last) refl;
+    }
+
+-- what is made of ranges
+pub made_kept : (can copy_can : Type 0) (t u : List ℕ) (l m : List (ℕ × ℕ)) (f g : List (ℕ × ℕ) → List (ℕ × ℕ))
+    → g ≡ f → Keeps can copy_can t u l m → Keeps can copy_can t u (f l) (g m)
+made_kept can copy_can t u l m f g same kept = record { ready = kept.ready; text = kept.text; rest = rw (same, kept.rest) refl }
+
+-- the lines of a text, of which the parts are ranges too
+pub lines_kept : (can copy_can : Type 0) (v w t u : List ℕ) (l m : List (ℕ × ℕ)) → u ≡ t → Keeps can copy_can v w l m
+    → Keeps (can × (v ≡ t)) (copy_can × (w ≡ u)) t u (map (line_of t) l) (map (line_of u) m)
+lines_kept can copy_can v w t u l m text kept =
+    record { ready = λ h. (kept.ready h.0, kept.text ∙ h.1 ∙ sym text); text = text; rest = rw (text, kept.rest) refl }
