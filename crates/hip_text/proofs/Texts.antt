@@ -17,6 +17,8 @@ use Rattle.hip_bytes.specs.Handle.{Handle}
 use Rattle.hip_bytes.specs.Change.{IsShortened, PushAnswers, ShrinkAnswers}
 use Rattle.hip_bytes.specs.Kinds.{HoldsByLength}
 use Rattle.hip_bytes.specs.Made.{IsPart}
+use mathlib.Core.HLevel.{is_prop→PathP}
+use mathlib.Core.Logic.{∥∥₁_prop}
 
 -- a text that another follows
 pub is_utf8-append : (front back : List ℕ) → is_utf8 front ≡ true → IsUtf8 back → is_utf8 (front ++ back) ≡ true
@@ -71,6 +73,10 @@ is_utf8-popped old new rest c {kept} shortened whole same utf8 =
 pub is_utf8-taken : {Z : Type 0} (string : String Z) (vec : Vec ℕ Z) (bytes : Handle) → vec ≡ string_vec string → bytes.items ≡ vec.items → is_utf8 bytes.items ≡ true
 is_utf8-taken string vec bytes same holds = ap is_utf8 (holds ∙ ap (λ v. v.items) same) ∙ is_utf8-from_IsUtf8 _ (IsUtf8-string_bytes string)
 
+-- a `String` is its vector
+pub same_string : {Z : Type 0} (a b : String Z) → string_vec a ≡ string_vec b → a ≡ b
+same_string a b same = λ i. record { bytes = same i; ok = is_prop→PathP (λ j. ∥ IsUtf8 (same j).items ∥₁) (λ j. ∥∥₁_prop) a.ok b.ok i }
+
 -- a text that was put back
 pub is_utf8-put : {T E : Type 0} (old new : Handle) (items : List ℕ) (result : Result T E) → OnOk result (HoldsByLength new items) → OnErr result (new ≡ old)
     → is_utf8 old.items ≡ true → IsUtf8 items → is_utf8 new.items ≡ true
@@ -100,6 +106,6 @@ pub ruleset shortens = (texts, is_utf8-shortened)
 
 pub ruleset shrinks = (texts, is_utf8-shrunk)
 
-pub ruleset strings = (texts, IsUtf8-string_bytes)
+pub ruleset strings = (texts, IsUtf8-string_bytes, same_string)
 
 pub ruleset repeats = (texts, is_utf8-repeat)

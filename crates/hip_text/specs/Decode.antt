@@ -1,6 +1,7 @@
 -- What a call that reads bytes as a text may answer (UTF-8; Rust's `str::from_utf8`).
-use Rattle.std.specs.Prelude.{◌≡◌, ◌<◌, ℕ, List, length, Result, Ok, Err, IsUtf8}
-use Rattle.std.specs.Str.{valid_up_to, IsValidUpTo}
+use Rattle.std.specs.Prelude.{◌≡◌, ◌<◌, ℕ, List, drop, length, Result, Ok, Err, IsUtf8}
+use Rattle.std.specs.Str.{error_len, valid_up_to, IsValidUpTo}
+use Rattle.std.specs.Str.Lossy.{utf8_error_len}
 use Rattle.std.specs.declared.str.Utf8Error.{Utf8Error}
 use Rattle.hip_bytes.specs.Handle.{Handle}
 use Rattle.hip_bytes.specs.Kinds.{Holds, HoldsByLength}
@@ -8,25 +9,27 @@ use Rattle.hip_bytes.specs.declared.kind.Kind.TheVariants.{Allocated}
 use Rattle.hip_bytes.specs.declared.kind.TheConstants.{INLINE_CAPACITY}
 use Rattle.hip_text.specs.declared.faults.BytesFault.{BytesFault}
 use Rattle.hip_text.specs.declared.faults.BytesFault.TheVariants.{Memory, NotUtf8}
-use Rattle.hip_text.specs.declared.from_utf8_error.FromUtf8Error.{FromUtf8Error}
 
--- the bytes that an error keeps, and what is wrong with them
-abbrev pub error_bytes : {B S P : Type 0} → FromUtf8Error B S P → Handle
-error_bytes error = error.bytes
+-- what a contract sees of the error: the bytes that it keeps, and what is wrong with them
+pub record Utf8Failure : Type 0 where
+  pub bytes : Handle
+  pub cause : Utf8Error
 
-abbrev pub error_cause : {B S P : Type 0} → FromUtf8Error B S P → Utf8Error
-error_cause error = error.error
+-- what the library says of bytes that aren't UTF-8: how long their longest front is that is, and how many bytes behind it are at fault, or
+-- `None` where the bytes end within a character
+pub record IsCauseOf (bytes : List ℕ) (cause : Utf8Error) : Type 0 where
+  pub longest : IsValidUpTo bytes (valid_up_to cause)
+  pub at_fault : error_len cause ≡ utf8_error_len (drop (valid_up_to cause) bytes)
 
--- bytes that are UTF-8 become the text, in the same handle; any others are kept by the error, which tells their longest front that is
-abbrev pub FromUtf8Answers : {B S P : Type 0} → Handle → Result Handle (FromUtf8Error B S P) → Type 0
+-- bytes that are UTF-8 become the text, in the same handle; any others are kept by the error, which tells what is wrong with them
+abbrev pub FromUtf8Answers : Handle → Result Handle Utf8Failure → Type 0
 FromUtf8Answers bytes (Ok text) = (text ≡ bytes) × IsUtf8 bytes.items
-FromUtf8Answers bytes (Err error) = (error_bytes error ≡ bytes) × ¬ (IsUtf8 bytes.items) × IsValidUpTo bytes.items (valid_up_to (error_cause error))
+FromUtf8Answers bytes (Err error) = (error.bytes ≡ bytes) × ¬ (IsUtf8 bytes.items) × IsCauseOf bytes.items error.cause
 
 -- the same error again, of a clone of the bytes
-abbrev pub CloneErrorAnswers : {B S P E : Type 0} → FromUtf8Error B S P → Result (FromUtf8Error B S P) E → Type 0
-CloneErrorAnswers error (Ok copy) =
-    Holds (error_bytes copy) (error_bytes error).kind (error_bytes error).items × (error_cause copy ≡ error_cause error)
-CloneErrorAnswers error (Err refused) = (error_bytes error).kind ≡ Allocated
+abbrev pub CloneErrorAnswers : {E : Type 0} → Utf8Failure → Result Utf8Failure E → Type 0
+CloneErrorAnswers error (Ok copy) = Holds copy.bytes error.bytes.kind error.bytes.items × (copy.cause ≡ error.cause)
+CloneErrorAnswers error (Err refused) = error.bytes.kind ≡ Allocated
 
 -- bytes that are UTF-8 are made a text, by length, or so many wanted memory
 abbrev pub ReadAnswers : List ℕ → Result Handle BytesFault → Type 0

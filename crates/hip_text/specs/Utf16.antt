@@ -1,8 +1,8 @@
 -- What a call that reads units of UTF-16 as a text may answer (Unicode's UTF-16; Rust's `char::decode_utf16`).
-use Rattle.std.specs.Prelude.{◌≡◌, ◌+◌, ℕ, suc, List, [], ◌∷◌, ◌++◌, map, length, Option, Some, None, Result, Ok, Err, refl}
+use Rattle.std.specs.Prelude.{◌≡◌, ◌↔◌, ◌+◌, ◌<◌, ◌≤◌, ℕ, suc, List, [], ◌∷◌, ◌++◌, map, length, Option, Some, None, Result, Ok, Err, refl}
 use Rattle.std.specs.Char.Escape.{encode_utf16}
 use Rattle.std.specs.Char.Utf16.{utf16_chars}
-use Rattle.std.specs.List.{flat_map}
+use Rattle.std.specs.List.{All, flat_map}
 use Rattle.std.specs.Str.{encode_utf8_all}
 use Rattle.hip_bytes.specs.Handle.{Handle}
 use Rattle.hip_bytes.specs.Kinds.{HoldsByLength}
@@ -32,6 +32,17 @@ abbrev pub Utf16Answers : List ℕ → Result Handle Utf16Fault → Type 0
 Utf16Answers units (Ok text) = (cs : List ℕ) × Spells units cs × HoldsByLength text (encode_utf8_all cs)
 Utf16Answers units (Err (Unpaired i)) = IsFirstUnpaired units i
 Utf16Answers units (Err Memory) = (cs : List ℕ) × Spells units cs
+
+-- a unit has 16 bits; a character is below U+110000 and no surrogate (Unicode's scalar values)
+abbrev pub IsUnit : ℕ → Type 0
+IsUnit u = u < 0x10000
+
+abbrev pub IsCharacter : ℕ → Type 0
+IsCharacter c = (c < 0x110000) × (0xD800 ≤ c → 0xE000 ≤ c)
+
+-- units spell just the characters that, each encoded and put one after another, are the units
+abbrev pub SpellsWhatEncodes : List ℕ → List ℕ → Type 0
+SpellsWhatEncodes units cs = All IsUnit units → (Spells units cs ↔ (All IsCharacter cs × (flat_map encode_utf16 cs ≡ units)))
 
 -- U+1F600, and a high surrogate before an `a`
 pub a_pair : Spells (0xD83D ∷ 0xDE00 ∷ []) (0x1F600 ∷ [])

@@ -2,12 +2,13 @@
 ghost use Rattle.std.specs.Prelude.{◌≡◌, nat_eq};
 ghost use Rattle.std.specs.Cmp.{partial_equiv_from_equiv, on_per, on_equiv};
 ghost use Rattle.std.specs.Cmp.Lexicographic.{pointwise, nat_list_eq_equiv};
-ghost use Rattle.hip_text.specs.Decode.{error_bytes, error_cause, CloneErrorAnswers};
+ghost use Rattle.hip_text.specs.Decode.{CloneErrorAnswers, IsCauseOf};
 
 use hip_bytes::{Backend, HipByt};
 use std::alloc::{AllocError, Global};
 use std::error::Error;
 use std::fmt;
+use std::marker::Model;
 use std::str::Utf8Error;
 
 /// Bytes that aren't UTF-8, and what is wrong with them.
@@ -17,10 +18,21 @@ pub struct FromUtf8Error<'b, B: Backend> {
     error: Utf8Error,
 }
 
+impl<'b, B: Backend> Model for FromUtf8Error<'b, B> {
+    ghost use Rattle.hip_text.specs.Decode.{IsCauseOf, Utf8Failure};
+
+    ghost Value = { Utf8Failure };
+
+    ghost view = { λ e. record { bytes = e.bytes; cause = e.error } };
+
+    ghost invariant = { λ e. IsCauseOf e.bytes.items e.error };
+}
+
 impl<'b, B: Backend> FromUtf8Error<'b, B> {
     pub(crate) fn new(bytes: HipByt<'b, B>, error: Utf8Error) -> Self
-        ensures bytes { error_bytes result ≡ bytes.entry }
-        ensures cause { error_cause result ≡ error }
+        requires { IsCauseOf bytes.items error }
+        ensures bytes { result.bytes ≡ bytes.entry }
+        ensures cause { result.cause ≡ error }
     {
         FromUtf8Error { bytes, error }
     }
@@ -28,7 +40,7 @@ impl<'b, B: Backend> FromUtf8Error<'b, B> {
     /// The bytes.
     #[inline]
     pub fn as_bytes(&self) -> &[u8]
-        ensures { result.now ≡ (error_bytes self.now).items }
+        ensures { result.now ≡ self.now.bytes.items }
     {
         self.bytes.as_slice()
     }
@@ -36,7 +48,7 @@ impl<'b, B: Backend> FromUtf8Error<'b, B> {
     /// The value that was refused.
     #[inline]
     pub fn into_bytes(self) -> HipByt<'b, B>
-        ensures { result ≡ error_bytes self.entry }
+        ensures { result ≡ self.entry.bytes }
     {
         self.bytes
     }
@@ -44,7 +56,8 @@ impl<'b, B: Backend> FromUtf8Error<'b, B> {
     /// What is wrong with the bytes.
     #[inline]
     pub fn utf8_error(&self) -> Utf8Error
-        ensures { result ≡ error_cause self.now }
+        ensures cause { result ≡ self.now.cause }
+        ensures of_its_bytes { IsCauseOf self.now.bytes.items result }
     {
         self.error
     }
@@ -62,9 +75,9 @@ impl<'b, B: Backend> FromUtf8Error<'b, B> {
 
 /// By the bytes, which decide what is wrong with them.
 impl<'b, B: Backend> PartialEq for FromUtf8Error<'b, B> {
-    ghost eq = { λ a b. pointwise nat_eq (error_bytes a).items (error_bytes b).items };
+    ghost eq = { λ a b. pointwise nat_eq a.bytes.items b.bytes.items };
 
-    ghost laws = { on_per (λ error. (error_bytes error).items) (partial_equiv_from_equiv nat_list_eq_equiv) };
+    ghost laws = { on_per (λ error. error.bytes.items) (partial_equiv_from_equiv nat_list_eq_equiv) };
 
     fn eq(&self, other: &Self) -> bool {
         self.bytes == other.bytes
@@ -72,7 +85,7 @@ impl<'b, B: Backend> PartialEq for FromUtf8Error<'b, B> {
 }
 
 impl<'b, B: Backend> Eq for FromUtf8Error<'b, B> {
-    ghost laws = { on_equiv (λ error. (error_bytes error).items) nat_list_eq_equiv };
+    ghost laws = { on_equiv (λ error. error.bytes.items) nat_list_eq_equiv };
 }
 
 impl<'b, B: Backend> fmt::Debug for FromUtf8Error<'b, B> {

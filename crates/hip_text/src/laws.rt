@@ -1,6 +1,7 @@
 //! Laws of texts: the contract of each function is the law.
-ghost use Rattle.std.specs.Prelude.{◌≡◌, ◌+◌, ◌-◌, ◌≤◌, IsOkAnd, length, slice_range};
+ghost use Rattle.std.specs.Prelude.{ℕ, List, ◌≡◌, ◌+◌, ◌-◌, ◌≤◌, IsOkAnd, length, slice_range};
 ghost use Rattle.std.specs.Str.{IsCharBoundary};
+ghost use Rattle.hip_text.specs.Utf16.{SpellsWhatEncodes};
 
 use crate::from_utf8_error::FromUtf8Error;
 use crate::hip_str::HipStr;
@@ -24,3 +25,9 @@ pub fn utf8_round_trip<'b, B: Backend>(
 {
     HipStr::from_utf8(text.into_bytes())
 }
+
+/// Units of UTF-16 spell just the characters that, each encoded and put one after another, are the units: what
+/// [`HipStr::from_utf16`] reads is what Rust's `str::encode_utf16` writes.
+pub fn utf16_spells_what_encodes(units: &[u16])
+    ensures { (cs : List ℕ) → SpellsWhatEncodes units.now cs }
+{}

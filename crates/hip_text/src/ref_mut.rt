@@ -1,12 +1,13 @@
 //! A text lent out as a `String`.
 ghost use Rattle.std.specs.Prelude.{◌≡◌, ℕ, List, [], length, IfOk, IfErr, OnOk, OnErr};
 ghost use Rattle.std.specs.Borrow.{sem, follows};
-ghost use Rattle.std.specs.String.{string_bytes, string_vec};
+ghost use Rattle.std.specs.String.{string_bytes};
 ghost use Rattle.hip_bytes.specs.Meter.{RisesAtMost};
+ghost use Rattle.hip_bytes.specs.Mutated.{MutateAnswers, MutateCosts, TakesItems};
 ghost use Rattle.hip_text.specs.RefMut.{lender, lent_items, lent_source};
 ghost use mir.Syntax.{named};
 
-use hip_bytes::{Block, Meter};
+use hip_bytes::{Block, Meter, MutateFault};
 use std::alloc::{AllocError, Global};
 use std::fmt;
 
@@ -51,7 +52,7 @@ pub trait TextSource: Drop {
         ensures memory { OnErr result (put_needs_memory (length (string_bytes string))) }
         ensures counted { RisesAtMost meter.old meter.new (put_cost (length (string_bytes string))) }
         ensures err { OnErr result (self.new ≡ self.old) }
-        ensures handed_back { IfErr result (λ back. string_vec back ≡ string_vec string) };
+        ensures handed_back { IfErr result (λ back. back ≡ string) };
 }
 
 /// Lends a text out in a `String`, which [`RefMut::finish`] writes back. Until then the value is empty. A refused call changes
@@ -77,6 +78,40 @@ pub fn mutate_metered<'a, S: TextSource>(
 {
     let (string, block) = source.lend_string_metered(alloc, meter)?;
     Ok(RefMut::new(source, string, block))
+}
+
+/// Calls `f` with a text in a `String`, and makes the value that of the `String` which `f` leaves. Where none could be lent `f` isn't
+/// called and the value is as it was; where it couldn't be put back the value is empty.
+pub fn with_mutated<S: TextSource, R: Drop, F: FnOnce(&mut String) -> R + Drop>(
+    source: &mut S,
+    alloc: Global,
+    f: F,
+) -> Result<R, MutateFault<R, String>>
+    requires { TakesItems string_bytes F.FnOnce f (S.items source.old) }
+    ensures { MutateAnswers string_bytes F.FnOnce f (S.items source.old) source.old source.new S.has_put S.is_emptied S.put_needs_memory result }
+{
+    with_mutated_metered(source, alloc, f, &mut Meter::new())
+}
+
+/// [`with_mutated`], counted. What `f` copies isn't.
+pub fn with_mutated_metered<S: TextSource, R: Drop, F: FnOnce(&mut String) -> R + Drop>(
+    source: &mut S,
+    alloc: Global,
+    f: F,
+    meter: &mut Meter,
+) -> Result<R, MutateFault<R, String>>
+    requires { TakesItems string_bytes F.FnOnce f (S.items source.old) }
+    ensures mutated { MutateAnswers string_bytes F.FnOnce f (S.items source.old) source.old source.new S.has_put S.is_emptied S.put_needs_memory result }
+    ensures counted { MutateCosts string_bytes F.FnOnce f (S.items source.old) meter.old meter.new S.put_cost result }
+{
+    let Ok((mut lent, block)) = source.lend_string_metered(alloc, meter) else {
+        return Err(MutateFault::Lend);
+    };
+    let answer = f(&mut lent);
+    match source.put_back_metered(alloc, block, lent, meter) {
+        Ok(()) => Ok(answer),
+        Err(back) => Err(MutateFault::PutBack(answer, back)),
+    }
 }
 
 /// A text in a `String`, to be written back by [`RefMut::finish`]. While it lives the value is empty, and where it is dropped the value
@@ -128,7 +163,7 @@ impl<'a, S: TextSource> RefMut<'a, S, String, Block> {
         ensures put { OnOk result (S.has_put (self.exit.0.now) (lent_items self.entry)) }
         ensures memory { OnErr result (S.put_needs_memory (length (lent_items self.entry))) }
         ensures err { OnErr result (self.exit.0.now ≡ lent_source self.entry) }
-        ensures handed_back { IfErr result (λ back. string_vec back ≡ string_vec (lent_string self.entry)) }
+        ensures handed_back { IfErr result (λ back. back ≡ lent_string self.entry) }
     {
         self.finish_metered(alloc, &mut Meter::new())
     }
@@ -139,7 +174,7 @@ impl<'a, S: TextSource> RefMut<'a, S, String, Block> {
         ensures memory { OnErr result (S.put_needs_memory (length (lent_items self.entry))) }
         ensures counted { RisesAtMost meter.old meter.new (S.put_cost (length (lent_items self.entry))) }
         ensures err { OnErr result (self.exit.0.now ≡ lent_source self.entry) }
-        ensures handed_back { IfErr result (λ back. string_vec back ≡ string_vec (lent_string self.entry)) }
+        ensures handed_back { IfErr result (λ back. back ≡ lent_string self.entry) }
     {
         let RefMut {
             source,

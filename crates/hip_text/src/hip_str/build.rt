@@ -1,9 +1,9 @@
 //! Texts that are made of others.
-ghost use Rattle.std.specs.Prelude.{◌≡◌, [], length};
+ghost use Rattle.std.specs.Prelude.{◌≡◌, [], length, IfOk, ◌≢◌};
 ghost use Rattle.std.specs.Iterator.{IsFinite};
 ghost use Rattle.hip_bytes.specs.Join.{bytes_of, joined, join_cost, repeat_cost};
 ghost use Rattle.hip_bytes.specs.Made.{GatherAnswers, GatherCosts, JoinAnswers, RepeatAnswers};
-ghost use Rattle.hip_bytes.specs.Meter.{RisesAtMost};
+ghost use Rattle.hip_bytes.specs.Meter.{RisesAtLeast, RisesAtMost};
 
 use super::HipStr;
 use hip_bytes::{Backend, GrowFault, HipByt, Meter};
@@ -26,6 +26,7 @@ impl<'b, B: Backend> HipStr<'b, B> {
     ) -> Result<Self, GrowFault>
         ensures repeated { RepeatAnswers self.now n result }
         ensures counted { RisesAtMost meter.old meter.new (repeat_cost B.SHARES self.now.kind (length self.now.items) n) }
+        ensures copied { n ≢ 1 → IfOk result (λ text. RisesAtLeast meter.old meter.new (length text.items)) }
         ensures refused_counts_none { result ≡ Err GrowFault.TooLong → meter.new ≡ meter.old }
     {
         Ok(HipStr {
@@ -48,6 +49,7 @@ impl<'b, B: Backend> HipStr<'b, B> {
     ) -> Result<Self, GrowFault>
         ensures joined { JoinAnswers (joined [] texts.now) result }
         ensures counted { RisesAtMost meter.old meter.new (join_cost B.SHARES (length (joined [] texts.now))) }
+        ensures copied { IfOk result (λ text. RisesAtLeast meter.old meter.new (length text.items)) }
         ensures refused_counts_none { result ≡ Err GrowFault.TooLong → meter.new ≡ meter.old }
     {
         Self::join_slices_metered(alloc, texts, "", meter)
@@ -69,6 +71,7 @@ impl<'b, B: Backend> HipStr<'b, B> {
     ) -> Result<Self, GrowFault>
         ensures joined { JoinAnswers (joined sep.now texts.now) result }
         ensures counted { RisesAtMost meter.old meter.new (join_cost B.SHARES (length (joined sep.now texts.now))) }
+        ensures copied { IfOk result (λ text. RisesAtLeast meter.old meter.new (length text.items)) }
         ensures refused_counts_none { result ≡ Err GrowFault.TooLong → meter.new ≡ meter.old }
     {
         Ok(HipStr {

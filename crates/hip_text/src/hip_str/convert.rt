@@ -1,7 +1,7 @@
 //! Conversions.
 ghost use Rattle.std.specs.Prelude.{◌≡◌, ◌<◌, IsOkAnd, IfOk, IfErr, OnOk, OnErr, length};
 ghost use Rattle.std.specs.Cow.{cow_str_bytes, IsBorrowedStr, IsOwnedStr};
-ghost use Rattle.std.specs.String.{string_bytes, string_vec};
+ghost use Rattle.std.specs.String.{string_bytes};
 ghost use Rattle.hip_bytes.specs.Cost.{owned_cost, taken_cost};
 ghost use Rattle.hip_bytes.specs.Kinds.{by_length, HasCapacity};
 ghost use Rattle.hip_bytes.specs.Made.{MakeAnswers, OwnedAnswers};
@@ -43,7 +43,7 @@ impl<'b, B: Backend> HipStr<'b, B> {
     #[inline]
     pub fn from_string(alloc: Global, string: String) -> Result<Self, String>
         ensures made { MakeAnswers (string_bytes string) result }
-        ensures handed_back { IfErr result (λ back. string_vec back ≡ string_vec string) }
+        ensures handed_back { IfErr result (λ back. back ≡ string) }
     {
         Self::from_string_metered(alloc, string, &mut Meter::new())
     }
@@ -58,7 +58,7 @@ impl<'b, B: Backend> HipStr<'b, B> {
     ) -> Result<Self, String>
         ensures made { MakeAnswers (string_bytes string) result }
         ensures counted { RisesAtMost meter.old meter.new (taken_cost B.SHARES (length (string_bytes string))) }
-        ensures handed_back { IfErr result (λ back. string_vec back ≡ string_vec string) }
+        ensures handed_back { IfErr result (λ back. back ≡ string) }
     {
         match HipByt::from_vec_metered(alloc, string.into_bytes(), meter) {
             Ok(bytes) => Ok(HipStr { bytes }),
@@ -102,8 +102,7 @@ impl<'b, B: Backend> HipStr<'b, B> {
         ensures owned { IsOwnedStr cow.entry → IfOk result (λ text. text.kind ≡ by_length (length (cow_str_bytes cow.entry))) }
         ensures capacity { IfOk result (λ text. HasCapacity text.kind (length text.items) text.capacity) }
         ensures memory { OnErr result (INLINE_CAPACITY < length (cow_str_bytes cow.entry)) }
-        ensures handed_back { IfErr result (λ back. cow_str_bytes back ≡ cow_str_bytes cow.entry) }
-        ensures stays_owned { IfErr result IsOwnedStr }
+        ensures handed_back { IfErr result (λ back. back ≡ cow.entry) }
     {
         match cow {
             CowStr::Borrowed(text) => Ok(HipStr::borrowed(text)),

@@ -1,9 +1,9 @@
 //! Texts of bytes that may not be one.
 ghost use Rattle.std.specs.Prelude.{◌≡◌, IfErr, IfNone, IfOk, IfSome, IsOkAnd, IsUtf8};
-ghost use Rattle.std.specs.Str.{encode_utf8_all, valid_up_to, IsValidUpTo};
+ghost use Rattle.std.specs.Str.{encode_utf8_all};
 ghost use Rattle.bstr.specs.Utf8.{lossy_chars};
 ghost use Rattle.hip_bytes.specs.Kinds.{HoldsByLength};
-ghost use Rattle.hip_text.specs.Decode.{FromUtf8Answers, ReadAnswers, refusal_of};
+ghost use Rattle.hip_text.specs.Decode.{FromUtf8Answers, IsCauseOf, ReadAnswers, refusal_of};
 
 use super::HipStr;
 use crate::faults::BytesFault;
@@ -84,7 +84,7 @@ impl<'b, B: Backend> HipStr<'b, B> {
 /// What is wrong with bytes that aren't UTF-8.
 fn fault_of(bytes: &[u8]) -> Option<Utf8Error>
     ensures none { IfNone result (IsUtf8 bytes.now) }
-    ensures some { IfSome result (λ error. ¬ (IsUtf8 bytes.now) × IsValidUpTo bytes.now (valid_up_to error)) }
+    ensures some { IfSome result (λ error. ¬ (IsUtf8 bytes.now) × IsCauseOf bytes.now error) }
 {
     if is_utf8(bytes) {
         return None;

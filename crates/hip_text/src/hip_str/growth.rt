@@ -1,10 +1,10 @@
 //! Pushes, and cuts in place.
-ghost use Rattle.std.specs.Prelude.{◌≡◌, ◌≤◌, ◌+◌, length, max};
+ghost use Rattle.std.specs.Prelude.{◌≡◌, ◌≤◌, ◌+◌, length, max, OnOk};
 ghost use Rattle.std.specs.Char.{encode_utf8};
 ghost use Rattle.std.specs.Str.{IsCharBoundary};
 ghost use Rattle.hip_bytes.specs.Change.{IsShortened, PushAnswers, ShrinkAnswers};
-ghost use Rattle.hip_bytes.specs.Cost.{PushIsPaid, shortened_cost, shrink_cost};
-ghost use Rattle.hip_bytes.specs.Meter.{RisesAtMost, times_copied};
+ghost use Rattle.hip_bytes.specs.Cost.{PushIsPaid, push_cost, shortened_cost, shrink_cost};
+ghost use Rattle.hip_bytes.specs.Meter.{RisesAtLeast, RisesAtMost};
 ghost use Rattle.hip_text.specs.Change.{PopCharAnswers};
 
 use super::HipStr;
@@ -12,7 +12,8 @@ use hip_bytes::{Backend, Meter};
 use std::alloc::{AllocError, Global};
 
 impl<'b, B: Backend> HipStr<'b, B> {
-    /// Adds a text at the end: in place where it fits the handle itself or its owner is not shared, else in a copy.
+    /// Adds a text at the end: in place where it fits the handle itself or its owner is not shared, else in a copy. Where it is empty,
+    /// nothing changes.
     #[inline(always)]
     pub fn push_str(&mut self, alloc: Global, addition: &str) -> Result<(), AllocError>
         ensures push { PushAnswers B.SHARES self.old addition.now result self.new }
@@ -30,7 +31,8 @@ impl<'b, B: Backend> HipStr<'b, B> {
         meter: &mut Meter,
     ) -> Result<(), AllocError>
         ensures push { PushAnswers B.SHARES self.old addition.now result self.new }
-        ensures counted { RisesAtMost meter.old meter.new (times_copied B.SHARES (length self.old.items + length addition.now)) }
+        ensures counted { RisesAtMost meter.old meter.new (push_cost B.SHARES (length self.old.items) (length addition.now)) }
+        ensures copied { OnOk result (RisesAtLeast meter.old meter.new (length addition.now)) }
         ensures paid { PushIsPaid B.SHARES self.old self.new (length addition.now) meter.old meter.new }
     {
         self.bytes
@@ -54,7 +56,8 @@ impl<'b, B: Backend> HipStr<'b, B> {
         meter: &mut Meter,
     ) -> Result<(), AllocError>
         ensures push { PushAnswers B.SHARES self.old (encode_utf8 c) result self.new }
-        ensures counted { RisesAtMost meter.old meter.new (times_copied B.SHARES (length self.old.items + length (encode_utf8 c))) }
+        ensures counted { RisesAtMost meter.old meter.new (push_cost B.SHARES (length self.old.items) (length (encode_utf8 c))) }
+        ensures copied { OnOk result (RisesAtLeast meter.old meter.new (length (encode_utf8 c))) }
         ensures paid { PushIsPaid B.SHARES self.old self.new (length (encode_utf8 c)) meter.old meter.new }
     {
         let mut room = [0; 4];

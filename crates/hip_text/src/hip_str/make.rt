@@ -1,6 +1,6 @@
 //! Makers.
 ghost use Rattle.std.specs.Prelude.{◌≡◌, ◌≤◌, [], IsUtf8, length, IfOk, IfErr, OnErr, ◌<◌};
-ghost use Rattle.hip_bytes.specs.Meter.{RisesAtMost, times_copied};
+ghost use Rattle.hip_bytes.specs.Meter.{RisesAtLeast, RisesAtMost, times_copied};
 ghost use Rattle.hip_bytes.specs.Kinds.{by_length, Holds, IsEmptyInline};
 ghost use Rattle.hip_bytes.specs.Made.{MakeAnswers};
 ghost use Rattle.hip_bytes.specs.declared.kind.TheConstants.{INLINE_CAPACITY};
@@ -61,6 +61,7 @@ impl<'b, B: Backend> HipStr<'b, B> {
     ) -> Result<Self, AllocError>
         ensures made { MakeAnswers text.now result }
         ensures counted { RisesAtMost meter.old meter.new (times_copied B.SHARES (length text.now)) }
+        ensures copied { IfOk result (λ made. RisesAtLeast meter.old meter.new (length text.now)) }
     {
         let bytes = HipByt::from_slice_metered(alloc, text.as_bytes(), meter)?;
         Ok(HipStr::from_utf8_unchecked(bytes))
