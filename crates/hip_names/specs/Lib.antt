@@ -9,5 +9,6 @@ pub use Rattle.hip_bytes.specs.Change
 pub use Rattle.hip_bytes.specs.Handle
 pub use Rattle.hip_bytes.specs.Kinds
 pub use Rattle.hip_bytes.specs.Made
+pub use Rattle.hip_bytes.specs.Mutated
 pub use Rattle.hip_bytes.specs.RefMut
 pub use Rattle.hip_bytes.specs.Json

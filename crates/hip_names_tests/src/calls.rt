@@ -203,3 +203,15 @@ fn on_rc(rt: HostRuntime) {
 fn on_unique(rt: HostRuntime) {
     from_texts::<Unique>(&rt, rt.alloc());
 }
+
+#[test]
+fn closures_write(rt: HostRuntime) {
+    let mut name = must(&rt, HipOsStr::<Rc>::from_str(rt.alloc(), "ab"));
+    let pushed = name.with_mutated(rt.alloc(), |vec: &mut Vec<u8>| vec.push(b'c'));
+    must(&rt, must(&rt, pushed));
+    assert_eq!(&rt; name.as_os_str(), b"abc".as_slice());
+    let mut path = must(&rt, HipPath::<Unique>::from_str(rt.alloc(), "a/"));
+    let pushed = path.with_mutated(rt.alloc(), |vec: &mut Vec<u8>| vec.push(b'b'));
+    must(&rt, must(&rt, pushed));
+    assert_eq!(&rt; path.as_path(), b"a/b".as_slice());
+}

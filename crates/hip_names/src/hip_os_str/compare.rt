@@ -41,7 +41,7 @@ impl<'b, B: Backend> HipOsStr<'b, B> {
         components_eq(self.as_os_str(), other)
     }
 
-    /// How the bytes, as a path, stand to this one, in the order of their components.
+    /// How this one, as a path, stands to the bytes, as another, in the order of their components.
     #[inline]
     pub fn path_cmp(&self, other: &[u8]) -> Ordering
         ensures { result ≡ path_order self.now.items other.now }

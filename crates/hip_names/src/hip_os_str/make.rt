@@ -92,7 +92,8 @@ impl<'b, B: Backend> HipOsStr<'b, B> {
         }
     }
 
-    /// Adds a text at the end: in place where it fits the handle itself or its owner is not shared, else in a copy.
+    /// Adds a text at the end: in place where it fits the handle itself or its owner is not shared, else in a copy. Where it is empty,
+    /// nothing changes.
     #[inline]
     pub fn push(&mut self, alloc: Global, addition: &str) -> Result<(), AllocError>
         ensures push { PushAnswers B.SHARES self.old addition.now result self.new }

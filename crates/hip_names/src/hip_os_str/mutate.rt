@@ -1,11 +1,14 @@
 //! Writing through a vector.
 ghost use Rattle.std.specs.Prelude.{◌≡◌, ◌<◌, IfOk};
+ghost use Rattle.std.specs.Vec.{vec_items};
 ghost use Rattle.hip_bytes.specs.Cost.{taken_cost};
 ghost use Rattle.hip_bytes.specs.Kinds.{HoldsByLength, IsEmptyInline};
+ghost use Rattle.hip_bytes.specs.Mutated.{MutateAnswers, TakesItems};
 ghost use Rattle.hip_bytes.specs.RefMut.{lender, lent_items, lent_source};
+ghost use Rattle.hip_bytes.specs.declared.kind.TheConstants.{INLINE_CAPACITY};
 
 use super::HipOsStr;
-use hip_bytes::{Backend, Block, Meter, RefMut, Source, mutate};
+use hip_bytes::{Backend, Block, Meter, MutateFault, RefMut, Source, mutate, with_mutated};
 use std::alloc::{AllocError, Global};
 
 impl<'b, B: Backend> Source for HipOsStr<'b, B> {
@@ -52,5 +55,18 @@ impl<'b, B: Backend> HipOsStr<'b, B> {
         ensures emptied { IfOk result (λ guard. IsEmptyInline (lent_source guard)) }
     {
         mutate(self, alloc)
+    }
+
+    /// Calls `f` with the bytes in a vector, and makes the value that of the vector which `f` leaves. Where no vector could be lent `f`
+    /// isn't called and the value is as it was; where the vector couldn't be put back the value is empty.
+    pub fn with_mutated<R: Drop, F: FnOnce(&mut Vec<u8>) -> R + Drop>(
+        &mut self,
+        alloc: Global,
+        f: F,
+    ) -> Result<R, MutateFault<R>>
+        requires { TakesItems vec_items F.FnOnce f self.old.items }
+        ensures { MutateAnswers vec_items F.FnOnce f self.old.items self.old self.new HoldsByLength IsEmptyInline (λ len. INLINE_CAPACITY < len) result }
+    {
+        with_mutated(self, alloc, f)
     }
 }
