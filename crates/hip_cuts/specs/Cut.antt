@@ -1,50 +1,102 @@
--- What is left of a text that is trimmed or stripped, and the two parts of one that is split once: the source's parts at the ranges
--- that Rust's documentation of `str` tells. `shown` says what is seen of a text.
-use Rattle.std.specs.Prelude.{◌≡◌, ℕ, ◌+◌, ◌-◌, ◌⊎◌, Bool, Option, Some, None, Result, Ok, Err, slice_range}
+-- What is left of a text that is trimmed or stripped, and the two parts of one that is split once: the source's parts at
+-- the ranges that Rust's documentation of `str` tells. `shown` says what is seen of a text.
+use Rattle.std.specs.Prelude.{◌≡◌, ℕ, ◌+◌, ◌-◌, ◌⊎◌, Bool, List, length, Option, Some, None, Result, Ok, Err}
+use Rattle.std.specs.Char.{is_whitespace}
 use Rattle.hip_text.specs.Handle.{Handle}
 use Rattle.hip_text.specs.Cost.{CutNeedsMemory}
-use Rattle.hip_text.specs.Made.{IsPart}
 use Rattle.hip_text.specs.Meter.{RisesAtMost}
+use Rattle.hip_match.specs.Characters.{char_ends}
 use Rattle.hip_match.specs.Trims.{TrimsFront, TrimsBack}
-use Rattle.hip_cuts.specs.Piece.{part_cost}
+use Rattle.hip_cuts.specs.Piece.{IsPartAt, part_cost}
+
+-- where an occurrence that starts at a position of a text ends
+abbrev pub Ends : Type 0
+Ends = List ℕ → ℕ → Option ℕ
+
+-- where white space ends: the characters that Unicode calls `White_Space`
+abbrev pub space_ends : Ends
+space_ends = char_ends is_whitespace
+
+-- what is found by where the occurrences in a text end, and by its length
+abbrev pub Finds : Type 0 → Type 0
+Finds A = (ℕ → Option ℕ) → ℕ → A
+
+-- a range that there may be, and two
+abbrev pub FindsOne : Type 0
+FindsOne = Finds (Option (ℕ × ℕ))
+
+abbrev pub Two : Type 0
+Two = (ℕ × ℕ) × (ℕ × ℕ)
+
+abbrev pub FindsTwo : Type 0
+FindsTwo = Finds (Option Two)
+
+-- a range of which something holds
+abbrev pub Leaving : Type 1
+Leaving = (ℕ → Option ℕ) → ℕ → ℕ × ℕ → Type 0
 
 -- the range that trims of the front, of the end and of both leave of n bytes
-abbrev pub LeavesEnd : (ℕ → Option ℕ) → ℕ → ℕ × ℕ → Type 0
+abbrev pub LeavesEnd : Leaving
 LeavesEnd ends n range = TrimsFront ends range.0 × (range.1 ≡ n)
 
-abbrev pub LeavesStart : (ℕ → Option ℕ) → ℕ → ℕ × ℕ → Type 0
+abbrev pub LeavesStart : Leaving
 LeavesStart ends n range = (range.0 ≡ 0) × TrimsBack ends 0 n range.1
 
-abbrev pub LeavesBetween : (ℕ → Option ℕ) → ℕ → ℕ × ℕ → Type 0
+abbrev pub LeavesBetween : Leaving
 LeavesBetween ends n range = TrimsFront ends range.0 × TrimsBack ends range.0 n range.1
 
--- the part at the range that is left
-abbrev pub TrimAnswers : {T E : Type 0} → (T → Handle) → (ℕ × ℕ → Type 0) → Handle → Result T E → Type 0
-TrimAnswers shown Leaves source (Ok part) = (range : ℕ × ℕ) × Leaves range × IsPart source (shown part) (slice_range source.items range.0 range.1)
-TrimAnswers shown Leaves source (Err error) = (range : ℕ × ℕ) × Leaves range × CutNeedsMemory source.kind (range.1 - range.0)
+-- what is found in a source
+abbrev pub found_in : {A : Type 0} → Handle → Finds A → Ends → A
+found_in source find ends = find (ends source.items) (length source.items)
 
-abbrev pub TrimCosts : Bool → (ℕ × ℕ → Type 0) → Handle → ℕ → ℕ → Type 0
-TrimCosts shares Leaves source before after = (range : ℕ × ℕ) × Leaves range × RisesAtMost before after (part_cost shares source range)
+abbrev pub IsLeft : Handle → Leaving → Ends → ℕ × ℕ → Type 0
+IsLeft source Leaves ends range = Leaves (ends source.items) (length source.items) range
+
+-- the part at the range that is left
+abbrev pub TrimAnswers : {T E : Type 0} → (T → Handle) → Leaving → Ends → Handle → Result T E → Type 0
+TrimAnswers shown Leaves ends source (Ok part) =
+    (range : ℕ × ℕ) × IsLeft source Leaves ends range × IsPartAt source range (shown part)
+TrimAnswers shown Leaves ends source (Err error) =
+    (range : ℕ × ℕ) × IsLeft source Leaves ends range × CutNeedsMemory source.kind (range.1 - range.0)
+
+abbrev pub TrimCosts : Bool → Leaving → Ends → Handle → ℕ → ℕ → Type 0
+TrimCosts shares Leaves ends source before after =
+    (range : ℕ × ℕ) × IsLeft source Leaves ends range × RisesAtMost before after (part_cost shares source range)
 
 -- the part at a range that there may be
-abbrev pub StripAnswers : {T E : Type 0} → (T → Handle) → Option (ℕ × ℕ) → Handle → Result (Option T) E → Type 0
-StripAnswers shown None source result = result ≡ Ok None
-StripAnswers shown (Some range) source (Ok (Some part)) = IsPart source (shown part) (slice_range source.items range.0 range.1)
-StripAnswers shown (Some range) source (Ok None) = ⊥
-StripAnswers shown (Some range) source (Err error) = CutNeedsMemory source.kind (range.1 - range.0)
+abbrev pub PartIfAny : {T E : Type 0} → (T → Handle) → Option (ℕ × ℕ) → Handle → Result (Option T) E → Type 0
+PartIfAny shown None source result = result ≡ Ok None
+PartIfAny shown (Some range) source (Ok (Some part)) = IsPartAt source range (shown part)
+PartIfAny shown (Some range) source (Ok None) = ⊥
+PartIfAny shown (Some range) source (Err error) = CutNeedsMemory source.kind (range.1 - range.0)
 
-abbrev pub StripCosts : Bool → Option (ℕ × ℕ) → Handle → ℕ → ℕ → Type 0
-StripCosts shares None source before after = after ≡ before
-StripCosts shares (Some range) source before after = RisesAtMost before after (part_cost shares source range)
+abbrev pub PartIfAnyCosts : Bool → Option (ℕ × ℕ) → Handle → ℕ → ℕ → Type 0
+PartIfAnyCosts shares None source before after = after ≡ before
+PartIfAnyCosts shares (Some range) source before after = RisesAtMost before after (part_cost shares source range)
 
 -- the parts at two ranges that there may be
-abbrev pub OnceAnswers : {T E : Type 0} → (T → Handle) → Option ((ℕ × ℕ) × (ℕ × ℕ)) → Handle → Result (Option (T × T)) E → Type 0
-OnceAnswers shown None source result = result ≡ Ok None
-OnceAnswers shown (Some (front, back)) source (Ok (Some parts)) =
-    IsPart source (shown parts.0) (slice_range source.items front.0 front.1) × IsPart source (shown parts.1) (slice_range source.items back.0 back.1)
-OnceAnswers shown (Some (front, back)) source (Ok None) = ⊥
-OnceAnswers shown (Some (front, back)) source (Err error) = CutNeedsMemory source.kind (front.1 - front.0) ⊎ CutNeedsMemory source.kind (back.1 - back.0)
+abbrev pub PartsIfAny : {T E : Type 0} → (T → Handle) → Option Two → Handle → Result (Option (T × T)) E → Type 0
+PartsIfAny shown None source result = result ≡ Ok None
+PartsIfAny shown (Some (front, back)) source (Ok (Some parts)) =
+    IsPartAt source front (shown parts.0) × IsPartAt source back (shown parts.1)
+PartsIfAny shown (Some (front, back)) source (Ok None) = ⊥
+PartsIfAny shown (Some (front, back)) source (Err error) =
+    CutNeedsMemory source.kind (front.1 - front.0) ⊎ CutNeedsMemory source.kind (back.1 - back.0)
 
-abbrev pub OnceCosts : Bool → Option ((ℕ × ℕ) × (ℕ × ℕ)) → Handle → ℕ → ℕ → Type 0
-OnceCosts shares None source before after = after ≡ before
-OnceCosts shares (Some (front, back)) source before after = RisesAtMost before after (part_cost shares source front + part_cost shares source back)
+abbrev pub PartsIfAnyCosts : Bool → Option Two → Handle → ℕ → ℕ → Type 0
+PartsIfAnyCosts shares None source before after = after ≡ before
+PartsIfAnyCosts shares (Some (front, back)) source before after =
+    RisesAtMost before after (part_cost shares source front + part_cost shares source back)
+
+-- these at the ranges that are found in the source
+abbrev pub StripAnswers : {T E : Type 0} → (T → Handle) → FindsOne → Ends → Handle → Result (Option T) E → Type 0
+StripAnswers shown strip ends source result = PartIfAny shown (found_in source strip ends) source result
+
+abbrev pub StripCosts : Bool → FindsOne → Ends → Handle → ℕ → ℕ → Type 0
+StripCosts shares strip ends source before after = PartIfAnyCosts shares (found_in source strip ends) source before after
+
+abbrev pub OnceAnswers : {T E : Type 0} → (T → Handle) → FindsTwo → Ends → Handle → Result (Option (T × T)) E → Type 0
+OnceAnswers shown split ends source result = PartsIfAny shown (found_in source split ends) source result
+
+abbrev pub OnceCosts : Bool → FindsTwo → Ends → Handle → ℕ → ℕ → Type 0
+OnceCosts shares split ends source before after = PartsIfAnyCosts shares (found_in source split ends) source before after

@@ -1,19 +1,24 @@
 //! Pieces of a text, drawn one after another.
-ghost use Rattle.std.specs.Prelude.{◌≡◌, ℕ, List, IfOk};
+ghost use Rattle.std.specs.Prelude.{◌≡◌, IfOk, IfSome, length};
+ghost use Rattle.std.specs.Iterator.{UpTo, at_most, item_count};
+ghost use Rattle.std.specs.Iterator.SizeHint.{IsWithinCount};
 ghost use Rattle.hip_text.specs.Handle.{Handle};
 ghost use Rattle.hip_text.specs.Meter.{RisesAtMost};
-ghost use Rattle.hip_cuts.specs.Piece.{AreParts, FirstPiece, FirstMatch, LastPiece, LastMatch, FirstCosts, LastCosts, parts_cost};
+ghost use Rattle.hip_cuts.specs.Piece.{AreMatches, AreParts, parts_cost};
+ghost use Rattle.hip_cuts.specs.Piece.{DrawsFirst, DrawsFirstMatch, DrawsLast, DrawsLastMatch};
+ghost use Rattle.hip_cuts.specs.Piece.{FirstCosts, FirstMatch, FirstPiece, LastCosts, LastMatch, LastPiece};
 
 use hip_match::lines::Lines;
 use hip_match::matches::{MatchIndices, Matches};
 use hip_match::pattern::{OneChar, Pattern, ReversePattern};
-use hip_match::ranges::{Ranges, RangesBack};
+use hip_match::ranges::{CloneRanges, Ranges, RangesBack};
 use hip_match::rmatches::{RMatchIndices, RMatches};
 use hip_match::rsplit::{RSplit, RSplitN, RSplitTerminator};
 use hip_match::split::{Split, SplitInclusive, SplitN, SplitTerminator};
 use hip_match::white_space::{SplitAsciiWhitespace, SplitWhitespace};
 use hip_text::{Backend, HipStr, Meter};
 use std::alloc::{AllocError, Global};
+use std::marker::Model;
 
 /// What is taken apart.
 pub trait Source {
@@ -52,21 +57,9 @@ impl<'h> Unnumbered for SplitWhitespace<'h> {}
 
 impl<'h> Unnumbered for SplitAsciiWhitespace<'h> {}
 
-/// What a walk over the pieces of a text is.
-pub trait Walk {
-    /// Holds of what a call of [`TextCuts`](crate::TextCuts) made, and stays so.
-    ghost ready: { Self → Type 0 };
-
-    /// The text whose pieces they are.
-    ghost source: { Self → Handle };
-
-    /// The ranges of the pieces that are still to come.
-    ghost rest: { Self → List (ℕ × ℕ) };
-}
-
-/// The pieces of a source at the ranges that `I` gives.
+/// The pieces of a source at the ranges that `I` gives. Seen as the source and the ranges that are left.
 #[derive(Drop)]
-pub struct Pieces<'h, S, I> {
+pub struct Pieces<'h, S: Source, I: Ranges> {
     source: &'h S,
     ranges: I,
     alloc: Global,
@@ -75,12 +68,15 @@ pub struct Pieces<'h, S, I> {
 /// The pieces of a text.
 pub type IterWrapper<'h, 'b, B, I> = Pieces<'h, HipStr<'b, B>, I>;
 
-impl<'h, S: Source, I: Ranges> Walk for Pieces<'h, S, I> {
-    ghost ready = { λ walk. I.ready walk.ranges × (I.text walk.ranges ≡ (S.handle walk.source.now).items) };
+impl<'h, S: Source, I: Ranges> Model for Pieces<'h, S, I> {
+    ghost use Rattle.std.specs.Prelude.{◌≡◌};
+    ghost use Rattle.hip_cuts.specs.Piece.{Left};
 
-    ghost source = { λ walk. S.handle walk.source.now };
+    ghost Value = { Left };
 
-    ghost rest = { λ walk. I.rest walk.ranges };
+    ghost view = { λ pieces. record { source = S.handle pieces.source.now; rest = I.rest pieces.ranges } };
+
+    ghost invariant = { λ pieces. I.ready pieces.ranges × (I.text pieces.ranges ≡ (S.handle pieces.source.now).items) };
 }
 
 impl<'h, S: Source, I: Ranges> Pieces<'h, S, I> {
@@ -89,9 +85,8 @@ impl<'h, S: Source, I: Ranges> Pieces<'h, S, I> {
     pub(crate) fn new(source: &'h S, alloc: Global, ranges: I) -> Self
         requires ready { I.ready ranges }
         requires text { I.text ranges ≡ (S.handle source.now).items }
-        ensures ready { ⟦<Pieces<'h, S, I> as Walk>⟧.ready result }
-        ensures source { ⟦<Pieces<'h, S, I> as Walk>⟧.source result ≡ S.handle source.now }
-        ensures rest { ⟦<Pieces<'h, S, I> as Walk>⟧.rest result ≡ I.rest ranges }
+        ensures source { result.source ≡ S.handle source.now }
+        ensures rest { result.rest ≡ I.rest ranges }
     {
         Pieces {
             source,
@@ -101,16 +96,17 @@ impl<'h, S: Source, I: Ranges> Pieces<'h, S, I> {
     }
 }
 
-/// The same pieces once more. It may want memory where a clone of the ranges may, which is where one of their pattern may.
-impl<'h, S, I: Clone> Clone for Pieces<'h, S, I> {
-    ghost is_clone = { λ walk copy. ((ranges same : I) → I.is_clone ranges same → same ≡ ranges) → copy ≡ walk };
+/// The same pieces once more. It wants memory only where a clone of the ranges may, which is where one of their pattern may.
+impl<'h, S: Source, I: CloneRanges> Clone for Pieces<'h, S, I> {
+    ghost is_clone = { λ pieces copy. copy ≡ pieces };
 
-    ghost is_infallible = { λ walk. I.is_infallible walk.ranges };
+    ghost is_infallible = { λ _. (ranges : I) → I.is_infallible ranges };
 
     fn clone(&self) -> Result<Self, AllocError> {
+        let ranges = self.ranges.clone()?;
         Ok(Pieces {
             source: self.source,
-            ranges: self.ranges.clone()?,
+            ranges,
             alloc: self.alloc,
         })
     }
@@ -123,15 +119,30 @@ impl<'h, 'b, B: Backend, I: Ranges> Pieces<'h, HipStr<'b, B>, I> {
         &mut self,
         meter: &mut Meter,
     ) -> Option<(usize, Result<HipStr<'b, B>, AllocError>)>
-        requires { ⟦<Pieces<'h, HipStr<'b, B>, I> as Walk>⟧.ready self.old }
-        ensures first { FirstMatch (⟦<Pieces<'h, HipStr<'b, B>, I> as Walk>⟧.source self.old) (⟦<Pieces<'h, HipStr<'b, B>, I> as Walk>⟧.rest self.old) (⟦<Pieces<'h, HipStr<'b, B>, I> as Walk>⟧.rest self.new) result }
-        ensures counted { FirstCosts B.SHARES (⟦<Pieces<'h, HipStr<'b, B>, I> as Walk>⟧.source self.old) (⟦<Pieces<'h, HipStr<'b, B>, I> as Walk>⟧.rest self.old) (⟦<Pieces<'h, HipStr<'b, B>, I> as Walk>⟧.rest self.new) result meter.old meter.new }
-        ensures source { ⟦<Pieces<'h, HipStr<'b, B>, I> as Walk>⟧.source self.new ≡ ⟦<Pieces<'h, HipStr<'b, B>, I> as Walk>⟧.source self.old }
-        ensures ready { ⟦<Pieces<'h, HipStr<'b, B>, I> as Walk>⟧.ready self.new }
+        ensures first { FirstMatch self.old result self.new }
+        ensures counted { FirstCosts B.SHARES self.old result self.new meter.old meter.new }
+        ensures source { self.new.source ≡ self.old.source }
     {
         let (start, end) = self.ranges.next()?;
         let first = self.source.part_metered(self.alloc, start, end, meter);
         Some((start, first))
+    }
+}
+
+impl<'h, 'b, B: Backend, I: Ranges + Drop> Pieces<'h, HipStr<'b, B>, I> {
+    /// All matches that are left, as their positions and their parts.
+    fn collect_matches(
+        mut self,
+        meter: &mut Meter,
+    ) -> Result<Vec<(usize, HipStr<'b, B>)>, AllocError>
+        ensures matches { IfOk result (λ matches. AreMatches self.entry.source self.entry.rest matches.items) }
+        ensures counted { RisesAtMost meter.old meter.new (parts_cost B.SHARES self.entry.source self.entry.rest) }
+    {
+        let mut matches = Vec::new(self.alloc);
+        while let Some((position, part)) = self.first_match(meter) {
+            matches.push((position, part?))?;
+        }
+        Ok(matches)
     }
 }
 
@@ -142,11 +153,9 @@ impl<'h, 'b, B: Backend, I: RangesBack> Pieces<'h, HipStr<'b, B>, I> {
         &mut self,
         meter: &mut Meter,
     ) -> Option<(usize, Result<HipStr<'b, B>, AllocError>)>
-        requires { ⟦<Pieces<'h, HipStr<'b, B>, I> as Walk>⟧.ready self.old }
-        ensures last { LastMatch (⟦<Pieces<'h, HipStr<'b, B>, I> as Walk>⟧.source self.old) (⟦<Pieces<'h, HipStr<'b, B>, I> as Walk>⟧.rest self.old) (⟦<Pieces<'h, HipStr<'b, B>, I> as Walk>⟧.rest self.new) result }
-        ensures counted { LastCosts B.SHARES (⟦<Pieces<'h, HipStr<'b, B>, I> as Walk>⟧.source self.old) (⟦<Pieces<'h, HipStr<'b, B>, I> as Walk>⟧.rest self.old) (⟦<Pieces<'h, HipStr<'b, B>, I> as Walk>⟧.rest self.new) result meter.old meter.new }
-        ensures source { ⟦<Pieces<'h, HipStr<'b, B>, I> as Walk>⟧.source self.new ≡ ⟦<Pieces<'h, HipStr<'b, B>, I> as Walk>⟧.source self.old }
-        ensures ready { ⟦<Pieces<'h, HipStr<'b, B>, I> as Walk>⟧.ready self.new }
+        ensures last { LastMatch self.old result self.new }
+        ensures counted { LastCosts B.SHARES self.old result self.new meter.old meter.new }
+        ensures source { self.new.source ≡ self.old.source }
     {
         let (start, end) = self.ranges.next_back()?;
         let last = self.source.part_metered(self.alloc, start, end, meter);
@@ -158,10 +167,8 @@ impl<'h, 'b, B: Backend, I: Unnumbered> Pieces<'h, HipStr<'b, B>, I> {
     /// The first piece that is left. One that is refused for memory has been passed.
     #[inline(always)]
     pub fn next(&mut self) -> Option<Result<HipStr<'b, B>, AllocError>>
-        requires { ⟦<Pieces<'h, HipStr<'b, B>, I> as Walk>⟧.ready self.old }
-        ensures first { FirstPiece (⟦<Pieces<'h, HipStr<'b, B>, I> as Walk>⟧.source self.old) (⟦<Pieces<'h, HipStr<'b, B>, I> as Walk>⟧.rest self.old) (⟦<Pieces<'h, HipStr<'b, B>, I> as Walk>⟧.rest self.new) result }
-        ensures source { ⟦<Pieces<'h, HipStr<'b, B>, I> as Walk>⟧.source self.new ≡ ⟦<Pieces<'h, HipStr<'b, B>, I> as Walk>⟧.source self.old }
-        ensures ready { ⟦<Pieces<'h, HipStr<'b, B>, I> as Walk>⟧.ready self.new }
+        ensures first { FirstPiece self.old result self.new }
+        ensures source { self.new.source ≡ self.old.source }
     {
         self.next_metered(&mut Meter::new())
     }
@@ -169,11 +176,9 @@ impl<'h, 'b, B: Backend, I: Unnumbered> Pieces<'h, HipStr<'b, B>, I> {
     /// [`Pieces::next`], counted.
     #[inline(always)]
     pub fn next_metered(&mut self, meter: &mut Meter) -> Option<Result<HipStr<'b, B>, AllocError>>
-        requires { ⟦<Pieces<'h, HipStr<'b, B>, I> as Walk>⟧.ready self.old }
-        ensures first { FirstPiece (⟦<Pieces<'h, HipStr<'b, B>, I> as Walk>⟧.source self.old) (⟦<Pieces<'h, HipStr<'b, B>, I> as Walk>⟧.rest self.old) (⟦<Pieces<'h, HipStr<'b, B>, I> as Walk>⟧.rest self.new) result }
-        ensures counted { FirstCosts B.SHARES (⟦<Pieces<'h, HipStr<'b, B>, I> as Walk>⟧.source self.old) (⟦<Pieces<'h, HipStr<'b, B>, I> as Walk>⟧.rest self.old) (⟦<Pieces<'h, HipStr<'b, B>, I> as Walk>⟧.rest self.new) result meter.old meter.new }
-        ensures source { ⟦<Pieces<'h, HipStr<'b, B>, I> as Walk>⟧.source self.new ≡ ⟦<Pieces<'h, HipStr<'b, B>, I> as Walk>⟧.source self.old }
-        ensures ready { ⟦<Pieces<'h, HipStr<'b, B>, I> as Walk>⟧.ready self.new }
+        ensures first { FirstPiece self.old result self.new }
+        ensures counted { FirstCosts B.SHARES self.old result self.new meter.old meter.new }
+        ensures source { self.new.source ≡ self.old.source }
     {
         let (from, to) = self.ranges.next()?;
         Some(self.source.part_metered(self.alloc, from, to, meter))
@@ -183,17 +188,15 @@ impl<'h, 'b, B: Backend, I: Unnumbered> Pieces<'h, HipStr<'b, B>, I> {
 impl<'h, 'b, B: Backend, I: Unnumbered + Drop> Pieces<'h, HipStr<'b, B>, I> {
     /// All pieces that are left, in a vector, which wants memory besides what the pieces want.
     pub fn collect(self) -> Result<Vec<HipStr<'b, B>>, AllocError>
-        requires { ⟦<Pieces<'h, HipStr<'b, B>, I> as Walk>⟧.ready self }
-        ensures { IfOk result (λ pieces. AreParts (⟦<Pieces<'h, HipStr<'b, B>, I> as Walk>⟧.source self.entry) (⟦<Pieces<'h, HipStr<'b, B>, I> as Walk>⟧.rest self.entry) pieces.items) }
+        ensures { IfOk result (λ pieces. AreParts self.entry.source self.entry.rest pieces.items) }
     {
         self.collect_metered(&mut Meter::new())
     }
 
     /// [`Pieces::collect`], counted.
     pub fn collect_metered(mut self, meter: &mut Meter) -> Result<Vec<HipStr<'b, B>>, AllocError>
-        requires { ⟦<Pieces<'h, HipStr<'b, B>, I> as Walk>⟧.ready self }
-        ensures parts { IfOk result (λ pieces. AreParts (⟦<Pieces<'h, HipStr<'b, B>, I> as Walk>⟧.source self.entry) (⟦<Pieces<'h, HipStr<'b, B>, I> as Walk>⟧.rest self.entry) pieces.items) }
-        ensures counted { RisesAtMost meter.old meter.new (parts_cost B.SHARES (⟦<Pieces<'h, HipStr<'b, B>, I> as Walk>⟧.source self.entry) (⟦<Pieces<'h, HipStr<'b, B>, I> as Walk>⟧.rest self.entry)) }
+        ensures pieces { IfOk result (λ pieces. AreParts self.entry.source self.entry.rest pieces.items) }
+        ensures counted { RisesAtMost meter.old meter.new (parts_cost B.SHARES self.entry.source self.entry.rest) }
     {
         let mut pieces = Vec::new(self.alloc);
         while let Some(piece) = self.next_metered(meter) {
@@ -207,10 +210,8 @@ impl<'h, 'b, B: Backend, I: Unnumbered + RangesBack> Pieces<'h, HipStr<'b, B>, I
     /// The last piece that is left. One that is refused for memory has been passed.
     #[inline]
     pub fn next_back(&mut self) -> Option<Result<HipStr<'b, B>, AllocError>>
-        requires { ⟦<Pieces<'h, HipStr<'b, B>, I> as Walk>⟧.ready self.old }
-        ensures last { LastPiece (⟦<Pieces<'h, HipStr<'b, B>, I> as Walk>⟧.source self.old) (⟦<Pieces<'h, HipStr<'b, B>, I> as Walk>⟧.rest self.old) (⟦<Pieces<'h, HipStr<'b, B>, I> as Walk>⟧.rest self.new) result }
-        ensures source { ⟦<Pieces<'h, HipStr<'b, B>, I> as Walk>⟧.source self.new ≡ ⟦<Pieces<'h, HipStr<'b, B>, I> as Walk>⟧.source self.old }
-        ensures ready { ⟦<Pieces<'h, HipStr<'b, B>, I> as Walk>⟧.ready self.new }
+        ensures last { LastPiece self.old result self.new }
+        ensures source { self.new.source ≡ self.old.source }
     {
         self.next_back_metered(&mut Meter::new())
     }
@@ -221,14 +222,45 @@ impl<'h, 'b, B: Backend, I: Unnumbered + RangesBack> Pieces<'h, HipStr<'b, B>, I
         &mut self,
         meter: &mut Meter,
     ) -> Option<Result<HipStr<'b, B>, AllocError>>
-        requires { ⟦<Pieces<'h, HipStr<'b, B>, I> as Walk>⟧.ready self.old }
-        ensures last { LastPiece (⟦<Pieces<'h, HipStr<'b, B>, I> as Walk>⟧.source self.old) (⟦<Pieces<'h, HipStr<'b, B>, I> as Walk>⟧.rest self.old) (⟦<Pieces<'h, HipStr<'b, B>, I> as Walk>⟧.rest self.new) result }
-        ensures counted { LastCosts B.SHARES (⟦<Pieces<'h, HipStr<'b, B>, I> as Walk>⟧.source self.old) (⟦<Pieces<'h, HipStr<'b, B>, I> as Walk>⟧.rest self.old) (⟦<Pieces<'h, HipStr<'b, B>, I> as Walk>⟧.rest self.new) result meter.old meter.new }
-        ensures source { ⟦<Pieces<'h, HipStr<'b, B>, I> as Walk>⟧.source self.new ≡ ⟦<Pieces<'h, HipStr<'b, B>, I> as Walk>⟧.source self.old }
-        ensures ready { ⟦<Pieces<'h, HipStr<'b, B>, I> as Walk>⟧.ready self.new }
+        ensures last { LastPiece self.old result self.new }
+        ensures counted { LastCosts B.SHARES self.old result self.new meter.old meter.new }
+        ensures source { self.new.source ≡ self.old.source }
     {
         let (from, to) = self.ranges.next_back()?;
         Some(self.source.part_metered(self.alloc, from, to, meter))
+    }
+}
+
+/// So a `for` loop goes over it.
+impl<'h, 'b, B: Backend, I: Unnumbered + Drop> Iterator for Pieces<'h, HipStr<'b, B>, I> {
+    type Item = Result<HipStr<'b, B>, AllocError>;
+
+    ghost next_gives = { DrawsFirst };
+
+    ghost remaining = { item_count (λ pieces. pieces.rest) };
+
+    #[inline(always)]
+    fn next(&mut self) -> Option<Result<HipStr<'b, B>, AllocError>> {
+        let mut meter = Meter::new();
+        self.next_metered(&mut meter)
+    }
+
+    fn size_hint(&self) -> (usize, Option<usize>)
+        ensures lower { IsWithinCount result.0 (at_most (length self.now.rest)) }
+        ensures upper { IfSome result.1 (UpTo (at_most (length self.now.rest))) }
+    {
+        (0, None)
+    }
+}
+
+/// From the back.
+impl<'h, 'b, B: Backend, I: Unnumbered + RangesBack + Drop> DoubleEndedIterator
+    for Pieces<'h, HipStr<'b, B>, I> {
+    ghost next_back_gives = { DrawsLast };
+
+    #[inline]
+    fn next_back(&mut self) -> Option<Result<HipStr<'b, B>, AllocError>> {
+        self.next_back_metered(&mut Meter::new())
     }
 }
 
@@ -236,10 +268,8 @@ impl<'h, 'b, B: Backend, P: Pattern> Pieces<'h, HipStr<'b, B>, MatchIndices<'h, 
     /// The first match that is left, as its position and its piece. One that is refused for memory has been passed.
     #[inline(always)]
     pub fn next(&mut self) -> Option<(usize, Result<HipStr<'b, B>, AllocError>)>
-        requires { ⟦<Pieces<'h, HipStr<'b, B>, MatchIndices<'h, P>> as Walk>⟧.ready self.old }
-        ensures first { FirstMatch (⟦<Pieces<'h, HipStr<'b, B>, MatchIndices<'h, P>> as Walk>⟧.source self.old) (⟦<Pieces<'h, HipStr<'b, B>, MatchIndices<'h, P>> as Walk>⟧.rest self.old) (⟦<Pieces<'h, HipStr<'b, B>, MatchIndices<'h, P>> as Walk>⟧.rest self.new) result }
-        ensures source { ⟦<Pieces<'h, HipStr<'b, B>, MatchIndices<'h, P>> as Walk>⟧.source self.new ≡ ⟦<Pieces<'h, HipStr<'b, B>, MatchIndices<'h, P>> as Walk>⟧.source self.old }
-        ensures ready { ⟦<Pieces<'h, HipStr<'b, B>, MatchIndices<'h, P>> as Walk>⟧.ready self.new }
+        ensures first { FirstMatch self.old result self.new }
+        ensures source { self.new.source ≡ self.old.source }
     {
         self.next_metered(&mut Meter::new())
     }
@@ -250,13 +280,29 @@ impl<'h, 'b, B: Backend, P: Pattern> Pieces<'h, HipStr<'b, B>, MatchIndices<'h, 
         &mut self,
         meter: &mut Meter,
     ) -> Option<(usize, Result<HipStr<'b, B>, AllocError>)>
-        requires { ⟦<Pieces<'h, HipStr<'b, B>, MatchIndices<'h, P>> as Walk>⟧.ready self.old }
-        ensures first { FirstMatch (⟦<Pieces<'h, HipStr<'b, B>, MatchIndices<'h, P>> as Walk>⟧.source self.old) (⟦<Pieces<'h, HipStr<'b, B>, MatchIndices<'h, P>> as Walk>⟧.rest self.old) (⟦<Pieces<'h, HipStr<'b, B>, MatchIndices<'h, P>> as Walk>⟧.rest self.new) result }
-        ensures counted { FirstCosts B.SHARES (⟦<Pieces<'h, HipStr<'b, B>, MatchIndices<'h, P>> as Walk>⟧.source self.old) (⟦<Pieces<'h, HipStr<'b, B>, MatchIndices<'h, P>> as Walk>⟧.rest self.old) (⟦<Pieces<'h, HipStr<'b, B>, MatchIndices<'h, P>> as Walk>⟧.rest self.new) result meter.old meter.new }
-        ensures source { ⟦<Pieces<'h, HipStr<'b, B>, MatchIndices<'h, P>> as Walk>⟧.source self.new ≡ ⟦<Pieces<'h, HipStr<'b, B>, MatchIndices<'h, P>> as Walk>⟧.source self.old }
-        ensures ready { ⟦<Pieces<'h, HipStr<'b, B>, MatchIndices<'h, P>> as Walk>⟧.ready self.new }
+        ensures first { FirstMatch self.old result self.new }
+        ensures counted { FirstCosts B.SHARES self.old result self.new meter.old meter.new }
+        ensures source { self.new.source ≡ self.old.source }
     {
         self.first_match(meter)
+    }
+
+    /// All matches that are left, in a vector, which wants memory besides what the pieces want.
+    pub fn collect(self) -> Result<Vec<(usize, HipStr<'b, B>)>, AllocError>
+        ensures { IfOk result (λ matches. AreMatches self.entry.source self.entry.rest matches.items) }
+    {
+        self.collect_metered(&mut Meter::new())
+    }
+
+    /// [`Pieces::collect`], counted.
+    pub fn collect_metered(
+        self,
+        meter: &mut Meter,
+    ) -> Result<Vec<(usize, HipStr<'b, B>)>, AllocError>
+        ensures matches { IfOk result (λ matches. AreMatches self.entry.source self.entry.rest matches.items) }
+        ensures counted { RisesAtMost meter.old meter.new (parts_cost B.SHARES self.entry.source self.entry.rest) }
+    {
+        self.collect_matches(meter)
     }
 }
 
@@ -264,10 +310,8 @@ impl<'h, 'b, B: Backend, P: OneChar> Pieces<'h, HipStr<'b, B>, MatchIndices<'h, 
     /// The last match that is left, as its position and its piece. One that is refused for memory has been passed.
     #[inline]
     pub fn next_back(&mut self) -> Option<(usize, Result<HipStr<'b, B>, AllocError>)>
-        requires { ⟦<Pieces<'h, HipStr<'b, B>, MatchIndices<'h, P>> as Walk>⟧.ready self.old }
-        ensures last { LastMatch (⟦<Pieces<'h, HipStr<'b, B>, MatchIndices<'h, P>> as Walk>⟧.source self.old) (⟦<Pieces<'h, HipStr<'b, B>, MatchIndices<'h, P>> as Walk>⟧.rest self.old) (⟦<Pieces<'h, HipStr<'b, B>, MatchIndices<'h, P>> as Walk>⟧.rest self.new) result }
-        ensures source { ⟦<Pieces<'h, HipStr<'b, B>, MatchIndices<'h, P>> as Walk>⟧.source self.new ≡ ⟦<Pieces<'h, HipStr<'b, B>, MatchIndices<'h, P>> as Walk>⟧.source self.old }
-        ensures ready { ⟦<Pieces<'h, HipStr<'b, B>, MatchIndices<'h, P>> as Walk>⟧.ready self.new }
+        ensures last { LastMatch self.old result self.new }
+        ensures source { self.new.source ≡ self.old.source }
     {
         self.next_back_metered(&mut Meter::new())
     }
@@ -278,13 +322,43 @@ impl<'h, 'b, B: Backend, P: OneChar> Pieces<'h, HipStr<'b, B>, MatchIndices<'h, 
         &mut self,
         meter: &mut Meter,
     ) -> Option<(usize, Result<HipStr<'b, B>, AllocError>)>
-        requires { ⟦<Pieces<'h, HipStr<'b, B>, MatchIndices<'h, P>> as Walk>⟧.ready self.old }
-        ensures last { LastMatch (⟦<Pieces<'h, HipStr<'b, B>, MatchIndices<'h, P>> as Walk>⟧.source self.old) (⟦<Pieces<'h, HipStr<'b, B>, MatchIndices<'h, P>> as Walk>⟧.rest self.old) (⟦<Pieces<'h, HipStr<'b, B>, MatchIndices<'h, P>> as Walk>⟧.rest self.new) result }
-        ensures counted { LastCosts B.SHARES (⟦<Pieces<'h, HipStr<'b, B>, MatchIndices<'h, P>> as Walk>⟧.source self.old) (⟦<Pieces<'h, HipStr<'b, B>, MatchIndices<'h, P>> as Walk>⟧.rest self.old) (⟦<Pieces<'h, HipStr<'b, B>, MatchIndices<'h, P>> as Walk>⟧.rest self.new) result meter.old meter.new }
-        ensures source { ⟦<Pieces<'h, HipStr<'b, B>, MatchIndices<'h, P>> as Walk>⟧.source self.new ≡ ⟦<Pieces<'h, HipStr<'b, B>, MatchIndices<'h, P>> as Walk>⟧.source self.old }
-        ensures ready { ⟦<Pieces<'h, HipStr<'b, B>, MatchIndices<'h, P>> as Walk>⟧.ready self.new }
+        ensures last { LastMatch self.old result self.new }
+        ensures counted { LastCosts B.SHARES self.old result self.new meter.old meter.new }
+        ensures source { self.new.source ≡ self.old.source }
     {
         self.last_match(meter)
+    }
+}
+
+/// So a `for` loop goes over it.
+impl<'h, 'b, B: Backend, P: Pattern> Iterator for Pieces<'h, HipStr<'b, B>, MatchIndices<'h, P>> {
+    type Item = (usize, Result<HipStr<'b, B>, AllocError>);
+
+    ghost next_gives = { DrawsFirstMatch };
+
+    ghost remaining = { item_count (λ pieces. pieces.rest) };
+
+    #[inline(always)]
+    fn next(&mut self) -> Option<(usize, Result<HipStr<'b, B>, AllocError>)> {
+        self.first_match(&mut Meter::new())
+    }
+
+    fn size_hint(&self) -> (usize, Option<usize>)
+        ensures lower { IsWithinCount result.0 (at_most (length self.now.rest)) }
+        ensures upper { IfSome result.1 (UpTo (at_most (length self.now.rest))) }
+    {
+        (0, None)
+    }
+}
+
+/// From the back.
+impl<'h, 'b, B: Backend, P: OneChar> DoubleEndedIterator
+    for Pieces<'h, HipStr<'b, B>, MatchIndices<'h, P>> {
+    ghost next_back_gives = { DrawsLastMatch };
+
+    #[inline]
+    fn next_back(&mut self) -> Option<(usize, Result<HipStr<'b, B>, AllocError>)> {
+        self.last_match(&mut Meter::new())
     }
 }
 
@@ -292,10 +366,8 @@ impl<'h, 'b, B: Backend, P: ReversePattern> Pieces<'h, HipStr<'b, B>, RMatchIndi
     /// The first match that is left, as its position and its piece. One that is refused for memory has been passed.
     #[inline(always)]
     pub fn next(&mut self) -> Option<(usize, Result<HipStr<'b, B>, AllocError>)>
-        requires { ⟦<Pieces<'h, HipStr<'b, B>, RMatchIndices<'h, P>> as Walk>⟧.ready self.old }
-        ensures first { FirstMatch (⟦<Pieces<'h, HipStr<'b, B>, RMatchIndices<'h, P>> as Walk>⟧.source self.old) (⟦<Pieces<'h, HipStr<'b, B>, RMatchIndices<'h, P>> as Walk>⟧.rest self.old) (⟦<Pieces<'h, HipStr<'b, B>, RMatchIndices<'h, P>> as Walk>⟧.rest self.new) result }
-        ensures source { ⟦<Pieces<'h, HipStr<'b, B>, RMatchIndices<'h, P>> as Walk>⟧.source self.new ≡ ⟦<Pieces<'h, HipStr<'b, B>, RMatchIndices<'h, P>> as Walk>⟧.source self.old }
-        ensures ready { ⟦<Pieces<'h, HipStr<'b, B>, RMatchIndices<'h, P>> as Walk>⟧.ready self.new }
+        ensures first { FirstMatch self.old result self.new }
+        ensures source { self.new.source ≡ self.old.source }
     {
         self.next_metered(&mut Meter::new())
     }
@@ -306,13 +378,29 @@ impl<'h, 'b, B: Backend, P: ReversePattern> Pieces<'h, HipStr<'b, B>, RMatchIndi
         &mut self,
         meter: &mut Meter,
     ) -> Option<(usize, Result<HipStr<'b, B>, AllocError>)>
-        requires { ⟦<Pieces<'h, HipStr<'b, B>, RMatchIndices<'h, P>> as Walk>⟧.ready self.old }
-        ensures first { FirstMatch (⟦<Pieces<'h, HipStr<'b, B>, RMatchIndices<'h, P>> as Walk>⟧.source self.old) (⟦<Pieces<'h, HipStr<'b, B>, RMatchIndices<'h, P>> as Walk>⟧.rest self.old) (⟦<Pieces<'h, HipStr<'b, B>, RMatchIndices<'h, P>> as Walk>⟧.rest self.new) result }
-        ensures counted { FirstCosts B.SHARES (⟦<Pieces<'h, HipStr<'b, B>, RMatchIndices<'h, P>> as Walk>⟧.source self.old) (⟦<Pieces<'h, HipStr<'b, B>, RMatchIndices<'h, P>> as Walk>⟧.rest self.old) (⟦<Pieces<'h, HipStr<'b, B>, RMatchIndices<'h, P>> as Walk>⟧.rest self.new) result meter.old meter.new }
-        ensures source { ⟦<Pieces<'h, HipStr<'b, B>, RMatchIndices<'h, P>> as Walk>⟧.source self.new ≡ ⟦<Pieces<'h, HipStr<'b, B>, RMatchIndices<'h, P>> as Walk>⟧.source self.old }
-        ensures ready { ⟦<Pieces<'h, HipStr<'b, B>, RMatchIndices<'h, P>> as Walk>⟧.ready self.new }
+        ensures first { FirstMatch self.old result self.new }
+        ensures counted { FirstCosts B.SHARES self.old result self.new meter.old meter.new }
+        ensures source { self.new.source ≡ self.old.source }
     {
         self.first_match(meter)
+    }
+
+    /// All matches that are left, in a vector, which wants memory besides what the pieces want.
+    pub fn collect(self) -> Result<Vec<(usize, HipStr<'b, B>)>, AllocError>
+        ensures { IfOk result (λ matches. AreMatches self.entry.source self.entry.rest matches.items) }
+    {
+        self.collect_metered(&mut Meter::new())
+    }
+
+    /// [`Pieces::collect`], counted.
+    pub fn collect_metered(
+        self,
+        meter: &mut Meter,
+    ) -> Result<Vec<(usize, HipStr<'b, B>)>, AllocError>
+        ensures matches { IfOk result (λ matches. AreMatches self.entry.source self.entry.rest matches.items) }
+        ensures counted { RisesAtMost meter.old meter.new (parts_cost B.SHARES self.entry.source self.entry.rest) }
+    {
+        self.collect_matches(meter)
     }
 }
 
@@ -320,10 +408,8 @@ impl<'h, 'b, B: Backend, P: OneChar> Pieces<'h, HipStr<'b, B>, RMatchIndices<'h,
     /// The last match that is left, as its position and its piece. One that is refused for memory has been passed.
     #[inline]
     pub fn next_back(&mut self) -> Option<(usize, Result<HipStr<'b, B>, AllocError>)>
-        requires { ⟦<Pieces<'h, HipStr<'b, B>, RMatchIndices<'h, P>> as Walk>⟧.ready self.old }
-        ensures last { LastMatch (⟦<Pieces<'h, HipStr<'b, B>, RMatchIndices<'h, P>> as Walk>⟧.source self.old) (⟦<Pieces<'h, HipStr<'b, B>, RMatchIndices<'h, P>> as Walk>⟧.rest self.old) (⟦<Pieces<'h, HipStr<'b, B>, RMatchIndices<'h, P>> as Walk>⟧.rest self.new) result }
-        ensures source { ⟦<Pieces<'h, HipStr<'b, B>, RMatchIndices<'h, P>> as Walk>⟧.source self.new ≡ ⟦<Pieces<'h, HipStr<'b, B>, RMatchIndices<'h, P>> as Walk>⟧.source self.old }
-        ensures ready { ⟦<Pieces<'h, HipStr<'b, B>, RMatchIndices<'h, P>> as Walk>⟧.ready self.new }
+        ensures last { LastMatch self.old result self.new }
+        ensures source { self.new.source ≡ self.old.source }
     {
         self.next_back_metered(&mut Meter::new())
     }
@@ -334,12 +420,43 @@ impl<'h, 'b, B: Backend, P: OneChar> Pieces<'h, HipStr<'b, B>, RMatchIndices<'h,
         &mut self,
         meter: &mut Meter,
     ) -> Option<(usize, Result<HipStr<'b, B>, AllocError>)>
-        requires { ⟦<Pieces<'h, HipStr<'b, B>, RMatchIndices<'h, P>> as Walk>⟧.ready self.old }
-        ensures last { LastMatch (⟦<Pieces<'h, HipStr<'b, B>, RMatchIndices<'h, P>> as Walk>⟧.source self.old) (⟦<Pieces<'h, HipStr<'b, B>, RMatchIndices<'h, P>> as Walk>⟧.rest self.old) (⟦<Pieces<'h, HipStr<'b, B>, RMatchIndices<'h, P>> as Walk>⟧.rest self.new) result }
-        ensures counted { LastCosts B.SHARES (⟦<Pieces<'h, HipStr<'b, B>, RMatchIndices<'h, P>> as Walk>⟧.source self.old) (⟦<Pieces<'h, HipStr<'b, B>, RMatchIndices<'h, P>> as Walk>⟧.rest self.old) (⟦<Pieces<'h, HipStr<'b, B>, RMatchIndices<'h, P>> as Walk>⟧.rest self.new) result meter.old meter.new }
-        ensures source { ⟦<Pieces<'h, HipStr<'b, B>, RMatchIndices<'h, P>> as Walk>⟧.source self.new ≡ ⟦<Pieces<'h, HipStr<'b, B>, RMatchIndices<'h, P>> as Walk>⟧.source self.old }
-        ensures ready { ⟦<Pieces<'h, HipStr<'b, B>, RMatchIndices<'h, P>> as Walk>⟧.ready self.new }
+        ensures last { LastMatch self.old result self.new }
+        ensures counted { LastCosts B.SHARES self.old result self.new meter.old meter.new }
+        ensures source { self.new.source ≡ self.old.source }
     {
         self.last_match(meter)
+    }
+}
+
+/// So a `for` loop goes over it.
+impl<'h, 'b, B: Backend, P: ReversePattern> Iterator
+    for Pieces<'h, HipStr<'b, B>, RMatchIndices<'h, P>> {
+    type Item = (usize, Result<HipStr<'b, B>, AllocError>);
+
+    ghost next_gives = { DrawsFirstMatch };
+
+    ghost remaining = { item_count (λ pieces. pieces.rest) };
+
+    #[inline(always)]
+    fn next(&mut self) -> Option<(usize, Result<HipStr<'b, B>, AllocError>)> {
+        self.first_match(&mut Meter::new())
+    }
+
+    fn size_hint(&self) -> (usize, Option<usize>)
+        ensures lower { IsWithinCount result.0 (at_most (length self.now.rest)) }
+        ensures upper { IfSome result.1 (UpTo (at_most (length self.now.rest))) }
+    {
+        (0, None)
+    }
+}
+
+/// From the back.
+impl<'h, 'b, B: Backend, P: OneChar> DoubleEndedIterator
+    for Pieces<'h, HipStr<'b, B>, RMatchIndices<'h, P>> {
+    ghost next_back_gives = { DrawsLastMatch };
+
+    #[inline]
+    fn next_back(&mut self) -> Option<(usize, Result<HipStr<'b, B>, AllocError>)> {
+        self.last_match(&mut Meter::new())
     }
 }

@@ -1,19 +1,22 @@
 //! The calls that take a text apart.
-ghost use Rattle.std.specs.Prelude.{◌≡◌, length, IfSome};
-ghost use Rattle.std.specs.Char.{is_whitespace};
-ghost use Rattle.hip_match.specs.Characters.{char_ends};
+ghost use Rattle.std.specs.Prelude.{◌≡◌, IfSome};
 ghost use Rattle.hip_match.specs.Leftmost.{leftmost};
 ghost use Rattle.hip_match.specs.Occurrence.{IsCut};
-ghost use Rattle.hip_match.specs.Pieces.{split, split_inclusive, split_terminator, splitn, rsplit, rsplit_terminator, rsplitn};
+ghost use Rattle.hip_match.specs.Pieces.{rsplit, rsplit_terminator, rsplitn};
+ghost use Rattle.hip_match.specs.Pieces.{split, split_inclusive, split_terminator, splitn};
 ghost use Rattle.hip_match.specs.Rightmost.{rightmost};
 ghost use Rattle.hip_match.specs.Runs.{lines, split_whitespace, split_ascii_whitespace};
 ghost use Rattle.hip_match.specs.Trims.{strip_prefix, strip_suffix, split_once, rsplit_once};
-ghost use Rattle.hip_cuts.specs.Cut.{LeavesBetween, LeavesEnd, LeavesStart, TrimAnswers, TrimCosts, StripAnswers, StripCosts, OnceAnswers, OnceCosts};
+ghost use Rattle.hip_cuts.specs.Cut.{LeavesBetween, LeavesEnd, LeavesStart, found_in, space_ends};
+ghost use Rattle.hip_cuts.specs.Cut.{OnceAnswers, OnceCosts, StripAnswers, StripCosts, TrimAnswers, TrimCosts};
+ghost use Rattle.hip_cuts.specs.Cut.{PartIfAny, PartIfAnyCosts, PartsIfAny, PartsIfAnyCosts};
 
-use crate::pieces::{IterWrapper, Pieces, Source, Walk};
+use crate::pieces::{Pieces, Source};
+use crate::pieces_at::{PiecesAt, Walk};
 use hip_match::lines::Lines;
 use hip_match::matches::{MatchIndices, Matches};
 use hip_match::pattern::{DoubleEndedPattern, Pattern, ReversePattern};
+use hip_match::ranges::Ranges;
 use hip_match::rmatches::{RMatchIndices, RMatches};
 use hip_match::rsplit::{RSplit, RSplitN, RSplitTerminator};
 use hip_match::split::{Split, SplitInclusive, SplitN, SplitTerminator};
@@ -24,13 +27,12 @@ use std::alloc::{AllocError, Global};
 
 /// How a text is taken apart: by the calls of Rust's `str`, whose pieces are texts of the same kind of handle. Each is the source's part
 /// at its range, so on a backend that shares owners it copies at most the bytes that a handle holds in itself, and none of a borrowed text.
-pub trait TextCuts<'b, B: Backend>: Source {
+pub trait TextCuts<B: Backend>: Source {
     /// The parts between the occurrences of `pattern`, one more than there are occurrences.
     fn split<'h, P: Pattern>(&'h self, alloc: Global, pattern: P) -> Pieces<'h, Self, Split<'h, P>>
         requires { P.can_search pattern }
-        ensures ready { ⟦<Pieces<'h, Self, Split<'h, P>> as Walk>⟧.ready result }
-        ensures source { ⟦<Pieces<'h, Self, Split<'h, P>> as Walk>⟧.source result ≡ Self.handle self.now }
-        ensures rest { ⟦<Pieces<'h, Self, Split<'h, P>> as Walk>⟧.rest result ≡ split (P.ends pattern (Self.handle self.now).items) (length (Self.handle self.now).items) };
+        ensures source { result.source ≡ Self.handle self.now }
+        ensures rest { result.rest ≡ found_in (Self.handle self.now) split (P.ends pattern) };
 
     /// The parts that occurrences of `pattern` end, each with its occurrence, and what lies behind the last where that isn't empty.
     fn split_inclusive<'h, P: Pattern>(
@@ -39,9 +41,8 @@ pub trait TextCuts<'b, B: Backend>: Source {
         pattern: P,
     ) -> Pieces<'h, Self, SplitInclusive<'h, P>>
         requires { P.can_search pattern }
-        ensures ready { ⟦<Pieces<'h, Self, SplitInclusive<'h, P>> as Walk>⟧.ready result }
-        ensures source { ⟦<Pieces<'h, Self, SplitInclusive<'h, P>> as Walk>⟧.source result ≡ Self.handle self.now }
-        ensures rest { ⟦<Pieces<'h, Self, SplitInclusive<'h, P>> as Walk>⟧.rest result ≡ split_inclusive (P.ends pattern (Self.handle self.now).items) (length (Self.handle self.now).items) };
+        ensures source { result.source ≡ Self.handle self.now }
+        ensures rest { result.rest ≡ found_in (Self.handle self.now) split_inclusive (P.ends pattern) };
 
     /// The parts of [`TextCuts::split`] without the last where that is empty.
     fn split_terminator<'h, P: Pattern>(
@@ -50,9 +51,8 @@ pub trait TextCuts<'b, B: Backend>: Source {
         pattern: P,
     ) -> Pieces<'h, Self, SplitTerminator<'h, P>>
         requires { P.can_search pattern }
-        ensures ready { ⟦<Pieces<'h, Self, SplitTerminator<'h, P>> as Walk>⟧.ready result }
-        ensures source { ⟦<Pieces<'h, Self, SplitTerminator<'h, P>> as Walk>⟧.source result ≡ Self.handle self.now }
-        ensures rest { ⟦<Pieces<'h, Self, SplitTerminator<'h, P>> as Walk>⟧.rest result ≡ split_terminator (P.ends pattern (Self.handle self.now).items) (length (Self.handle self.now).items) };
+        ensures source { result.source ≡ Self.handle self.now }
+        ensures rest { result.rest ≡ found_in (Self.handle self.now) split_terminator (P.ends pattern) };
 
     /// At most `count` parts, of which the last of so many runs on to the end.
     fn splitn<'h, P: Pattern>(
@@ -62,9 +62,8 @@ pub trait TextCuts<'b, B: Backend>: Source {
         pattern: P,
     ) -> Pieces<'h, Self, SplitN<'h, P>>
         requires { P.can_search pattern }
-        ensures ready { ⟦<Pieces<'h, Self, SplitN<'h, P>> as Walk>⟧.ready result }
-        ensures source { ⟦<Pieces<'h, Self, SplitN<'h, P>> as Walk>⟧.source result ≡ Self.handle self.now }
-        ensures rest { ⟦<Pieces<'h, Self, SplitN<'h, P>> as Walk>⟧.rest result ≡ splitn count (P.ends pattern (Self.handle self.now).items) (length (Self.handle self.now).items) };
+        ensures source { result.source ≡ Self.handle self.now }
+        ensures rest { result.rest ≡ found_in (Self.handle self.now) (splitn count) (P.ends pattern) };
 
     /// The occurrences of `pattern`, leftmost first, none overlapping.
     fn matches<'h, P: Pattern>(
@@ -73,9 +72,8 @@ pub trait TextCuts<'b, B: Backend>: Source {
         pattern: P,
     ) -> Pieces<'h, Self, Matches<'h, P>>
         requires { P.can_search pattern }
-        ensures ready { ⟦<Pieces<'h, Self, Matches<'h, P>> as Walk>⟧.ready result }
-        ensures source { ⟦<Pieces<'h, Self, Matches<'h, P>> as Walk>⟧.source result ≡ Self.handle self.now }
-        ensures rest { ⟦<Pieces<'h, Self, Matches<'h, P>> as Walk>⟧.rest result ≡ leftmost (P.ends pattern (Self.handle self.now).items) (length (Self.handle self.now).items) };
+        ensures source { result.source ≡ Self.handle self.now }
+        ensures rest { result.rest ≡ found_in (Self.handle self.now) leftmost (P.ends pattern) };
 
     /// Those of [`TextCuts::matches`], each with its position in front.
     fn match_indices<'h, P: Pattern>(
@@ -84,9 +82,8 @@ pub trait TextCuts<'b, B: Backend>: Source {
         pattern: P,
     ) -> Pieces<'h, Self, MatchIndices<'h, P>>
         requires { P.can_search pattern }
-        ensures ready { ⟦<Pieces<'h, Self, MatchIndices<'h, P>> as Walk>⟧.ready result }
-        ensures source { ⟦<Pieces<'h, Self, MatchIndices<'h, P>> as Walk>⟧.source result ≡ Self.handle self.now }
-        ensures rest { ⟦<Pieces<'h, Self, MatchIndices<'h, P>> as Walk>⟧.rest result ≡ leftmost (P.ends pattern (Self.handle self.now).items) (length (Self.handle self.now).items) };
+        ensures source { result.source ≡ Self.handle self.now }
+        ensures rest { result.rest ≡ found_in (Self.handle self.now) leftmost (P.ends pattern) };
 
     /// The parts between the occurrences of `pattern` that are found from the end, last first.
     fn rsplit<'h, P: ReversePattern>(
@@ -95,9 +92,8 @@ pub trait TextCuts<'b, B: Backend>: Source {
         pattern: P,
     ) -> Pieces<'h, Self, RSplit<'h, P>>
         requires { P.can_search pattern }
-        ensures ready { ⟦<Pieces<'h, Self, RSplit<'h, P>> as Walk>⟧.ready result }
-        ensures source { ⟦<Pieces<'h, Self, RSplit<'h, P>> as Walk>⟧.source result ≡ Self.handle self.now }
-        ensures rest { ⟦<Pieces<'h, Self, RSplit<'h, P>> as Walk>⟧.rest result ≡ rsplit (P.ends pattern (Self.handle self.now).items) (length (Self.handle self.now).items) };
+        ensures source { result.source ≡ Self.handle self.now }
+        ensures rest { result.rest ≡ found_in (Self.handle self.now) rsplit (P.ends pattern) };
 
     /// The parts of [`TextCuts::rsplit`] without the first where that is empty.
     fn rsplit_terminator<'h, P: ReversePattern>(
@@ -106,9 +102,8 @@ pub trait TextCuts<'b, B: Backend>: Source {
         pattern: P,
     ) -> Pieces<'h, Self, RSplitTerminator<'h, P>>
         requires { P.can_search pattern }
-        ensures ready { ⟦<Pieces<'h, Self, RSplitTerminator<'h, P>> as Walk>⟧.ready result }
-        ensures source { ⟦<Pieces<'h, Self, RSplitTerminator<'h, P>> as Walk>⟧.source result ≡ Self.handle self.now }
-        ensures rest { ⟦<Pieces<'h, Self, RSplitTerminator<'h, P>> as Walk>⟧.rest result ≡ rsplit_terminator (P.ends pattern (Self.handle self.now).items) (length (Self.handle self.now).items) };
+        ensures source { result.source ≡ Self.handle self.now }
+        ensures rest { result.rest ≡ found_in (Self.handle self.now) rsplit_terminator (P.ends pattern) };
 
     /// At most `count` parts from the end, of which the last of so many runs on to the front.
     fn rsplitn<'h, P: ReversePattern>(
@@ -118,9 +113,8 @@ pub trait TextCuts<'b, B: Backend>: Source {
         pattern: P,
     ) -> Pieces<'h, Self, RSplitN<'h, P>>
         requires { P.can_search pattern }
-        ensures ready { ⟦<Pieces<'h, Self, RSplitN<'h, P>> as Walk>⟧.ready result }
-        ensures source { ⟦<Pieces<'h, Self, RSplitN<'h, P>> as Walk>⟧.source result ≡ Self.handle self.now }
-        ensures rest { ⟦<Pieces<'h, Self, RSplitN<'h, P>> as Walk>⟧.rest result ≡ rsplitn count (P.ends pattern (Self.handle self.now).items) (length (Self.handle self.now).items) };
+        ensures source { result.source ≡ Self.handle self.now }
+        ensures rest { result.rest ≡ found_in (Self.handle self.now) (rsplitn count) (P.ends pattern) };
 
     /// The occurrences of `pattern`, rightmost first, none overlapping.
     fn rmatches<'h, P: ReversePattern>(
@@ -129,9 +123,8 @@ pub trait TextCuts<'b, B: Backend>: Source {
         pattern: P,
     ) -> Pieces<'h, Self, RMatches<'h, P>>
         requires { P.can_search pattern }
-        ensures ready { ⟦<Pieces<'h, Self, RMatches<'h, P>> as Walk>⟧.ready result }
-        ensures source { ⟦<Pieces<'h, Self, RMatches<'h, P>> as Walk>⟧.source result ≡ Self.handle self.now }
-        ensures rest { ⟦<Pieces<'h, Self, RMatches<'h, P>> as Walk>⟧.rest result ≡ rightmost (P.ends pattern (Self.handle self.now).items) (length (Self.handle self.now).items) };
+        ensures source { result.source ≡ Self.handle self.now }
+        ensures rest { result.rest ≡ found_in (Self.handle self.now) rightmost (P.ends pattern) };
 
     /// Those of [`TextCuts::rmatches`], each with its position in front.
     fn rmatch_indices<'h, P: ReversePattern>(
@@ -140,57 +133,61 @@ pub trait TextCuts<'b, B: Backend>: Source {
         pattern: P,
     ) -> Pieces<'h, Self, RMatchIndices<'h, P>>
         requires { P.can_search pattern }
-        ensures ready { ⟦<Pieces<'h, Self, RMatchIndices<'h, P>> as Walk>⟧.ready result }
-        ensures source { ⟦<Pieces<'h, Self, RMatchIndices<'h, P>> as Walk>⟧.source result ≡ Self.handle self.now }
-        ensures rest { ⟦<Pieces<'h, Self, RMatchIndices<'h, P>> as Walk>⟧.rest result ≡ rightmost (P.ends pattern (Self.handle self.now).items) (length (Self.handle self.now).items) };
+        ensures source { result.source ≡ Self.handle self.now }
+        ensures rest { result.rest ≡ found_in (Self.handle self.now) rightmost (P.ends pattern) };
 
     /// The lines, without the line feed that ends them and one carriage return before it.
     fn lines<'h>(&'h self, alloc: Global) -> Pieces<'h, Self, Lines<'h>>
-        ensures ready { ⟦<Pieces<'h, Self, Lines<'h>> as Walk>⟧.ready result }
-        ensures source { ⟦<Pieces<'h, Self, Lines<'h>> as Walk>⟧.source result ≡ Self.handle self.now }
-        ensures rest { ⟦<Pieces<'h, Self, Lines<'h>> as Walk>⟧.rest result ≡ lines (Self.handle self.now).items };
+        ensures source { result.source ≡ Self.handle self.now }
+        ensures rest { result.rest ≡ lines (Self.handle self.now).items };
 
     /// The longest runs without white space (Unicode's `White_Space`), none empty.
     fn split_whitespace<'h>(&'h self, alloc: Global) -> Pieces<'h, Self, SplitWhitespace<'h>>
-        ensures ready { ⟦<Pieces<'h, Self, SplitWhitespace<'h>> as Walk>⟧.ready result }
-        ensures source { ⟦<Pieces<'h, Self, SplitWhitespace<'h>> as Walk>⟧.source result ≡ Self.handle self.now }
-        ensures rest { ⟦<Pieces<'h, Self, SplitWhitespace<'h>> as Walk>⟧.rest result ≡ split_whitespace (Self.handle self.now).items };
+        ensures source { result.source ≡ Self.handle self.now }
+        ensures rest { result.rest ≡ split_whitespace (Self.handle self.now).items };
 
     /// The longest runs without ASCII white space, none empty.
     fn split_ascii_whitespace<'h>(
         &'h self,
         alloc: Global,
     ) -> Pieces<'h, Self, SplitAsciiWhitespace<'h>>
-        ensures ready { ⟦<Pieces<'h, Self, SplitAsciiWhitespace<'h>> as Walk>⟧.ready result }
-        ensures source { ⟦<Pieces<'h, Self, SplitAsciiWhitespace<'h>> as Walk>⟧.source result ≡ Self.handle self.now }
-        ensures rest { ⟦<Pieces<'h, Self, SplitAsciiWhitespace<'h>> as Walk>⟧.rest result ≡ split_ascii_whitespace (Self.handle self.now).items };
+        ensures source { result.source ≡ Self.handle self.now }
+        ensures rest { result.rest ≡ split_ascii_whitespace (Self.handle self.now).items };
+
+    /// The pieces at `ranges`, which are ranges of this text, each with its position in front.
+    fn pieces_at<'h, I: Ranges>(&'h self, alloc: Global, ranges: I) -> PiecesAt<'h, Self, I>
+        requires ready { I.ready ranges }
+        requires text { I.text ranges ≡ (Self.handle self.now).items }
+        ensures ready { ⟦<PiecesAt<'h, Self, I> as Walk>⟧.ready result }
+        ensures source { (⟦<PiecesAt<'h, Self, I> as Walk>⟧.left result).source ≡ Self.handle self.now }
+        ensures rest { (⟦<PiecesAt<'h, Self, I> as Walk>⟧.left result).rest ≡ I.rest ranges };
 
     /// The text without white space at its front and at its end.
     fn trim(&self, alloc: Global) -> Result<Self, AllocError>
-        ensures trimmed { TrimAnswers Self.handle (LeavesBetween (char_ends is_whitespace (Self.handle self.now).items) (length (Self.handle self.now).items)) (Self.handle self.now) result };
+        ensures trimmed { TrimAnswers Self.handle LeavesBetween space_ends (Self.handle self.now) result };
 
     /// [`TextCuts::trim`], counted.
     fn trim_metered(&self, alloc: Global, meter: &mut Meter) -> Result<Self, AllocError>
-        ensures trimmed { TrimAnswers Self.handle (LeavesBetween (char_ends is_whitespace (Self.handle self.now).items) (length (Self.handle self.now).items)) (Self.handle self.now) result }
-        ensures counted { TrimCosts B.SHARES (LeavesBetween (char_ends is_whitespace (Self.handle self.now).items) (length (Self.handle self.now).items)) (Self.handle self.now) meter.old meter.new };
+        ensures trimmed { TrimAnswers Self.handle LeavesBetween space_ends (Self.handle self.now) result }
+        ensures counted { TrimCosts B.SHARES LeavesBetween space_ends (Self.handle self.now) meter.old meter.new };
 
     /// The text without white space at its front.
     fn trim_start(&self, alloc: Global) -> Result<Self, AllocError>
-        ensures trimmed { TrimAnswers Self.handle (LeavesEnd (char_ends is_whitespace (Self.handle self.now).items) (length (Self.handle self.now).items)) (Self.handle self.now) result };
+        ensures trimmed { TrimAnswers Self.handle LeavesEnd space_ends (Self.handle self.now) result };
 
     /// [`TextCuts::trim_start`], counted.
     fn trim_start_metered(&self, alloc: Global, meter: &mut Meter) -> Result<Self, AllocError>
-        ensures trimmed { TrimAnswers Self.handle (LeavesEnd (char_ends is_whitespace (Self.handle self.now).items) (length (Self.handle self.now).items)) (Self.handle self.now) result }
-        ensures counted { TrimCosts B.SHARES (LeavesEnd (char_ends is_whitespace (Self.handle self.now).items) (length (Self.handle self.now).items)) (Self.handle self.now) meter.old meter.new };
+        ensures trimmed { TrimAnswers Self.handle LeavesEnd space_ends (Self.handle self.now) result }
+        ensures counted { TrimCosts B.SHARES LeavesEnd space_ends (Self.handle self.now) meter.old meter.new };
 
     /// The text without white space at its end.
     fn trim_end(&self, alloc: Global) -> Result<Self, AllocError>
-        ensures trimmed { TrimAnswers Self.handle (LeavesStart (char_ends is_whitespace (Self.handle self.now).items) (length (Self.handle self.now).items)) (Self.handle self.now) result };
+        ensures trimmed { TrimAnswers Self.handle LeavesStart space_ends (Self.handle self.now) result };
 
     /// [`TextCuts::trim_end`], counted.
     fn trim_end_metered(&self, alloc: Global, meter: &mut Meter) -> Result<Self, AllocError>
-        ensures trimmed { TrimAnswers Self.handle (LeavesStart (char_ends is_whitespace (Self.handle self.now).items) (length (Self.handle self.now).items)) (Self.handle self.now) result }
-        ensures counted { TrimCosts B.SHARES (LeavesStart (char_ends is_whitespace (Self.handle self.now).items) (length (Self.handle self.now).items)) (Self.handle self.now) meter.old meter.new };
+        ensures trimmed { TrimAnswers Self.handle LeavesStart space_ends (Self.handle self.now) result }
+        ensures counted { TrimCosts B.SHARES LeavesStart space_ends (Self.handle self.now) meter.old meter.new };
 
     /// The text without the longest front of occurrences of `pattern`, and without the longest back of them in what is left.
     fn trim_matches<P: DoubleEndedPattern>(
@@ -199,7 +196,7 @@ pub trait TextCuts<'b, B: Backend>: Source {
         pattern: P,
     ) -> Result<Self, AllocError>
         requires { P.can_search pattern }
-        ensures trimmed { TrimAnswers Self.handle (LeavesBetween (P.ends pattern (Self.handle self.now).items) (length (Self.handle self.now).items)) (Self.handle self.now) result };
+        ensures trimmed { TrimAnswers Self.handle LeavesBetween (P.ends pattern) (Self.handle self.now) result };
 
     /// [`TextCuts::trim_matches`], counted.
     fn trim_matches_metered<P: DoubleEndedPattern>(
@@ -209,13 +206,13 @@ pub trait TextCuts<'b, B: Backend>: Source {
         meter: &mut Meter,
     ) -> Result<Self, AllocError>
         requires { P.can_search pattern }
-        ensures trimmed { TrimAnswers Self.handle (LeavesBetween (P.ends pattern (Self.handle self.now).items) (length (Self.handle self.now).items)) (Self.handle self.now) result }
-        ensures counted { TrimCosts B.SHARES (LeavesBetween (P.ends pattern (Self.handle self.now).items) (length (Self.handle self.now).items)) (Self.handle self.now) meter.old meter.new };
+        ensures trimmed { TrimAnswers Self.handle LeavesBetween (P.ends pattern) (Self.handle self.now) result }
+        ensures counted { TrimCosts B.SHARES LeavesBetween (P.ends pattern) (Self.handle self.now) meter.old meter.new };
 
     /// The text without the longest front of occurrences of `pattern`. An empty pattern removes nothing.
     fn trim_start_matches<P: Pattern>(&self, alloc: Global, pattern: P) -> Result<Self, AllocError>
         requires { P.can_search pattern }
-        ensures trimmed { TrimAnswers Self.handle (LeavesEnd (P.ends pattern (Self.handle self.now).items) (length (Self.handle self.now).items)) (Self.handle self.now) result };
+        ensures trimmed { TrimAnswers Self.handle LeavesEnd (P.ends pattern) (Self.handle self.now) result };
 
     /// [`TextCuts::trim_start_matches`], counted.
     fn trim_start_matches_metered<P: Pattern>(
@@ -225,8 +222,8 @@ pub trait TextCuts<'b, B: Backend>: Source {
         meter: &mut Meter,
     ) -> Result<Self, AllocError>
         requires { P.can_search pattern }
-        ensures trimmed { TrimAnswers Self.handle (LeavesEnd (P.ends pattern (Self.handle self.now).items) (length (Self.handle self.now).items)) (Self.handle self.now) result }
-        ensures counted { TrimCosts B.SHARES (LeavesEnd (P.ends pattern (Self.handle self.now).items) (length (Self.handle self.now).items)) (Self.handle self.now) meter.old meter.new };
+        ensures trimmed { TrimAnswers Self.handle LeavesEnd (P.ends pattern) (Self.handle self.now) result }
+        ensures counted { TrimCosts B.SHARES LeavesEnd (P.ends pattern) (Self.handle self.now) meter.old meter.new };
 
     /// The text without the longest back of occurrences of `pattern`. An empty pattern removes nothing.
     fn trim_end_matches<P: ReversePattern>(
@@ -235,7 +232,7 @@ pub trait TextCuts<'b, B: Backend>: Source {
         pattern: P,
     ) -> Result<Self, AllocError>
         requires { P.can_search pattern }
-        ensures trimmed { TrimAnswers Self.handle (LeavesStart (P.ends pattern (Self.handle self.now).items) (length (Self.handle self.now).items)) (Self.handle self.now) result };
+        ensures trimmed { TrimAnswers Self.handle LeavesStart (P.ends pattern) (Self.handle self.now) result };
 
     /// [`TextCuts::trim_end_matches`], counted.
     fn trim_end_matches_metered<P: ReversePattern>(
@@ -245,8 +242,8 @@ pub trait TextCuts<'b, B: Backend>: Source {
         meter: &mut Meter,
     ) -> Result<Self, AllocError>
         requires { P.can_search pattern }
-        ensures trimmed { TrimAnswers Self.handle (LeavesStart (P.ends pattern (Self.handle self.now).items) (length (Self.handle self.now).items)) (Self.handle self.now) result }
-        ensures counted { TrimCosts B.SHARES (LeavesStart (P.ends pattern (Self.handle self.now).items) (length (Self.handle self.now).items)) (Self.handle self.now) meter.old meter.new };
+        ensures trimmed { TrimAnswers Self.handle LeavesStart (P.ends pattern) (Self.handle self.now) result }
+        ensures counted { TrimCosts B.SHARES LeavesStart (P.ends pattern) (Self.handle self.now) meter.old meter.new };
 
     /// The text without one occurrence of `pattern` at its front, if there is one.
     fn strip_prefix<P: Pattern>(
@@ -255,7 +252,7 @@ pub trait TextCuts<'b, B: Backend>: Source {
         pattern: P,
     ) -> Result<Option<Self>, AllocError>
         requires { P.can_search pattern }
-        ensures stripped { StripAnswers Self.handle (strip_prefix (P.ends pattern (Self.handle self.now).items) (length (Self.handle self.now).items)) (Self.handle self.now) result };
+        ensures stripped { StripAnswers Self.handle strip_prefix (P.ends pattern) (Self.handle self.now) result };
 
     /// [`TextCuts::strip_prefix`], counted.
     fn strip_prefix_metered<P: Pattern>(
@@ -265,8 +262,8 @@ pub trait TextCuts<'b, B: Backend>: Source {
         meter: &mut Meter,
     ) -> Result<Option<Self>, AllocError>
         requires { P.can_search pattern }
-        ensures stripped { StripAnswers Self.handle (strip_prefix (P.ends pattern (Self.handle self.now).items) (length (Self.handle self.now).items)) (Self.handle self.now) result }
-        ensures counted { StripCosts B.SHARES (strip_prefix (P.ends pattern (Self.handle self.now).items) (length (Self.handle self.now).items)) (Self.handle self.now) meter.old meter.new };
+        ensures stripped { StripAnswers Self.handle strip_prefix (P.ends pattern) (Self.handle self.now) result }
+        ensures counted { StripCosts B.SHARES strip_prefix (P.ends pattern) (Self.handle self.now) meter.old meter.new };
 
     /// The text without one occurrence of `pattern` at its end, if there is one.
     fn strip_suffix<P: ReversePattern>(
@@ -275,7 +272,7 @@ pub trait TextCuts<'b, B: Backend>: Source {
         pattern: P,
     ) -> Result<Option<Self>, AllocError>
         requires { P.can_search pattern }
-        ensures stripped { StripAnswers Self.handle (strip_suffix (P.ends pattern (Self.handle self.now).items) (length (Self.handle self.now).items)) (Self.handle self.now) result };
+        ensures stripped { StripAnswers Self.handle strip_suffix (P.ends pattern) (Self.handle self.now) result };
 
     /// [`TextCuts::strip_suffix`], counted.
     fn strip_suffix_metered<P: ReversePattern>(
@@ -285,8 +282,8 @@ pub trait TextCuts<'b, B: Backend>: Source {
         meter: &mut Meter,
     ) -> Result<Option<Self>, AllocError>
         requires { P.can_search pattern }
-        ensures stripped { StripAnswers Self.handle (strip_suffix (P.ends pattern (Self.handle self.now).items) (length (Self.handle self.now).items)) (Self.handle self.now) result }
-        ensures counted { StripCosts B.SHARES (strip_suffix (P.ends pattern (Self.handle self.now).items) (length (Self.handle self.now).items)) (Self.handle self.now) meter.old meter.new };
+        ensures stripped { StripAnswers Self.handle strip_suffix (P.ends pattern) (Self.handle self.now) result }
+        ensures counted { StripCosts B.SHARES strip_suffix (P.ends pattern) (Self.handle self.now) meter.old meter.new };
 
     /// What lies before the first occurrence of `pattern` and all that lies behind it, if there is one.
     fn split_once<P: Pattern>(
@@ -295,7 +292,7 @@ pub trait TextCuts<'b, B: Backend>: Source {
         pattern: P,
     ) -> Result<Option<(Self, Self)>, AllocError>
         requires { P.can_search pattern }
-        ensures parts { OnceAnswers Self.handle (split_once (P.ends pattern (Self.handle self.now).items) (length (Self.handle self.now).items)) (Self.handle self.now) result };
+        ensures parts { OnceAnswers Self.handle split_once (P.ends pattern) (Self.handle self.now) result };
 
     /// [`TextCuts::split_once`], counted.
     fn split_once_metered<P: Pattern>(
@@ -305,8 +302,8 @@ pub trait TextCuts<'b, B: Backend>: Source {
         meter: &mut Meter,
     ) -> Result<Option<(Self, Self)>, AllocError>
         requires { P.can_search pattern }
-        ensures parts { OnceAnswers Self.handle (split_once (P.ends pattern (Self.handle self.now).items) (length (Self.handle self.now).items)) (Self.handle self.now) result }
-        ensures counted { OnceCosts B.SHARES (split_once (P.ends pattern (Self.handle self.now).items) (length (Self.handle self.now).items)) (Self.handle self.now) meter.old meter.new };
+        ensures parts { OnceAnswers Self.handle split_once (P.ends pattern) (Self.handle self.now) result }
+        ensures counted { OnceCosts B.SHARES split_once (P.ends pattern) (Self.handle self.now) meter.old meter.new };
 
     /// What lies before the last occurrence of `pattern` and all that lies behind it, if there is one.
     fn rsplit_once<P: ReversePattern>(
@@ -315,7 +312,7 @@ pub trait TextCuts<'b, B: Backend>: Source {
         pattern: P,
     ) -> Result<Option<(Self, Self)>, AllocError>
         requires { P.can_search pattern }
-        ensures parts { OnceAnswers Self.handle (rsplit_once (P.ends pattern (Self.handle self.now).items) (length (Self.handle self.now).items)) (Self.handle self.now) result };
+        ensures parts { OnceAnswers Self.handle rsplit_once (P.ends pattern) (Self.handle self.now) result };
 
     /// [`TextCuts::rsplit_once`], counted.
     fn rsplit_once_metered<P: ReversePattern>(
@@ -325,17 +322,17 @@ pub trait TextCuts<'b, B: Backend>: Source {
         meter: &mut Meter,
     ) -> Result<Option<(Self, Self)>, AllocError>
         requires { P.can_search pattern }
-        ensures parts { OnceAnswers Self.handle (rsplit_once (P.ends pattern (Self.handle self.now).items) (length (Self.handle self.now).items)) (Self.handle self.now) result }
-        ensures counted { OnceCosts B.SHARES (rsplit_once (P.ends pattern (Self.handle self.now).items) (length (Self.handle self.now).items)) (Self.handle self.now) meter.old meter.new };
+        ensures parts { OnceAnswers Self.handle rsplit_once (P.ends pattern) (Self.handle self.now) result }
+        ensures counted { OnceCosts B.SHARES rsplit_once (P.ends pattern) (Self.handle self.now) meter.old meter.new };
 }
 
-impl<'b, B: Backend> TextCuts<'b, B> for HipStr<'b, B> {
+impl<'b, B: Backend> TextCuts<B> for HipStr<'b, B> {
     #[inline]
     fn split<'h, P: Pattern>(
         &'h self,
         alloc: Global,
         pattern: P,
-    ) -> IterWrapper<'h, 'b, B, Split<'h, P>> {
+    ) -> Pieces<'h, Self, Split<'h, P>> {
         Pieces::new(self, alloc, Split::new(self.as_str(), pattern))
     }
 
@@ -344,7 +341,7 @@ impl<'b, B: Backend> TextCuts<'b, B> for HipStr<'b, B> {
         &'h self,
         alloc: Global,
         pattern: P,
-    ) -> IterWrapper<'h, 'b, B, SplitInclusive<'h, P>> {
+    ) -> Pieces<'h, Self, SplitInclusive<'h, P>> {
         Pieces::new(self, alloc, SplitInclusive::new(self.as_str(), pattern))
     }
 
@@ -353,7 +350,7 @@ impl<'b, B: Backend> TextCuts<'b, B> for HipStr<'b, B> {
         &'h self,
         alloc: Global,
         pattern: P,
-    ) -> IterWrapper<'h, 'b, B, SplitTerminator<'h, P>> {
+    ) -> Pieces<'h, Self, SplitTerminator<'h, P>> {
         Pieces::new(self, alloc, SplitTerminator::new(self.as_str(), pattern))
     }
 
@@ -363,7 +360,7 @@ impl<'b, B: Backend> TextCuts<'b, B> for HipStr<'b, B> {
         alloc: Global,
         count: usize,
         pattern: P,
-    ) -> IterWrapper<'h, 'b, B, SplitN<'h, P>> {
+    ) -> Pieces<'h, Self, SplitN<'h, P>> {
         Pieces::new(self, alloc, SplitN::new(self.as_str(), count, pattern))
     }
 
@@ -372,7 +369,7 @@ impl<'b, B: Backend> TextCuts<'b, B> for HipStr<'b, B> {
         &'h self,
         alloc: Global,
         pattern: P,
-    ) -> IterWrapper<'h, 'b, B, Matches<'h, P>> {
+    ) -> Pieces<'h, Self, Matches<'h, P>> {
         Pieces::new(self, alloc, Matches::new(self.as_str(), pattern))
     }
 
@@ -381,7 +378,7 @@ impl<'b, B: Backend> TextCuts<'b, B> for HipStr<'b, B> {
         &'h self,
         alloc: Global,
         pattern: P,
-    ) -> IterWrapper<'h, 'b, B, MatchIndices<'h, P>> {
+    ) -> Pieces<'h, Self, MatchIndices<'h, P>> {
         Pieces::new(self, alloc, MatchIndices::new(self.as_str(), pattern))
     }
 
@@ -390,7 +387,7 @@ impl<'b, B: Backend> TextCuts<'b, B> for HipStr<'b, B> {
         &'h self,
         alloc: Global,
         pattern: P,
-    ) -> IterWrapper<'h, 'b, B, RSplit<'h, P>> {
+    ) -> Pieces<'h, Self, RSplit<'h, P>> {
         Pieces::new(self, alloc, RSplit::new(self.as_str(), pattern))
     }
 
@@ -399,7 +396,7 @@ impl<'b, B: Backend> TextCuts<'b, B> for HipStr<'b, B> {
         &'h self,
         alloc: Global,
         pattern: P,
-    ) -> IterWrapper<'h, 'b, B, RSplitTerminator<'h, P>> {
+    ) -> Pieces<'h, Self, RSplitTerminator<'h, P>> {
         Pieces::new(self, alloc, RSplitTerminator::new(self.as_str(), pattern))
     }
 
@@ -409,7 +406,7 @@ impl<'b, B: Backend> TextCuts<'b, B> for HipStr<'b, B> {
         alloc: Global,
         count: usize,
         pattern: P,
-    ) -> IterWrapper<'h, 'b, B, RSplitN<'h, P>> {
+    ) -> Pieces<'h, Self, RSplitN<'h, P>> {
         Pieces::new(self, alloc, RSplitN::new(self.as_str(), count, pattern))
     }
 
@@ -418,7 +415,7 @@ impl<'b, B: Backend> TextCuts<'b, B> for HipStr<'b, B> {
         &'h self,
         alloc: Global,
         pattern: P,
-    ) -> IterWrapper<'h, 'b, B, RMatches<'h, P>> {
+    ) -> Pieces<'h, Self, RMatches<'h, P>> {
         Pieces::new(self, alloc, RMatches::new(self.as_str(), pattern))
     }
 
@@ -427,20 +424,17 @@ impl<'b, B: Backend> TextCuts<'b, B> for HipStr<'b, B> {
         &'h self,
         alloc: Global,
         pattern: P,
-    ) -> IterWrapper<'h, 'b, B, RMatchIndices<'h, P>> {
+    ) -> Pieces<'h, Self, RMatchIndices<'h, P>> {
         Pieces::new(self, alloc, RMatchIndices::new(self.as_str(), pattern))
     }
 
     #[inline]
-    fn lines<'h>(&'h self, alloc: Global) -> IterWrapper<'h, 'b, B, Lines<'h>> {
+    fn lines<'h>(&'h self, alloc: Global) -> Pieces<'h, Self, Lines<'h>> {
         Pieces::new(self, alloc, Lines::new(self.as_str()))
     }
 
     #[inline]
-    fn split_whitespace<'h>(
-        &'h self,
-        alloc: Global,
-    ) -> IterWrapper<'h, 'b, B, SplitWhitespace<'h>> {
+    fn split_whitespace<'h>(&'h self, alloc: Global) -> Pieces<'h, Self, SplitWhitespace<'h>> {
         Pieces::new(self, alloc, SplitWhitespace::new(self.as_str()))
     }
 
@@ -448,8 +442,13 @@ impl<'b, B: Backend> TextCuts<'b, B> for HipStr<'b, B> {
     fn split_ascii_whitespace<'h>(
         &'h self,
         alloc: Global,
-    ) -> IterWrapper<'h, 'b, B, SplitAsciiWhitespace<'h>> {
+    ) -> Pieces<'h, Self, SplitAsciiWhitespace<'h>> {
         Pieces::new(self, alloc, SplitAsciiWhitespace::new(self.as_str()))
+    }
+
+    #[inline]
+    fn pieces_at<'h, I: Ranges>(&'h self, alloc: Global, ranges: I) -> PiecesAt<'h, Self, I> {
+        PiecesAt::new(self, alloc, ranges)
     }
 
     #[inline]
@@ -646,8 +645,8 @@ fn part_at<'b, B: Backend>(
     meter: &mut Meter,
 ) -> Result<Option<HipStr<'b, B>>, AllocError>
     requires { IfSome range (IsCut text.now.items) }
-    ensures part { StripAnswers (λ part. part) range text.now result }
-    ensures counted { StripCosts B.SHARES range text.now meter.old meter.new }
+    ensures part { PartIfAny (λ part. part) range text.now result }
+    ensures counted { PartIfAnyCosts B.SHARES range text.now meter.old meter.new }
 {
     let Some((start, end)) = range else {
         return Ok(None);
@@ -664,8 +663,8 @@ fn parts_at<'b, B: Backend>(
     meter: &mut Meter,
 ) -> Result<Option<(HipStr<'b, B>, HipStr<'b, B>)>, AllocError>
     requires { IfSome ranges (λ ranges. IsCut text.now.items ranges.0 × IsCut text.now.items ranges.1) }
-    ensures parts { OnceAnswers (λ part. part) ranges text.now result }
-    ensures counted { OnceCosts B.SHARES ranges text.now meter.old meter.new }
+    ensures parts { PartsIfAny (λ part. part) ranges text.now result }
+    ensures counted { PartsIfAnyCosts B.SHARES ranges text.now meter.old meter.new }
 {
     let Some((front, back)) = ranges else {
         return Ok(None);

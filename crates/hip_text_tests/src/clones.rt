@@ -1,10 +1,11 @@
 //! Clones of walks that have given their first piece: they and the walks themselves give the same rest.
-use crate::closures::chosen_for;
+use crate::closures::{chosen_for, places_of};
 use crate::places::is_match;
 use crate::walks::gives;
 use hip_cuts::hip_match::matches::MatchIndices;
 use hip_cuts::hip_match::predicate::CharPred;
-use hip_cuts::{Backend, HipStr, IterWrapper, Pieces, Rc, TextCuts, Unique, Walk};
+use hip_cuts::hip_match::split::Split;
+use hip_cuts::{Backend, HipStr, IterWrapper, Rc, TextCuts, Unique};
 use std::alloc::{AllocError, Global};
 use std::process::Abort;
 use std::test::Fail;
@@ -22,18 +23,18 @@ fn by_a_character<B: Backend>(alloc: Global) -> Result<bool, AllocError> {
 fn by_a_closure<B: Backend>(alloc: Global, wanted: char) -> Result<bool, AllocError> {
     let source = HipStr::<B>::borrowed(TEXT);
     let pattern = CharPred::with(|c| c == wanted, chosen_for(wanted));
-    let mut pieces = source.split(alloc, pattern);
-    drop(pieces.next());
+    let mut pieces = source.pieces_at(alloc, Split::new(source.as_str(), pattern));
+    let Some(_) = pieces.next() else {
+        return Ok(false);
+    };
     let copy = pieces.clone()?;
-    Ok(gives(copy, &["b", "c"]) & gives(pieces, &["b", "c"]))
+    Ok((places_of(copy)? == 24) & (places_of(pieces)? == 24))
 }
 
 /// Whether the second comma is what is left.
 fn gives_second<'h, 'b, B: Backend>(
     mut matches: IterWrapper<'h, 'b, B, MatchIndices<'h, char>>,
-) -> bool
-    requires { ⟦<Pieces<'h, HipStr<'b, B>, MatchIndices<'h, char>> as Walk>⟧.ready matches }
-{
+) -> bool {
     is_match(matches.next(), Some(3), ",") & is_match(matches.next(), None, "")
 }
 

@@ -1,9 +1,7 @@
 //! Kinds of pieces, and how many bytes are copied for them.
 use crate::text::must;
 use hip_cuts::hip_match::ranges::RangesBack;
-use hip_cuts::{
-    Backend, HipStr, IterWrapper, Kind, Meter, Pieces, Rc, TextCuts, Unique, Unnumbered, Walk,
-};
+use hip_cuts::{Backend, HipStr, IterWrapper, Kind, Meter, Rc, TextCuts, Unique, Unnumbered};
 use std::alloc::{AllocError, Global};
 use std::process::Abort;
 
@@ -33,10 +31,7 @@ const FIELDS: &str = "aaaaaaaaaaaaaaaaaaaaaaaaaaaaaa,bbbbb";
 fn sees_first<'h, 'b, B: Backend, I: Unnumbered>(
     pieces: &mut IterWrapper<'h, 'b, B, I>,
     want: Seen,
-) -> bool
-    requires { ⟦<Pieces<'h, HipStr<'b, B>, I> as Walk>⟧.ready pieces.old }
-    ensures { ⟦<Pieces<'h, HipStr<'b, B>, I> as Walk>⟧.ready pieces.new }
-{
+) -> bool {
     let mut meter = Meter::new();
     let piece = pieces.next_metered(&mut meter);
     is_seen(piece, meter, want)
@@ -46,10 +41,7 @@ fn sees_first<'h, 'b, B: Backend, I: Unnumbered>(
 fn sees_last<'h, 'b, B: Backend, I: Unnumbered + RangesBack>(
     pieces: &mut IterWrapper<'h, 'b, B, I>,
     want: Seen,
-) -> bool
-    requires { ⟦<Pieces<'h, HipStr<'b, B>, I> as Walk>⟧.ready pieces.old }
-    ensures { ⟦<Pieces<'h, HipStr<'b, B>, I> as Walk>⟧.ready pieces.new }
-{
+) -> bool {
     let mut meter = Meter::new();
     let piece = pieces.next_back_metered(&mut meter);
     is_seen(piece, meter, want)

@@ -1,7 +1,7 @@
 //! Joins and repetitions, and texts of units of UTF-16.
 use crate::groups::{self, Group};
 use crate::text::{Bytes, Refusal, Text, is, must, must_refuse, reads};
-use hip_text::{GrowFault, Kind, Meter, Utf16Fault};
+use hip_text::{GrowFault, HipStr, Kind, Meter, Rc, Utf16Fault};
 use std::alloc::Global;
 use std::process::Abort;
 
@@ -132,4 +132,15 @@ fn on_rc(rt: HostRuntime) {
 #[test]
 fn on_unique(rt: HostRuntime) {
     groups::on_unique(&rt, rt.alloc(), Group::Made);
+}
+
+#[test]
+fn a_closure_writes(rt: HostRuntime) {
+    let mut text = must(&rt, HipStr::<Rc>::from_str(rt.alloc(), "Hello"));
+    let pushed = text.with_mutated(
+        rt.alloc(),
+        |string: &mut String| string.push_str(", World!"),
+    );
+    must(&rt, must(&rt, pushed));
+    assert_eq!(&rt; text.as_str(), "Hello, World!");
 }

@@ -2,7 +2,7 @@
 use hip_cuts::hip_match::matches::MatchIndices;
 use hip_cuts::hip_match::pattern::{OneChar, Pattern, ReversePattern};
 use hip_cuts::hip_match::rmatches::RMatchIndices;
-use hip_cuts::{Backend, HipStr, IterWrapper, Pieces, Rc, TextCuts, Unique, Walk};
+use hip_cuts::{Backend, HipStr, IterWrapper, Rc, TextCuts, Unique};
 use std::alloc::{AllocError, Global};
 use std::process::Abort;
 
@@ -62,10 +62,7 @@ fn finds_first<'h, 'b, B: Backend, P: Pattern>(
     matches: &mut IterWrapper<'h, 'b, B, MatchIndices<'h, P>>,
     place: Option<usize>,
     text: &str,
-) -> bool
-    requires { ⟦<Pieces<'h, HipStr<'b, B>, MatchIndices<'h, P>> as Walk>⟧.ready matches.old }
-    ensures { ⟦<Pieces<'h, HipStr<'b, B>, MatchIndices<'h, P>> as Walk>⟧.ready matches.new }
-{
+) -> bool {
     is_match(matches.next(), place, text)
 }
 
@@ -74,10 +71,7 @@ fn finds_last<'h, 'b, B: Backend, P: OneChar>(
     matches: &mut IterWrapper<'h, 'b, B, MatchIndices<'h, P>>,
     place: Option<usize>,
     text: &str,
-) -> bool
-    requires { ⟦<Pieces<'h, HipStr<'b, B>, MatchIndices<'h, P>> as Walk>⟧.ready matches.old }
-    ensures { ⟦<Pieces<'h, HipStr<'b, B>, MatchIndices<'h, P>> as Walk>⟧.ready matches.new }
-{
+) -> bool {
     is_match(matches.next_back(), place, text)
 }
 
@@ -86,10 +80,7 @@ fn rfinds_first<'h, 'b, B: Backend, P: ReversePattern>(
     matches: &mut IterWrapper<'h, 'b, B, RMatchIndices<'h, P>>,
     place: Option<usize>,
     text: &str,
-) -> bool
-    requires { ⟦<Pieces<'h, HipStr<'b, B>, RMatchIndices<'h, P>> as Walk>⟧.ready matches.old }
-    ensures { ⟦<Pieces<'h, HipStr<'b, B>, RMatchIndices<'h, P>> as Walk>⟧.ready matches.new }
-{
+) -> bool {
     is_match(matches.next(), place, text)
 }
 
@@ -98,10 +89,7 @@ fn rfinds_last<'h, 'b, B: Backend, P: OneChar>(
     matches: &mut IterWrapper<'h, 'b, B, RMatchIndices<'h, P>>,
     place: Option<usize>,
     text: &str,
-) -> bool
-    requires { ⟦<Pieces<'h, HipStr<'b, B>, RMatchIndices<'h, P>> as Walk>⟧.ready matches.old }
-    ensures { ⟦<Pieces<'h, HipStr<'b, B>, RMatchIndices<'h, P>> as Walk>⟧.ready matches.new }
-{
+) -> bool {
     is_match(matches.next_back(), place, text)
 }
 

@@ -1,7 +1,7 @@
 //! Pieces that are drawn without a meter, from either end. Each walk's pieces, counted, are those of `hipstr::run` (`ways` of hip_checks).
 use crate::fields::{has_fields, longest_drawn, longest_field};
 use hip_cuts::hip_match::ranges::RangesBack;
-use hip_cuts::{Backend, HipStr, IterWrapper, Pieces, Rc, TextCuts, Unique, Unnumbered, Walk};
+use hip_cuts::{Backend, HipStr, IterWrapper, Rc, TextCuts, Unique, Unnumbered};
 use std::alloc::{AllocError, Global};
 
 /// Whether this piece was drawn.
@@ -16,10 +16,7 @@ fn is_piece<B: Backend>(drawn: Option<Result<HipStr<'_, B>, AllocError>>, want: 
 fn draws_first<'h, 'b, B: Backend, I: Unnumbered>(
     pieces: &mut IterWrapper<'h, 'b, B, I>,
     want: &str,
-) -> bool
-    requires { ⟦<Pieces<'h, HipStr<'b, B>, I> as Walk>⟧.ready pieces.old }
-    ensures { ⟦<Pieces<'h, HipStr<'b, B>, I> as Walk>⟧.ready pieces.new }
-{
+) -> bool {
     is_piece(pieces.next(), want)
 }
 
@@ -27,9 +24,7 @@ fn draws_first<'h, 'b, B: Backend, I: Unnumbered>(
 pub(crate) fn gives<'h, 'b, B: Backend, I: Unnumbered + Drop>(
     mut pieces: IterWrapper<'h, 'b, B, I>,
     want: &[&str],
-) -> bool
-    requires { ⟦<Pieces<'h, HipStr<'b, B>, I> as Walk>⟧.ready pieces }
-{
+) -> bool {
     let mut is_same = true;
     for text in want {
         is_same &= draws_first(&mut pieces, text);
@@ -41,9 +36,7 @@ pub(crate) fn gives<'h, 'b, B: Backend, I: Unnumbered + Drop>(
 fn gives_last<'h, 'b, B: Backend, I: Unnumbered + RangesBack + Drop>(
     mut pieces: IterWrapper<'h, 'b, B, I>,
     want: &str,
-) -> bool
-    requires { ⟦<Pieces<'h, HipStr<'b, B>, I> as Walk>⟧.ready pieces }
-{
+) -> bool {
     is_piece(pieces.next_back(), want)
 }
 

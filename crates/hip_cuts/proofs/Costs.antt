@@ -1,0 +1,38 @@
+-- What parts cost.
+use Rattle.std.proofs.Common.{◌≡◌, ℕ, ◌+◌, ◌-◌, ◌*◌, ◌≤◌, Bool, true, false, List, [], ◌∷◌, length, ap, refl, arith}
+use Rattle.hip_bytes.proofs.Costs.{shared_part_is_little}
+use Rattle.hip_bytes.specs.Cost.{cut_cost}
+use Rattle.hip_bytes.specs.Handle.{Handle}
+use Rattle.hip_bytes.specs.declared.kind.Kind.{Kind}
+use Rattle.hip_bytes.specs.declared.kind.Kind.TheVariants.{Inline, Borrowed, Allocated}
+use Rattle.hip_bytes.specs.declared.kind.TheConstants.{INLINE_CAPACITY}
+use Rattle.hip_cuts.specs.Piece.{IsLittle, parts_cost}
+use Rattle.hip_match.specs.Pieces.{InOrder}
+
+-- ---- where owners are shared
+pub part-little : (source : Handle) (len : ℕ) → IsLittle source 1 (cut_cost true source.kind len)
+part-little source len = record { at_most = omega (arith, shared_part_is_little source.kind len); lent = λ lent. ap (λ (kind : Kind). cut_cost true kind len) lent }
+
+parts-at-most : (source : Handle) (ranges : List (ℕ × ℕ)) → parts_cost true source ranges ≤ length ranges * INLINE_CAPACITY
+parts-at-most source [] = omega arith
+parts-at-most source (range ∷ ranges) = omega (arith, shared_part_is_little source.kind (range.1 - range.0), parts-at-most source ranges)
+
+-- ---- of a borrowed text
+pub parts-lent : (shares : Bool) (source : Handle) (ranges : List (ℕ × ℕ)) → source.kind ≡ Borrowed → parts_cost shares source ranges ≡ 0
+parts-lent shares source [] lent = refl
+parts-lent shares source (range ∷ ranges) lent =
+    omega (arith, ap (λ (kind : Kind). cut_cost shares kind (range.1 - range.0)) lent, parts-lent shares source ranges lent)
+
+pub parts-little : (source : Handle) (ranges : List (ℕ × ℕ)) → IsLittle source (length ranges) (parts_cost true source ranges)
+parts-little source ranges = record { at_most = parts-at-most source ranges; lent = parts-lent true source ranges }
+
+-- ---- where owners aren't shared
+part-within : (kind : Kind) (len : ℕ) → cut_cost false kind len ≤ len
+part-within Inline len = omega arith
+part-within Borrowed len = omega arith
+part-within Allocated len = search arith
+
+pub parts-within : (source : Handle) (from : ℕ) (ranges : List (ℕ × ℕ)) (to : ℕ) → InOrder from ranges to → from + parts_cost false source ranges ≤ to
+parts-within source from [] to order = omega (arith, order)
+parts-within source from (range ∷ ranges) to order =
+    omega (arith, order.0, order.1, part-within source.kind (range.1 - range.0), parts-within source range.1 ranges to order.2)
