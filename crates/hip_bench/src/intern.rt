@@ -1,7 +1,7 @@
 //! Interning: each word of a text becomes a key of a map. The input has words with one space between.
 use crate::pieces::owned;
 use crate::ring::mix;
-use hipstr::string::{HipStr, IterWrapper, Pieces, TextCuts, Unnumbered, Walk};
+use hipstr::string::{HipStr, IterWrapper, TextCuts, Unnumbered};
 use hipstr::{Backend, Rc};
 use std::alloc::Global;
 use std::collections::{BTreeMap, HashMap};
@@ -66,13 +66,11 @@ impl<K: Ord + Drop> Numbers<K> for ByOrder<K> {
 /// Numbers the words of a walk by a map that is empty: the sum of all words' numbers, and how many different words there are.
 #[inline]
 fn numbered<'h, 'b, B: Backend, I: Unnumbered + Drop, N: Numbers<HipStr<'b, B>>>(
-    mut words: IterWrapper<'h, 'b, B, I>,
+    words: IterWrapper<'h, 'b, B, I>,
     mut numbers: N,
-) -> Option<(u64, u64)>
-    requires { ⟦<Pieces<'h, HipStr<'b, B>, I> as Walk>⟧.ready words }
-{
+) -> Option<(u64, u64)> {
     let mut sum = 0u64;
-    while let Some(word) = words.next() {
+    for word in words {
         sum = sum.wrapping_add(numbers.number(word.ok()?)?);
     }
     Some((sum, numbers.count()))

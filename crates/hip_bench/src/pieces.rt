@@ -2,10 +2,8 @@
 ghost use Rattle.std.specs.Prelude.{◌≡◌};
 
 use crate::ring::{Ring, mix};
-use hip_match::matches::MatchIndices;
-use hip_match::pattern::{Pattern, ReversePattern};
-use hip_match::predicate::CharPred;
-use hipstr::string::{HipStr, IterWrapper, Pieces, TextCuts, Unnumbered, Walk};
+use hipstr::pattern::{CharPred, MatchIndices, Pattern, ReversePattern};
+use hipstr::string::{HipStr, IterWrapper, TextCuts, Unnumbered};
 use hipstr::{Backend, Rc};
 use std::alloc::Global;
 use std::str;
@@ -23,13 +21,11 @@ pub(crate) fn put<'b, B: Backend>(ring: &mut Ring<'b, B>, piece: HipStr<'b, B>) 
 
 /// Puts all pieces of a walk, and sums their lengths.
 fn put_pieces<'h, 'b, B: Backend, I: Unnumbered + Drop>(
-    mut pieces: IterWrapper<'h, 'b, B, I>,
+    pieces: IterWrapper<'h, 'b, B, I>,
     ring: &mut Ring<'b, B>,
-) -> Option<u64>
-    requires { ⟦<Pieces<'h, HipStr<'b, B>, I> as Walk>⟧.ready pieces }
-{
+) -> Option<u64> {
     let mut sum = 0u64;
-    while let Some(piece) = pieces.next() {
+    for piece in pieces {
         sum = sum.wrapping_add(put(ring, piece.ok()?));
     }
     Some(sum)
@@ -37,13 +33,11 @@ fn put_pieces<'h, 'b, B: Backend, I: Unnumbered + Drop>(
 
 /// Puts all matches, and sums their places and their lengths.
 fn put_places<'h, 'b, B: Backend, P: Pattern>(
-    mut matches: IterWrapper<'h, 'b, B, MatchIndices<'h, P>>,
+    matches: IterWrapper<'h, 'b, B, MatchIndices<'h, P>>,
     ring: &mut Ring<'b, B>,
-) -> Option<u64>
-    requires { ⟦<Pieces<'h, HipStr<'b, B>, MatchIndices<'h, P>> as Walk>⟧.ready matches }
-{
+) -> Option<u64> {
     let mut sum = 0u64;
-    while let Some((place, piece)) = matches.next() {
+    for (place, piece) in matches {
         sum = sum
             .wrapping_add(place as u64)
             .wrapping_add(put(ring, piece.ok()?));

@@ -2,7 +2,7 @@
 use crate::pieces::{lent, owned};
 use crate::ring::{look, mix};
 use hip_fields::reader::{Reading, Records};
-use hip_match::ranges::Ranges;
+use hipstr::pattern::Ranges;
 use hipstr::string::HipStr;
 use hipstr::{Backend, Rc};
 use std::alloc::Global;

@@ -1,5 +1,5 @@
-//! What a user writes who names `hipstr` alone: functions of a pattern and over a closure, with clauses that cite what a call is said to
-//! give, and a struct that keeps a walk.
+//! What a user writes who names `hipstr` alone: loops over walks, functions of a pattern and over a closure, with clauses that cite what a
+//! call is said to give, and a struct that keeps a walk.
 ghost use Rattle.std.specs.Prelude.{◌≡◌, ◌==◌, ℕ, IfOk, length};
 ghost use Rattle.std.specs.Char.{IsScalar, is_ascii_digit};
 ghost use Rattle.hipstr.specs.Answers.{answer_at};
@@ -8,7 +8,7 @@ ghost use Rattle.hipstr.specs.Piece.{AreParts};
 ghost use Rattle.hipstr.specs.Pieces.{split};
 
 use hipstr::pattern::{CharPred, Chosen, Pattern, Split, choose_by};
-use hipstr::string::{HipStr, IterWrapper, Pieces, TextCuts, Walk};
+use hipstr::string::{HipStr, IterWrapper, TextCuts};
 use hipstr::{Backend, Rc, Unique};
 use std::alloc::{AllocError, Global};
 
@@ -50,6 +50,71 @@ fn between_digits<'b, B: Backend>(
     parts(alloc, text, digits)
 }
 
+/// How many fields a line has.
+fn count_fields<'b, B: Backend>(alloc: Global, line: &HipStr<'b, B>) -> Result<usize, AllocError>
+    ensures { IfOk result (λ count. count ≡ length (split (char_ends (λ c. c == 44) line.now.items) (length line.now.items))) }
+{
+    let fields = line.split(alloc, ',').collect()?;
+    Ok(fields.len())
+}
+
+/// The length of the longest field of a line.
+fn longest_field<'b, B: Backend>(alloc: Global, line: &HipStr<'b, B>) -> Result<usize, AllocError> {
+    let mut longest = 0;
+    for field in line.split(alloc, ',') {
+        longest = longest.max(field?.len());
+    }
+    Ok(longest)
+}
+
+/// The length of the longest word of a text, by its lines.
+fn longest_word<'b, B: Backend>(alloc: Global, text: &HipStr<'b, B>) -> Result<usize, AllocError> {
+    let mut longest = 0;
+    for line in text.lines(alloc) {
+        let line = line?;
+        for word in line.split_whitespace(alloc) {
+            longest = longest.max(word?.len());
+        }
+    }
+    Ok(longest)
+}
+
+/// Where the commas of a line are.
+fn commas<'b, B: Backend>(alloc: Global, line: &HipStr<'b, B>) -> Result<Vec<usize>, AllocError> {
+    let mut places = Vec::new(alloc);
+    for (place, _comma) in line.match_indices(alloc, ',') {
+        places.push(place)?;
+    }
+    Ok(places)
+}
+
+/// The last field of a line that isn't empty.
+fn last_filled<'b, B: Backend>(
+    alloc: Global,
+    line: &HipStr<'b, B>,
+) -> Result<Option<HipStr<'b, B>>, AllocError> {
+    for field in line.split(alloc, ',').rev() {
+        let field = field?;
+        if !field.is_empty() {
+            return Ok(Some(field));
+        }
+    }
+    Ok(None)
+}
+
+/// The length of the longest part of a text between its digits.
+fn longest_between_digits<'b, B: Backend>(
+    alloc: Global,
+    text: &HipStr<'b, B>,
+) -> Result<usize, AllocError> {
+    let digits = CharPred::with(|c| c.is_ascii_digit(), chosen_digits());
+    let mut longest = 0;
+    for (_, part) in text.pieces_at(alloc, Split::new(text.as_str(), digits)) {
+        longest = longest.max(part?.len());
+    }
+    Ok(longest)
+}
+
 /// The fields of a line that are left, and how many were drawn.
 #[derive(Drop)]
 struct Reader<'h, 'b, B: Backend> {
@@ -59,9 +124,7 @@ struct Reader<'h, 'b, B: Backend> {
 
 impl<'h, 'b, B: Backend> Reader<'h, 'b, B> {
     /// The length of the next field, if there is one and memory for it.
-    fn next_len(&mut self) -> Option<usize>
-        requires { ⟦<Pieces<'h, HipStr<'b, B>, Split<'h, char>> as Walk>⟧.ready self.old.fields }
-    {
+    fn next_len(&mut self) -> Option<usize> {
         let field = self.fields.next()?.ok()?;
         self.drawn = self.drawn.saturating_add(1);
         Some(field.len())
@@ -101,12 +164,40 @@ fn reads<B: Backend>(alloc: Global) -> bool {
         & are(&parts(alloc, &line, ",,"), &["ab", "c1d"])
 }
 
+/// Whether loops over walks answer as they should.
+fn goes_over<B: Backend>(alloc: Global) -> Result<bool, AllocError> {
+    let line = HipStr::<B>::borrowed("ab,,c1d,");
+    let text = HipStr::<B>::borrowed("a bcd\n\nefg hijk\n");
+    let places = commas(alloc, &line)?;
+    let lengths = (
+        count_fields(alloc, &line)?,
+        longest_field(alloc, &line)?,
+        longest_word(alloc, &text)?,
+        longest_between_digits(alloc, &line)?,
+    );
+    Ok(
+        (lengths == (4, 3, 4, 5))
+            & (places.as_slice() == [2, 3, 7].as_slice())
+            & is_text(last_filled(alloc, &line)?, "c1d"),
+    )
+}
+
+/// Whether this is the text.
+fn is_text<B: Backend>(text: Option<HipStr<'_, B>>, expected: &str) -> bool {
+    match text {
+        Some(text) => text.str_eq(expected),
+        None => false,
+    }
+}
+
 #[test]
 fn on_rc(rt: HostRuntime) {
     assert!(rt; reads::<Rc>(rt.alloc()));
+    assert!(rt; goes_over::<Rc>(rt.alloc()) == Ok(true));
 }
 
 #[test]
 fn on_unique(rt: HostRuntime) {
     assert!(rt; reads::<Unique>(rt.alloc()));
+    assert!(rt; goes_over::<Unique>(rt.alloc()) == Ok(true));
 }

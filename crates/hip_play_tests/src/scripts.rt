@@ -146,10 +146,15 @@ fn cuts(rt: HostRuntime) {
 /// Kinds and capacities.
 fn kind_rows() -> &'static [Row] {
     &[
-        // A borrowed value: its clone is borrowed, and a push of nothing copies it.
+        // A borrowed value: its clone is borrowed, and a push of nothing leaves it so.
         (
             "borrow 0 \"abc\"\nclone 0 1\nkind 1\npush 1 \"\"\nkind 1\ncopied\n",
-            "done\ndone\nborrowed\ndone\ninline\n3\n",
+            "done\ndone\nborrowed\ndone\nborrowed\n0\n",
+        ),
+        // Nor does it change an allocated value that another shares, or room in which nothing stands.
+        (
+            "copy 0 \"abcdefghijklmnopqrstuvwxyz\"\nclone 0 1\npush 1 \"\"\nkind 1\nlen 1\nroom 2 42\npush 2 \"\"\nkind 2\nlen 2\n",
+            "done\ndone\ndone\nallocated\n26\ndone\ndone\nallocated\n0\n",
         ),
         // A slice outlives its source, and copies what fits the handle.
         (

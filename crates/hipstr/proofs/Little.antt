@@ -1,15 +1,14 @@
 -- Where owners are shared, a command that makes parts copies little.
-use Rattle.std.proofs.Common.{◌≡◌, ◌∙◌, ℕ, ◌-◌, ◌*◌, ◌≤◌, Bool, true, false, List, [], ◌∷◌, length, Option, Some, None, MatchOption, if◌then◌else◌, ap, refl, arith}
+use Rattle.std.proofs.Common.{◌≡◌, ◌∙◌, ℕ, ◌-◌, Bool, true, false, List, [], ◌∷◌, length, Option, Some, None, MatchOption, if◌then◌else◌, ap, refl, arith}
 use Rattle.std.specs.Prelude.{is_none}
-use Rattle.hip_bytes.proofs.Costs.{shared_clone_is_little, shared_part_is_little}
-use Rattle.hip_bytes.specs.Cost.{clone_cost, cut_cost}
+use Rattle.hip_bytes.proofs.Costs.{shared_clone_is_little}
+use Rattle.hip_bytes.specs.Cost.{clone_cost}
 use Rattle.hip_bytes.specs.Handle.{Handle}
 use Rattle.hip_bytes.specs.Range.{slice_of}
 use Rattle.hip_bytes.specs.declared.kind.Kind.{Kind}
-use Rattle.hip_bytes.specs.declared.kind.Kind.TheVariants.{Borrowed}
-use Rattle.hip_bytes.specs.declared.kind.TheConstants.{INLINE_CAPACITY}
-use Rattle.hip_cuts.specs.Piece.{part_cost, parts_cost}
-use Rattle.hipstr.specs.Little.{CopiesLittle, IsLittle}
+use Rattle.hip_cuts.proofs.Costs.{part-little, parts-little}
+use Rattle.hip_cuts.specs.Piece.{IsLittle, part_cost, parts_cost}
+use Rattle.hipstr.specs.Little.{CopiesLittle}
 use Rattle.hipstr.specs.Slot.{SlotState, slot_at}
 use Rattle.hipstr.specs.Step.{Costs, TrimsTo, TrimsMatchesTo, copies_of, drawn_of, fault_of, option_cost, parted_slot, stripped_slot}
 use Rattle.hipstr.specs.declared.command.Command.{Command}
@@ -23,20 +22,6 @@ unless-refused source count false copied cost little is = record { at_most = ome
 
 clone-little : (source : Handle) (len : ℕ) → IsLittle source 1 (clone_cost true source.kind len)
 clone-little source len = record { at_most = omega (arith, shared_clone_is_little source.kind len); lent = λ lent. ap (λ (kind : Kind). clone_cost true kind len) lent }
-
-part-little : (source : Handle) (len : ℕ) → IsLittle source 1 (cut_cost true source.kind len)
-part-little source len = record { at_most = omega (arith, shared_part_is_little source.kind len); lent = λ lent. ap (λ (kind : Kind). cut_cost true kind len) lent }
-
-parts-at-most : (source : Handle) (ranges : List (ℕ × ℕ)) → parts_cost true source ranges ≤ length ranges * INLINE_CAPACITY
-parts-at-most source [] = omega arith
-parts-at-most source (range ∷ ranges) = omega (arith, shared_part_is_little source.kind (range.1 - range.0), parts-at-most source ranges)
-
-parts-lent : (source : Handle) (ranges : List (ℕ × ℕ)) → source.kind ≡ Borrowed → parts_cost true source ranges ≡ 0
-parts-lent source [] lent = refl
-parts-lent source (range ∷ ranges) lent = omega (arith, (part-little source (range.1 - range.0)).lent lent, parts-lent source ranges lent)
-
-parts-little : (source : Handle) (ranges : List (ℕ × ℕ)) → IsLittle source (length ranges) (parts_cost true source ranges)
-parts-little source ranges = record { at_most = parts-at-most source ranges; lent = parts-lent source ranges }
 
 -- what is made at most where there is something to make
 strip-little : (source : Handle) (range : Option (ℕ × ℕ)) → IsLittle source 1 (option_cost (part_cost true source) range)

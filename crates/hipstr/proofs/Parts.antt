@@ -8,7 +8,7 @@ use Rattle.hip_bytes.specs.Handle.{Handle}
 use Rattle.hip_bytes.specs.Made.{CutAnswers}
 use Rattle.hip_bytes.specs.Meter.{RisesAtMost}
 use Rattle.hip_bytes.specs.declared.kind.Kind.{Kind}
-use Rattle.hip_cuts.specs.Piece.{IsPartAt, part_cost, parts_cost, FirstPiece, FirstCosts, LastPiece, LastCosts}
+use Rattle.hip_cuts.specs.Piece.{IsPartAt, Left, part_cost, parts_cost, FirstPiece, FirstCosts, LastPiece, LastCosts}
 use Rattle.hip_match.proofs.DrawLemmas.{TakesEnd-back}
 use Rattle.hip_match.specs.Draw.{draw, but_last}
 use Rattle.hip_match.specs.declared.draw.End.{End}
@@ -25,26 +25,28 @@ first-of r s l m same = ap (λ (l : List (ℕ × ℕ)). head l) same where
   head [] = r
   head (x ∷ l) = x
 
-pub draws-front : {E : Type 0} (shares : Bool) (source : Handle) (old new : List (ℕ × ℕ)) (result : Option (Result Handle E)) (before after : ℕ)
-    → FirstPiece source old new result → FirstCosts shares source old new result before after → DrawsPart shares Front source old new result before after
-draws-front shares source old new None before after first costs = (first.0, costs)
-draws-front shares source old new (Some part) before after first costs = (
+pub draws-front : {E : Type 0} (shares : Bool) (old new : Left) (result : Option (Result Handle E)) (before after : ℕ)
+    → FirstPiece old result new → FirstCosts shares old result new before after → DrawsPart shares Front old result new before after
+draws-front shares old new None before after first costs = (first.0, costs)
+draws-front shares old new (Some part) before after first costs = (
   first.0,
   λ script. ap (λ (l : List (ℕ × ℕ)). draw l (Front ∷ script)) first.1,
-  first.2,
-  subst (λ (range : ℕ × ℕ). RisesAtMost before after (part_cost shares source range)) (first-of costs.0 first.0 new new (sym costs.1 ∙ first.1)) costs.2,
+  first.3,
+  subst (λ (range : ℕ × ℕ). RisesAtMost before after (part_cost shares old.source range))
+      (first-of costs.0 first.0 new.rest new.rest (sym costs.1 ∙ first.1)) costs.2,
 )
 
-pub draws-back : {E : Type 0} (shares : Bool) (source : Handle) (old new : List (ℕ × ℕ)) (result : Option (Result Handle E)) (before after : ℕ)
-    → LastPiece source old new result → LastCosts shares source old new result before after → DrawsPart shares Back source old new result before after
-draws-back shares source old new None before after last costs = (last.0, costs)
-draws-back shares source old new (Some part) before after last costs =
-    let takes = TakesEnd-back old new (Some last.0) last.1 in
-    let takes_2 = TakesEnd-back old new (Some costs.0) costs.1 in (
+pub draws-back : {E : Type 0} (shares : Bool) (old new : Left) (result : Option (Result Handle E)) (before after : ℕ)
+    → LastPiece old result new → LastCosts shares old result new before after → DrawsPart shares Back old result new before after
+draws-back shares old new None before after last costs = (last.0, costs)
+draws-back shares old new (Some part) before after last costs =
+    let takes = TakesEnd-back old.rest new.rest (Some last.0) last.1 in
+    let takes_2 = TakesEnd-back old.rest new.rest (Some costs.0) costs.1 in (
       last.0,
       λ script. (takes script).0,
-      last.2,
-      subst (λ (range : ℕ × ℕ). RisesAtMost before after (part_cost shares source range)) (first-of costs.0 last.0 (draw new []) (draw new []) (sym (takes_2 []).0 ∙ (takes []).0)) costs.2,
+      last.3,
+      subst (λ (range : ℕ × ℕ). RisesAtMost before after (part_cost shares old.source range))
+          (first-of costs.0 last.0 (draw new.rest []) (draw new.rest []) (sym (takes_2 []).0 ∙ (takes []).0)) costs.2,
     )
 
 -- ---- the parts so far, in the spare slots

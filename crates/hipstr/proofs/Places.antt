@@ -6,7 +6,7 @@ use Rattle.hip_bytes.specs.Handle.{Handle}
 use Rattle.hip_bytes.specs.Kinds.{HoldsByLength, IsEmptyInline}
 use Rattle.hip_bytes.specs.declared.kind.Kind.{Kind}
 use Rattle.hip_bytes.specs.declared.kind.Kind.TheVariants.{Inline}
-use Rattle.hip_cuts.specs.Cut.{OnceAnswers}
+use Rattle.hip_cuts.specs.Cut.{PartsIfAny}
 use Rattle.hip_text.proofs.Texts.{texts}
 use Rattle.hip_cuts.specs.Piece.{IsPartAt}
 use Rattle.hipstr.specs.Slot.{SlotState, Replaces, empty_slot, slot_at, state_at, text_at}
@@ -57,12 +57,12 @@ trimmed-put old new t text source left P within is part put =
 
 -- the two parts of the source that were put, one after the other
 pub parted-put : (old mid new : List SlotState) (t u : ℕ) (text source front back : Handle) (parts : Handle → Option ((ℕ × ℕ) × (ℕ × ℕ))) {E : Type 0} (result : Result (Option (Handle × Handle)) E)
-    → t < length old → u < length old → text ≡ source → result ≡ Ok (Some (front, back)) → OnceAnswers (λ part. part) (parts text) text result
+    → t < length old → u < length old → text ≡ source → result ≡ Ok (Some (front, back)) → PartsIfAny (λ part. part) (parts text) text result
     → mid ≡ slice_set old t (record { is_text = true; handle = front }) → new ≡ slice_set mid u (record { is_text = true; handle = back })
     → MatchOption (parts source) ⊥ (λ ranges. (between : List SlotState) × Replaces old between t true (IsPartAt source ranges.0) × Replaces between new u true (IsPartAt source ranges.1))
 parted-put old mid new t u text source front back parts {E} result within_t within_u is made answers put put_2 =
-    by-parts (parts source) (subst (λ (handle : Handle). OnceAnswers (λ part. part) (parts handle) handle (let r : Result (Option (Handle × Handle)) E = Ok (Some (front, back)) in r)) is (subst (λ (r : Result (Option (Handle × Handle)) E). OnceAnswers (λ part. part) (parts text) text r) made answers)) where
-      by-parts : (ranges : Option ((ℕ × ℕ) × (ℕ × ℕ))) → OnceAnswers (λ part. part) ranges source (let r : Result (Option (Handle × Handle)) E = Ok (Some (front, back)) in r)
+    by-parts (parts source) (subst (λ (handle : Handle). PartsIfAny (λ part. part) (parts handle) handle (let r : Result (Option (Handle × Handle)) E = Ok (Some (front, back)) in r)) is (subst (λ (r : Result (Option (Handle × Handle)) E). PartsIfAny (λ part. part) (parts text) text r) made answers)) where
+      by-parts : (ranges : Option ((ℕ × ℕ) × (ℕ × ℕ))) → PartsIfAny (λ part. part) ranges source (let r : Result (Option (Handle × Handle)) E = Ok (Some (front, back)) in r)
           → MatchOption ranges ⊥ (λ ranges. (between : List SlotState) × Replaces old between t true (IsPartAt source ranges.0) × Replaces between new u true (IsPartAt source ranges.1))
       by-parts None never = absurd (search rules)
       by-parts (Some ranges) both =

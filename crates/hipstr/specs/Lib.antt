@@ -13,10 +13,13 @@ pub use Rattle.hip_bytes.specs.Handle
 pub use Rattle.hip_bytes.specs.Join
 pub use Rattle.hip_bytes.specs.Kinds
 pub use Rattle.hip_bytes.specs.Made
+pub use Rattle.hip_bytes.specs.Mutated
 pub use Rattle.hip_bytes.specs.Range
 pub use Rattle.hip_bytes.specs.Slice
 pub use Rattle.hip_bytes.specs.SliceError
 pub use Rattle.hip_bytes.specs.Appended
+pub use Rattle.hip_bytes.specs.Fuse
+pub use Rattle.hip_bytes.specs.Sole
 pub use Rattle.hip_bytes.specs.Held
 pub use Rattle.hip_bytes.specs.Meter
 pub use Rattle.hip_bytes.specs.RefMut
@@ -33,6 +36,7 @@ pub use Rattle.hip_text.specs.BorshText
 pub use Rattle.hip_names.specs.JsonPath
 pub use Rattle.hip_match.specs.Answers
 pub use Rattle.hip_match.specs.Characters
+pub use Rattle.hip_match.specs.Clones
 pub use Rattle.hip_match.specs.Draw
 pub use Rattle.hip_match.specs.Joined
 pub use Rattle.hip_match.specs.Leftmost

@@ -1,8 +1,7 @@
 -- Commands that make parts of a slot: where owners are shared they copy little, whatever the slot holds.
-use Rattle.std.specs.Prelude.{◌≡◌, ℕ, ◌*◌, ◌≤◌, List, length, Option, Some, None, MatchOption}
+use Rattle.std.specs.Prelude.{ℕ, List, length, Option, Some, None, MatchOption}
 use Rattle.hip_bytes.specs.Handle.{Handle}
-use Rattle.hip_bytes.specs.declared.kind.Kind.TheVariants.{Borrowed}
-use Rattle.hip_bytes.specs.declared.kind.TheConstants.{INLINE_CAPACITY}
+use Rattle.hip_cuts.specs.Piece.{IsLittle}
 use Rattle.hipstr.specs.Slot.{SlotState, slot_at}
 use Rattle.hipstr.specs.Step.{drawn_of}
 use Rattle.hipstr.specs.declared.command.Command.{Command}
@@ -20,10 +19,6 @@ parts_made slots (Pieces s how script first) = Some (slot_at slots s, length (dr
 -- no other makes any
 parts_made slots command = None
 
--- such a cost is at most what a handle holds itself, for each part, and nothing where the source is borrowed
-pub record IsLittle (source : Handle) (count : ℕ) (cost : ℕ) : Type 0 where
-  pub at_most : cost ≤ count * INLINE_CAPACITY
-  pub lent : source.kind ≡ Borrowed → cost ≡ 0
-
+-- such a cost is little
 abbrev pub CopiesLittle : List SlotState → Command → ℕ → Type 0
 CopiesLittle slots command cost = MatchOption (parts_made slots command) (Unit {0}) (λ made. IsLittle made.0 made.1 cost)

@@ -3,7 +3,7 @@ use Rattle.std.specs.Prelude.{◌≡◌, ◌≤◌, ℕ, ◌+◌, Bool, true, Li
 use Rattle.hip_bytes.specs.Handle.{Handle}
 use Rattle.hip_bytes.specs.Made.{CutAnswers}
 use Rattle.hip_bytes.specs.Meter.{RisesAtMost}
-use Rattle.hip_cuts.specs.Piece.{IsPartAt, part_cost, parts_cost}
+use Rattle.hip_cuts.specs.Piece.{IsPartAt, Left, part_cost, parts_cost}
 use Rattle.hip_match.specs.Draw.{draw}
 use Rattle.hip_match.specs.declared.draw.End.{End}
 use Rattle.hipstr.specs.Cut.{SomeNeedsMemory}
@@ -31,11 +31,12 @@ pub record MakesParts {E : Type 0} (shares : Bool) (source : Handle) (ranges : L
   pub counted : RisesAtMost before after (parts_cost shares source ranges)
 
 -- what draws one: the part at the range that this end draws of the ranges that were left, within that part's cost
-abbrev pub DrawsPart : {E : Type 0} → Bool → End → Handle → List (ℕ × ℕ) → List (ℕ × ℕ) → Option (Result Handle E) → ℕ → ℕ → Type 0
-DrawsPart shares end source old new None before after = (old ≡ []) × (after ≡ before)
-DrawsPart shares end source old new (Some part) before after =
-    (range : ℕ × ℕ) × ((script : List End) → draw old (end ∷ script) ≡ range ∷ draw new script) × CutAnswers source (slice_range source.items range.0 range.1) part
-    × RisesAtMost before after (part_cost shares source range)
+abbrev pub DrawsPart : {E : Type 0} → Bool → End → Left → Option (Result Handle E) → Left → ℕ → ℕ → Type 0
+DrawsPart shares end old None new before after = (old.rest ≡ []) × (after ≡ before)
+DrawsPart shares end old (Some part) new before after =
+    (range : ℕ × ℕ) × ((script : List End) → draw old.rest (end ∷ script) ≡ range ∷ draw new.rest script)
+    × CutAnswers old.source (slice_range old.source.items range.0 range.1) part
+    × RisesAtMost before after (part_cost shares old.source range)
 
 -- these slots put one after another from a position on
 abbrev pub put_all : List SlotState → ℕ → List SlotState → List SlotState

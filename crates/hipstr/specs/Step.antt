@@ -10,7 +10,7 @@ use Rattle.std.specs.Str.{is_utf8}
 use Rattle.std.specs.declared.ops.Bound.{Bound}
 use Rattle.std.specs.declared.ops.Bound.TheVariants.{Included, Unbounded}
 use Rattle.hip_bytes.specs.Change.{IsPushed, IsRewritten, IsShortened, IsShrunk, PopAnswers}
-use Rattle.hip_bytes.specs.Cost.{clone_cost, cut_cost, owned_cost, shortened_cost, shrink_cost, write_cost, CutNeedsMemory, OwnNeedsMemory, PushNeedsMemory, WriteNeedsMemory}
+use Rattle.hip_bytes.specs.Cost.{clone_cost, cut_cost, owned_cost, push_cost, shortened_cost, shrink_cost, write_cost, CutNeedsMemory, OwnNeedsMemory, PushNeedsMemory, WriteNeedsMemory}
 use Rattle.hip_bytes.specs.Join.{join_cost, repeat_cost, repeated_kind, RepeatNeedsMemory}
 use Rattle.hip_bytes.specs.Kinds.{by_length, Holds, HoldsByLength, IsEmptyInline}
 use Rattle.hip_bytes.specs.Made.{IsOwned, IsPart}
@@ -166,7 +166,7 @@ MayNeedMemory shares slots (Copy t bytes) = INLINE_CAPACITY < length bytes.now
 MayNeedMemory shares slots (Room t capacity) = INLINE_CAPACITY < capacity
 MayNeedMemory shares slots (Clone s t) = (slot_at slots s).kind ≡ allocated_kind
 MayNeedMemory shares slots (Slice s t low high) = CutNeedsMemory (slot_at slots s).kind (length (slice_of low high (slot_at slots s).items))
-MayNeedMemory shares slots (Push t bytes) = PushNeedsMemory shares (slot_at slots t).kind (slot_at slots t).capacity (length (slot_at slots t).items + length bytes.now)
+MayNeedMemory shares slots (Push t bytes) = PushNeedsMemory shares (slot_at slots t).kind (slot_at slots t).capacity (length (slot_at slots t).items) (length bytes.now)
 MayNeedMemory shares slots (Shrink t least) = CutNeedsMemory (slot_at slots t).kind (max least (length (slot_at slots t).items))
 MayNeedMemory shares slots (Upper t) = WriteNeedsMemory shares (slot_at slots t).kind (length (slot_at slots t).items)
 MayNeedMemory shares slots (Lower t) = WriteNeedsMemory shares (slot_at slots t).kind (length (slot_at slots t).items)
@@ -271,7 +271,7 @@ copies_of shares slots (Inline t bytes) = length bytes.now
 copies_of shares slots (Copy t bytes) = times_copied shares (length bytes.now)
 copies_of shares slots (Clone s t) = clone_cost shares (slot_at slots s).kind (length (slot_at slots s).items)
 copies_of shares slots (Slice s t low high) = cut_cost shares (slot_at slots s).kind (length (slice_of low high (slot_at slots s).items))
-copies_of shares slots (Push t bytes) = times_copied shares (length (slot_at slots t).items + length bytes.now)
+copies_of shares slots (Push t bytes) = push_cost shares (length (slot_at slots t).items) (length bytes.now)
 copies_of shares slots (Pop t) = shortened_cost (slot_at slots t).kind
 copies_of shares slots (Truncate t n) = shortened_cost (slot_at slots t).kind
 copies_of shares slots (Clear t) = shortened_cost (slot_at slots t).kind

@@ -32,9 +32,9 @@ mod text;
 pub use command::{Answer, Command, How, Pat, Reason, Side};
 pub use hip_match::draw::End;
 pub use hip_text::{
-    Allocated, Appended, Backend, Block, Borrowed, ByteSink, ByteSource, FromRead, Front, Inline,
-    IoFault, Kind, Length, Meter, Rc, Room, SliceSource, Start, ToWrite, Unique, VecSink,
-    copy_counted, fill_counted,
+    Allocated, Appended, Backend, Block, Borrowed, ByteSink, ByteSource, FromRead, Front, Fuse,
+    Inline, IoFault, Kind, Length, Meter, Rc, Room, SliceSource, Sole, Start, ToWrite, Unique,
+    VecSink, copy_counted, fill_counted,
 };
 pub use machine::run;
 pub use pool::{MAX_SLOTS, Pool, Slot};

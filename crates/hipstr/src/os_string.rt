@@ -1,2 +1,2 @@
 //! OS strings.
-pub use hip_names::{HipOsStr, JsonFault, RefMut};
+pub use hip_names::{HipOsStr, JsonFault, MutateFault, RefMut};

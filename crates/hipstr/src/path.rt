@@ -1,2 +1,4 @@
 //! Paths, and their components.
-pub use hip_names::{Component, Components, HipPath, JsonFault, RefMut, components_eq, path_cmp};
+pub use hip_names::{
+    Component, Components, HipPath, JsonFault, MutateFault, RefMut, components_eq, path_cmp,
+};

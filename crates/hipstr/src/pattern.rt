@@ -3,14 +3,15 @@
 //! A [`Pattern`] is a text, a character, a set of characters, or a closure over characters ([`CharPred`]); a [`ReversePattern`] is looked
 //! for from the end too. [`OneChar`] and [`DoubleEndedPattern`] say of which patterns pieces are drawn, and trims are made, at both ends.
 //!
-//! An iterator goes over the [`Ranges`] of a text, from both ends where it is one of [`RangesBack`]. It is the last parameter of an
+//! An iterator goes over the [`Ranges`] of a text, from both ends where it is one of [`RangesBack`], and gives the same ranges again where
+//! it is one of [`CloneRanges`], as it is by a [`ClonePattern`]. It is the last parameter of an
 //! [`IterWrapper`](crate::string::IterWrapper), which gives the pieces at these ranges.
 pub use hip_match::chosen::Chosen;
 pub use hip_match::lines::Lines;
 pub use hip_match::matches::{MatchIndices, Matches};
-pub use hip_match::pattern::{DoubleEndedPattern, OneChar, Pattern, ReversePattern};
+pub use hip_match::pattern::{ClonePattern, DoubleEndedPattern, OneChar, Pattern, ReversePattern};
 pub use hip_match::predicate::{CharPred, choose_by};
-pub use hip_match::ranges::{Ranges, RangesBack};
+pub use hip_match::ranges::{CloneRanges, Ranges, RangesBack};
 pub use hip_match::rmatches::{RMatchIndices, RMatches};
 pub use hip_match::rsplit::{RSplit, RSplitN, RSplitTerminator};
 pub use hip_match::split::{Split, SplitInclusive, SplitN, SplitTerminator};

@@ -1,9 +1,7 @@
 //! Commands that cut a text once, or in two.
 ghost use Rattle.std.specs.Prelude.{◌≡◌, ℕ, false, length};
-ghost use Rattle.std.specs.Char.{is_whitespace};
 ghost use Rattle.hip_bytes.specs.Meter.{RisesAtMost};
-ghost use Rattle.hip_cuts.specs.Cut.{TrimAnswers, TrimCosts, StripAnswers, StripCosts, OnceAnswers, OnceCosts};
-ghost use Rattle.hip_match.specs.Characters.{char_ends};
+ghost use Rattle.hip_cuts.specs.Cut.{TrimAnswers, TrimCosts, StripAnswers, StripCosts, OnceAnswers, OnceCosts, space_ends};
 ghost use Rattle.hipstr.specs.declared.command.Command.{Command};
 ghost use Rattle.hipstr.specs.Cut.{Leaves, occurrences, stripped, parted, trims_one_end};
 ghost use Rattle.hipstr.specs.Reason.{answer_of};
@@ -122,8 +120,8 @@ fn trimmed<'b, B: Backend>(
     side: Side,
     meter: &mut Meter,
 ) -> Result<HipStr<'b, B>, AllocError>
-    ensures trimmed { TrimAnswers (λ part. part) (Leaves side (char_ends is_whitespace text.now.items) (length text.now.items)) text.now result }
-    ensures counted { TrimCosts B.SHARES (Leaves side (char_ends is_whitespace text.now.items) (length text.now.items)) text.now meter.old meter.new }
+    ensures trimmed { TrimAnswers (λ part. part) (Leaves side) space_ends text.now result }
+    ensures counted { TrimCosts B.SHARES (Leaves side) space_ends text.now meter.old meter.new }
 {
     match side {
         Side::Start => text.trim_start_metered(alloc, meter),
@@ -154,8 +152,8 @@ fn trimmed_of<'b, B: Backend>(
     meter: &mut Meter,
 ) -> Result<HipStr<'b, B>, AllocError>
     requires { trims_one_end side pattern ≡ false }
-    ensures trimmed { TrimAnswers (λ part. part) (Leaves side (occurrences pattern.entry text.now.items) (length text.now.items)) text.now result }
-    ensures counted { TrimCosts B.SHARES (Leaves side (occurrences pattern.entry text.now.items) (length text.now.items)) text.now meter.old meter.new }
+    ensures trimmed { TrimAnswers (λ part. part) (Leaves side) (occurrences pattern.entry) text.now result }
+    ensures counted { TrimCosts B.SHARES (Leaves side) (occurrences pattern.entry) text.now meter.old meter.new }
 {
     match pattern {
         Pat::Text(pattern) => match side {
@@ -176,8 +174,8 @@ fn trimmed_matches<'b, B: Backend, P: DoubleEndedPattern>(
     meter: &mut Meter,
 ) -> Result<HipStr<'b, B>, AllocError>
     requires { P.can_search pattern }
-    ensures trimmed { TrimAnswers (λ part. part) (Leaves side (P.ends pattern text.now.items) (length text.now.items)) text.now result }
-    ensures counted { TrimCosts B.SHARES (Leaves side (P.ends pattern text.now.items) (length text.now.items)) text.now meter.old meter.new }
+    ensures trimmed { TrimAnswers (λ part. part) (Leaves side) (P.ends pattern) text.now result }
+    ensures counted { TrimCosts B.SHARES (Leaves side) (P.ends pattern) text.now meter.old meter.new }
 {
     match side {
         Side::Start => text.trim_start_matches_metered(alloc, pattern, meter),
@@ -194,8 +192,8 @@ fn stripped<'b, B: Backend>(
     pattern: Pat<'b>,
     meter: &mut Meter,
 ) -> Result<Option<HipStr<'b, B>>, AllocError>
-    ensures stripped { StripAnswers (λ part. part) (stripped end (occurrences pattern.entry text.now.items) (length text.now.items)) text.now result }
-    ensures counted { StripCosts B.SHARES (stripped end (occurrences pattern.entry text.now.items) (length text.now.items)) text.now meter.old meter.new }
+    ensures stripped { StripAnswers (λ part. part) (stripped end) (occurrences pattern.entry) text.now result }
+    ensures counted { StripCosts B.SHARES (stripped end) (occurrences pattern.entry) text.now meter.old meter.new }
 {
     match pattern {
         Pat::Text(pattern) => text_without(alloc, text, end, pattern, meter),
@@ -213,8 +211,8 @@ fn text_without<'b, B: Backend, P: ReversePattern>(
     meter: &mut Meter,
 ) -> Result<Option<HipStr<'b, B>>, AllocError>
     requires { P.can_search pattern }
-    ensures stripped { StripAnswers (λ part. part) (stripped end (P.ends pattern text.now.items) (length text.now.items)) text.now result }
-    ensures counted { StripCosts B.SHARES (stripped end (P.ends pattern text.now.items) (length text.now.items)) text.now meter.old meter.new }
+    ensures stripped { StripAnswers (λ part. part) (stripped end) (P.ends pattern) text.now result }
+    ensures counted { StripCosts B.SHARES (stripped end) (P.ends pattern) text.now meter.old meter.new }
 {
     match end {
         End::Front => text.strip_prefix_metered(alloc, pattern, meter),
@@ -230,8 +228,8 @@ fn parted<'b, B: Backend>(
     pattern: Pat<'b>,
     meter: &mut Meter,
 ) -> Result<Option<(HipStr<'b, B>, HipStr<'b, B>)>, AllocError>
-    ensures parts { OnceAnswers (λ part. part) (parted end (occurrences pattern.entry text.now.items) (length text.now.items)) text.now result }
-    ensures counted { OnceCosts B.SHARES (parted end (occurrences pattern.entry text.now.items) (length text.now.items)) text.now meter.old meter.new }
+    ensures parts { OnceAnswers (λ part. part) (parted end) (occurrences pattern.entry) text.now result }
+    ensures counted { OnceCosts B.SHARES (parted end) (occurrences pattern.entry) text.now meter.old meter.new }
 {
     match pattern {
         Pat::Text(pattern) => two_parts(alloc, text, end, pattern, meter),
@@ -249,8 +247,8 @@ fn two_parts<'b, B: Backend, P: ReversePattern>(
     meter: &mut Meter,
 ) -> Result<Option<(HipStr<'b, B>, HipStr<'b, B>)>, AllocError>
     requires { P.can_search pattern }
-    ensures parts { OnceAnswers (λ part. part) (parted end (P.ends pattern text.now.items) (length text.now.items)) text.now result }
-    ensures counted { OnceCosts B.SHARES (parted end (P.ends pattern text.now.items) (length text.now.items)) text.now meter.old meter.new }
+    ensures parts { OnceAnswers (λ part. part) (parted end) (P.ends pattern) text.now result }
+    ensures counted { OnceCosts B.SHARES (parted end) (P.ends pattern) text.now meter.old meter.new }
 {
     match end {
         End::Front => text.split_once_metered(alloc, pattern, meter),

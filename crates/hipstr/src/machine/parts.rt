@@ -10,7 +10,7 @@ ghost use Rattle.hipstr.specs.Slot.{state_of, empty_slot};
 use crate::command::{How, Pat};
 use crate::pool::Slot;
 use hip_bytes::{Backend, Meter};
-use hip_cuts::{IterWrapper, Pieces, TextCuts, Unnumbered, Walk};
+use hip_cuts::{IterWrapper, TextCuts, Unnumbered};
 use hip_match::draw::End;
 use hip_match::pattern::{OneChar, ReversePattern};
 use hip_match::ranges::RangesBack;
@@ -186,9 +186,8 @@ fn make_both<'h, 'b, B: Backend, I: Unnumbered + RangesBack + Drop>(
     spare: &mut [Slot<'b, B>],
     meter: &mut Meter,
 ) -> Result<usize, AllocError>
-    requires ready { ⟦<Pieces<'h, HipStr<'b, B>, I> as Walk>⟧.ready walk }
     requires room { HasRoom script.now (map state_of spare.old) }
-    ensures { MakesParts B.SHARES (⟦<Pieces<'h, HipStr<'b, B>, I> as Walk>⟧.source walk.entry) (draw (⟦<Pieces<'h, HipStr<'b, B>, I> as Walk>⟧.rest walk.entry) script.now) (map state_of spare.old) result (map state_of spare.new) meter.old meter.new }
+    ensures { MakesParts B.SHARES walk.entry.source (draw walk.entry.rest script.now) (map state_of spare.old) result (map state_of spare.new) meter.old meter.new }
 {
     for i in 0..script.len() {
         match end_part(&mut walk, script[i], meter) {
@@ -210,10 +209,9 @@ fn make_front<'h, 'b, B: Backend, I: Unnumbered + Drop>(
     spare: &mut [Slot<'b, B>],
     meter: &mut Meter,
 ) -> Result<usize, AllocError>
-    requires ready { ⟦<Pieces<'h, HipStr<'b, B>, I> as Walk>⟧.ready walk }
     requires front { has_back script.now ≡ false }
     requires room { HasRoom script.now (map state_of spare.old) }
-    ensures { MakesParts B.SHARES (⟦<Pieces<'h, HipStr<'b, B>, I> as Walk>⟧.source walk.entry) (draw (⟦<Pieces<'h, HipStr<'b, B>, I> as Walk>⟧.rest walk.entry) script.now) (map state_of spare.old) result (map state_of spare.new) meter.old meter.new }
+    ensures { MakesParts B.SHARES walk.entry.source (draw walk.entry.rest script.now) (map state_of spare.old) result (map state_of spare.new) meter.old meter.new }
 {
     for i in 0..script.len() {
         match front_part(&mut walk, script[i], meter) {
@@ -234,10 +232,8 @@ fn end_part<'h, 'b, B: Backend, I: Unnumbered + RangesBack>(
     end: End,
     meter: &mut Meter,
 ) -> Option<Result<HipStr<'b, B>, AllocError>>
-    requires ready { ⟦<Pieces<'h, HipStr<'b, B>, I> as Walk>⟧.ready walk.old }
-    ensures drawn { DrawsPart B.SHARES end (⟦<Pieces<'h, HipStr<'b, B>, I> as Walk>⟧.source walk.old) (⟦<Pieces<'h, HipStr<'b, B>, I> as Walk>⟧.rest walk.old) (⟦<Pieces<'h, HipStr<'b, B>, I> as Walk>⟧.rest walk.new) result meter.old meter.new }
-    ensures source { ⟦<Pieces<'h, HipStr<'b, B>, I> as Walk>⟧.source walk.new ≡ ⟦<Pieces<'h, HipStr<'b, B>, I> as Walk>⟧.source walk.old }
-    ensures ready { ⟦<Pieces<'h, HipStr<'b, B>, I> as Walk>⟧.ready walk.new }
+    ensures drawn { DrawsPart B.SHARES end walk.old result walk.new meter.old meter.new }
+    ensures source { walk.new.source ≡ walk.old.source }
 {
     match end {
         End::Front => walk.next_metered(meter),
@@ -251,11 +247,9 @@ fn front_part<'h, 'b, B: Backend, I: Unnumbered>(
     end: End,
     meter: &mut Meter,
 ) -> Option<Result<HipStr<'b, B>, AllocError>>
-    requires ready { ⟦<Pieces<'h, HipStr<'b, B>, I> as Walk>⟧.ready walk.old }
     requires front { end ≡ End.Front }
-    ensures drawn { DrawsPart B.SHARES end (⟦<Pieces<'h, HipStr<'b, B>, I> as Walk>⟧.source walk.old) (⟦<Pieces<'h, HipStr<'b, B>, I> as Walk>⟧.rest walk.old) (⟦<Pieces<'h, HipStr<'b, B>, I> as Walk>⟧.rest walk.new) result meter.old meter.new }
-    ensures source { ⟦<Pieces<'h, HipStr<'b, B>, I> as Walk>⟧.source walk.new ≡ ⟦<Pieces<'h, HipStr<'b, B>, I> as Walk>⟧.source walk.old }
-    ensures ready { ⟦<Pieces<'h, HipStr<'b, B>, I> as Walk>⟧.ready walk.new }
+    ensures drawn { DrawsPart B.SHARES end walk.old result walk.new meter.old meter.new }
+    ensures source { walk.new.source ≡ walk.old.source }
 {
     let _ = end;
     walk.next_metered(meter)

@@ -3,5 +3,5 @@ use Rattle.hipstr.proofs.machine.parts.end_part.Goals as goal
 
 pub returns-in-Back-clause-drawn : goal.returns-in-Back-clause-drawn
 returns-in-Back-clause-drawn g c =
-    rw c.in-Back.is (draws-back g.B.Backend.SHARES c.args.walk.now.source.now (g.I.Ranges.rest c.args.walk.now.ranges) (g.I.Ranges.rest c.next_back_metered.new.self.ranges) c.next_back_metered.result c.args.meter.now c.next_back_metered.new.meter
+    rw c.in-Back.is (draws-back g.B.Backend.SHARES c.args.walk.now c.next_back_metered.new.self c.next_back_metered.result c.args.meter.now c.next_back_metered.new.meter
     c.next_back_metered.ensures.last c.next_back_metered.ensures.counted)

@@ -11,10 +11,8 @@ loop-i-init g c =
     let state = state_of {B = g.row.B.Denot} {S = g.row.B-Sole.Denot} {P = g.row.B-Start.Denot} in
     let spare = map state c.args.spare.now in
     record {
-      so_far = so-far-none g.B.Backend.SHARES c.args.walk.source.now (draw (g.I.Ranges.rest c.args.walk.ranges) c.args.script.now) spare c.args.meter.now c.requires.room.empty;
+      so_far = so-far-none g.B.Backend.SHARES c.args.walk.source (draw c.args.walk.rest c.args.script.now) spare c.args.meter.now c.requires.room.empty;
       source = refl;
-      ready = c.requires.ready.0;
-      text = c.requires.ready.1;
     }
 
 pub loop-i-preserved : goal.loop-i-preserved
@@ -22,25 +20,23 @@ loop-i-preserved g c =
     let state = state_of {B = g.row.B.Denot} {S = g.row.B-Sole.Denot} {P = g.row.B-Start.Denot} in
     let room : length c.args.script.now ≤ length (map state c.loop-i.spare) = omega (arith, c.requires.room.within, c.loop-i.auto.spare, length-map c.args.spare.now state, length-map c.loop-i.spare state) in
     record {
-      so_far = goes-on c.in-Some-Ok.field-0 g.B.Backend.SHARES c.args.walk.source.now c.loop-i.walk.source.now (draw (g.I.Ranges.rest c.args.walk.ranges) c.args.script.now) (g.I.Ranges.rest c.loop-i.walk.ranges) (g.I.Ranges.rest c.end_part.new.walk.ranges)
+      so_far = goes-on c.in-Some-Ok.field-0 g.B.Backend.SHARES c.args.walk.source c.loop-i.walk.source (draw c.args.walk.rest c.args.script.now) c.loop-i.walk.rest c.end_part.new.walk.rest
           c.args.script.now c.loop-i.i _ (map state c.loop-i.spare) (map state c.put_text.new.slots) c.in-Some-Ok.part c.args.meter.now c.loop-i.meter c.end_part.new.meter
           c.loop-i.invariant.so_far c.loop-i.invariant.source c.loop-i-test.true room c.in-Some-Ok.ensures.drawn c.in-Some-Ok.field-0-is c.put_text.ensures;
       source = c.end_part.ensures.source ∙ c.loop-i.invariant.source;
-      ready = c.end_part.ensures.ready.0;
-      text = c.end_part.ensures.ready.1;
     }
 
 pub returns-in-Some-Err : goal.returns-in-Some-Err
 returns-in-Some-Err g c =
     let state = state_of {B = g.row.B.Denot} {S = g.row.B-Sole.Denot} {P = g.row.B-Start.Denot} in
-    let refused = is-refused c.in-Some-Err.field-0 _ g.B.Backend.SHARES c.args.walk.source.now c.loop-i.walk.source.now (draw (g.I.Ranges.rest c.args.walk.ranges) c.args.script.now) (g.I.Ranges.rest c.loop-i.walk.ranges) (g.I.Ranges.rest c.end_part.new.walk.ranges)
+    let refused = is-refused c.in-Some-Err.field-0 _ g.B.Backend.SHARES c.args.walk.source c.loop-i.walk.source (draw c.args.walk.rest c.args.script.now) c.loop-i.walk.rest c.end_part.new.walk.rest
     c.args.script.now c.loop-i.i _ (map state c.loop-i.spare) c.args.meter.now c.loop-i.meter c.end_part.new.meter
     c.loop-i.invariant.so_far c.loop-i.invariant.source c.loop-i-test.true c.in-Some-Err.ensures.drawn c.in-Some-Err.field-0-is in
     record { made = (refused.needs, c.empty_all.ensures ∙ ap (λ n. replicate n empty_slot) (let same : length c.loop-i.spare ≡ length (map state c.args.spare.now) = omega (arith, c.loop-i.auto.spare, length-map c.args.spare.now state) in same) ∙ sym c.requires.room.empty); counted = refused.rises }
 
 pub returns-in-None : goal.returns-in-None
 returns-in-None g c =
-    let all = has-ended g.B.Backend.SHARES c.args.walk.source.now (draw (g.I.Ranges.rest c.args.walk.ranges) c.args.script.now) (g.I.Ranges.rest c.loop-i.walk.ranges) c.args.script.now c.loop-i.i
+    let all = has-ended g.B.Backend.SHARES c.args.walk.source (draw c.args.walk.rest c.args.script.now) c.loop-i.walk.rest c.args.script.now c.loop-i.i
     (map (state_of {B = g.row.B.Denot} {S = g.row.B-Sole.Denot} {P = g.row.B-Start.Denot}) c.loop-i.spare) c.args.meter.now c.loop-i.meter c.end_part.new.meter c.loop-i.invariant.so_far c.in-None.ensures.drawn.0 c.in-None.ensures.drawn.1 in
     record { made = all.made; counted = all.rises }
 

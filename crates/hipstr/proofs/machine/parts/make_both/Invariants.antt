@@ -7,9 +7,7 @@ use Rattle.hipstr.proofs.machine.parts.make_both.Given as goal
 -- the parts so far stand in the first slots, and the walk and the rest of the script give the others
 abbrev pub invariant-loop-i : goal.invariant-loop-i
 invariant-loop-i g l = record {
-  so_far : SoFar g.B.Backend.SHARES l.initial.walk.source.now (draw (g.I.Ranges.rest l.initial.walk.ranges) l.script) (draw (g.I.Ranges.rest l.walk.ranges) (drop l.i l.script))
+  so_far : SoFar g.B.Backend.SHARES l.initial.walk.source (draw l.initial.walk.rest l.script) (draw l.walk.rest (drop l.i l.script))
       l.i (map state_of l.spare) l.initial.meter l.meter;
-  source : l.walk.source.now ≡ l.initial.walk.source.now;
-  ready : g.I.Ranges.ready l.walk.ranges;
-  text : g.I.Ranges.text l.walk.ranges ≡ l.walk.source.now.items;
+  source : l.walk.source ≡ l.initial.walk.source;
 }
