@@ -116,7 +116,12 @@ fn stays<H: Bytes>(rt: &impl Abort, alloc: Global, mut handle: H) {
     let mut meter = Meter::new();
     must(rt, handle.push_slice_metered(alloc, b"", &mut meter));
     assert_eq!(rt;
-        (handle.kind(), handle.len(), handle.capacity(), meter.copied()),
+        (
+            handle.kind(),
+            handle.len(),
+            handle.capacity(),
+            meter.copied()
+        ),
         (Kind::Allocated, len, capacity, 0)
     );
 }

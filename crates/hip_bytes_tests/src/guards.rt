@@ -56,7 +56,10 @@ fn lets_go<H: Bytes>(rt: &impl Abort, alloc: Global, handle: &mut H) {
 
 /// Cuts the vector that a closure is handed to five bytes.
 fn shortens<H: Bytes>(rt: &impl Abort, alloc: Global, handle: &mut H) {
-    must(rt, with_mutated(handle, alloc, |vec: &mut Vec<u8>| vec.truncate(5)));
+    must(
+        rt,
+        with_mutated(handle, alloc, |vec: &mut Vec<u8>| vec.truncate(5)),
+    );
 }
 
 fn lends_a_vector<H: Bytes>(rt: &impl Abort, alloc: Global) {

@@ -19,7 +19,8 @@ mod order;
 pub use component::{Component, Components};
 pub use hip_bytes::{
     Allocated, Appended, Backend, Block, Borrowed, Front, HipByt, INLINE_CAPACITY, Inline,
-    JsonFault, Kind, Length, Meter, MutateFault, Rc, RefMut, Room, Source, Start, Unique, mutate, with_mutated,
+    JsonFault, Kind, Length, Meter, MutateFault, Rc, RefMut, Room, Source, Start, Unique, mutate,
+    with_mutated,
 };
 pub use hip_os_str::HipOsStr;
 pub use hip_path::HipPath;

@@ -221,7 +221,10 @@ fn is_held_when_sole<B: Backend>(rt: &impl Abort, alloc: Global) {
     let other = must(rt, whole.slice_unchecked(alloc, 0..42));
     let alone = writes_held(&mut whole);
     let first = whole.as_slice().first().copied();
-    assert_eq!(rt; (alone, first), (!B::SHARES, Some(if alone { b'+' } else { b'*' })));
+    assert_eq!(rt;
+        (alone, first),
+        (!B::SHARES, Some(if alone { b'+' } else { b'*' }))
+    );
     has(rt, &other, STARS);
     drop(other);
     assert!(rt; writes_held(&mut whole));
