@@ -8,7 +8,7 @@ use crate::walks::gives;
 use hip_cuts::hip_match::chosen::Chosen;
 use hip_cuts::hip_match::pattern::Pattern;
 use hip_cuts::hip_match::predicate::{CharPred, choose_by};
-use hip_cuts::hip_match::ranges::Ranges;
+use hip_cuts::hip_match::ranges::{Ranges, RangesBack};
 use hip_cuts::hip_match::split::Split;
 use hip_cuts::{Backend, HipStr, PiecesAt, Rc, TextCuts, Unique, Walk};
 use std::alloc::{AllocError, Global};
@@ -62,18 +62,23 @@ fn places<B: Backend>(alloc: Global) -> Result<u64, AllocError> {
 }
 
 /// The same from the back.
-fn places_back<B: Backend>(alloc: Global) -> Result<u64, AllocError> {
-    let source = HipStr::<B>::borrowed("a1b22c");
-    let pattern = CharPred::with(|c| c.is_ascii_digit(), chosen_digits());
+fn places_back_of<'h, 'b, B: Backend, I: RangesBack + Drop>(
+    pieces: PiecesAt<'h, HipStr<'b, B>, I>,
+) -> Result<u64, AllocError>
+    requires { ⟦<PiecesAt<'h, HipStr<'b, B>, I> as Walk>⟧.ready pieces }
+{
     let mut seen = 0u64;
-    for (place, part) in source
-        .pieces_at(alloc, Split::new(source.as_str(), pattern))
-        .rev()
-    {
+    for (place, part) in pieces.rev() {
         drop(part?);
         seen = seen.wrapping_mul(10).wrapping_add(place as u64);
     }
     Ok(seen)
+}
+
+fn places_back<B: Backend>(alloc: Global) -> Result<u64, AllocError> {
+    let source = HipStr::<B>::borrowed("a1b22c");
+    let pattern = CharPred::with(|c| c.is_ascii_digit(), chosen_digits());
+    places_back_of(source.pieces_at(alloc, Split::new(source.as_str(), pattern)))
 }
 
 fn goes<B: Backend>(alloc: Global) -> bool {
