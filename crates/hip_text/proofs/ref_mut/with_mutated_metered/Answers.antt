@@ -1,5 +1,4 @@
-use Rattle.std.proofs.Common.{◌≡◌, ℕ, ◌+◌, ◌≤◌, length, refl, subst, sym, arith}
-use Rattle.std.specs.Fn.{FnOnceReturnsAtMut}
+use Rattle.std.proofs.Common.{length, refl, subst, sym, arith}
 use Rattle.std.specs.String.{string_bytes}
 use Rattle.hip_text.proofs.ref_mut.with_mutated_metered.Goals as goal
 
