@@ -89,7 +89,8 @@ pub fn with_mutated<S: Source, R: Drop, F: FnOnce(&mut Vec<u8>) -> R + Drop>(
     f: F,
 ) -> Result<R, MutateFault<R>>
     requires { TakesItems vec_items F.FnOnce f (S.items source.old) }
-    ensures { MutateAnswers vec_items F.FnOnce f (S.items source.old) source.old source.new S.has_put S.is_emptied S.put_needs_memory result }
+    ensures { MutateAnswers vec_items F.FnOnce f (S.items source.old) source.old source.new
+        S.has_put S.is_emptied S.put_needs_memory result }
 {
     with_mutated_metered(source, alloc, f, &mut Meter::new())
 }
@@ -102,7 +103,8 @@ pub fn with_mutated_metered<S: Source, R: Drop, F: FnOnce(&mut Vec<u8>) -> R + D
     meter: &mut Meter,
 ) -> Result<R, MutateFault<R>>
     requires { TakesItems vec_items F.FnOnce f (S.items source.old) }
-    ensures mutated { MutateAnswers vec_items F.FnOnce f (S.items source.old) source.old source.new S.has_put S.is_emptied S.put_needs_memory result }
+    ensures mutated { MutateAnswers vec_items F.FnOnce f (S.items source.old) source.old source.new
+        S.has_put S.is_emptied S.put_needs_memory result }
     ensures counted { MutateCosts vec_items F.FnOnce f (S.items source.old) meter.old meter.new S.put_cost result }
 {
     let Ok((mut lent, block)) = source.lend_vec_metered(alloc, meter) else {

@@ -88,7 +88,8 @@ pub fn with_mutated<S: TextSource, R: Drop, F: FnOnce(&mut String) -> R + Drop>(
     f: F,
 ) -> Result<R, MutateFault<R, String>>
     requires { TakesItems string_bytes F.FnOnce f (S.items source.old) }
-    ensures { MutateAnswers string_bytes F.FnOnce f (S.items source.old) source.old source.new S.has_put S.is_emptied S.put_needs_memory result }
+    ensures { MutateAnswers string_bytes F.FnOnce f (S.items source.old) source.old source.new
+        S.has_put S.is_emptied S.put_needs_memory result }
 {
     with_mutated_metered(source, alloc, f, &mut Meter::new())
 }
@@ -101,7 +102,8 @@ pub fn with_mutated_metered<S: TextSource, R: Drop, F: FnOnce(&mut String) -> R 
     meter: &mut Meter,
 ) -> Result<R, MutateFault<R, String>>
     requires { TakesItems string_bytes F.FnOnce f (S.items source.old) }
-    ensures mutated { MutateAnswers string_bytes F.FnOnce f (S.items source.old) source.old source.new S.has_put S.is_emptied S.put_needs_memory result }
+    ensures mutated { MutateAnswers string_bytes F.FnOnce f (S.items source.old) source.old source.new
+        S.has_put S.is_emptied S.put_needs_memory result }
     ensures counted { MutateCosts string_bytes F.FnOnce f (S.items source.old) meter.old meter.new S.put_cost result }
 {
     let Ok((mut lent, block)) = source.lend_string_metered(alloc, meter) else {

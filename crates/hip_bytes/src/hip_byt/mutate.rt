@@ -98,7 +98,8 @@ impl<'b, B: Backend> HipByt<'b, B> {
         f: F,
     ) -> Result<R, MutateFault<R>>
         requires { TakesItems vec_items F.FnOnce f self.old.items }
-        ensures { MutateAnswers vec_items F.FnOnce f self.old.items self.old self.new HoldsByLength IsEmptyInline (λ len. INLINE_CAPACITY < len) result }
+        ensures { MutateAnswers vec_items F.FnOnce f self.old.items self.old self.new
+            HoldsByLength IsEmptyInline (λ len. INLINE_CAPACITY < len) result }
     {
         self.with_mutated_metered(alloc, f, &mut Meter::new())
     }
@@ -111,7 +112,8 @@ impl<'b, B: Backend> HipByt<'b, B> {
         meter: &mut Meter,
     ) -> Result<R, MutateFault<R>>
         requires { TakesItems vec_items F.FnOnce f self.old.items }
-        ensures mutated { MutateAnswers vec_items F.FnOnce f self.old.items self.old self.new HoldsByLength IsEmptyInline (λ len. INLINE_CAPACITY < len) result }
+        ensures mutated { MutateAnswers vec_items F.FnOnce f self.old.items self.old self.new
+            HoldsByLength IsEmptyInline (λ len. INLINE_CAPACITY < len) result }
         ensures counted { MutateCosts vec_items F.FnOnce f self.old.items meter.old meter.new (taken_cost B.SHARES) result }
     {
         with_mutated_metered(self, alloc, f, meter)

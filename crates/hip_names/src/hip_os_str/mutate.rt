@@ -65,7 +65,8 @@ impl<'b, B: Backend> HipOsStr<'b, B> {
         f: F,
     ) -> Result<R, MutateFault<R>>
         requires { TakesItems vec_items F.FnOnce f self.old.items }
-        ensures { MutateAnswers vec_items F.FnOnce f self.old.items self.old self.new HoldsByLength IsEmptyInline (λ len. INLINE_CAPACITY < len) result }
+        ensures { MutateAnswers vec_items F.FnOnce f self.old.items self.old self.new
+            HoldsByLength IsEmptyInline (λ len. INLINE_CAPACITY < len) result }
     {
         with_mutated(self, alloc, f)
     }

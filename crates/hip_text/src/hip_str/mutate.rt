@@ -90,7 +90,8 @@ impl<'b, B: Backend> HipStr<'b, B> {
         f: F,
     ) -> Result<R, MutateFault<R, String>>
         requires { TakesItems string_bytes F.FnOnce f self.old.items }
-        ensures { MutateAnswers string_bytes F.FnOnce f self.old.items self.old self.new HoldsByLength IsEmptyInline (λ len. INLINE_CAPACITY < len) result }
+        ensures { MutateAnswers string_bytes F.FnOnce f self.old.items self.old self.new
+            HoldsByLength IsEmptyInline (λ len. INLINE_CAPACITY < len) result }
     {
         self.with_mutated_metered(alloc, f, &mut Meter::new())
     }
@@ -103,7 +104,8 @@ impl<'b, B: Backend> HipStr<'b, B> {
         meter: &mut Meter,
     ) -> Result<R, MutateFault<R, String>>
         requires { TakesItems string_bytes F.FnOnce f self.old.items }
-        ensures mutated { MutateAnswers string_bytes F.FnOnce f self.old.items self.old self.new HoldsByLength IsEmptyInline (λ len. INLINE_CAPACITY < len) result }
+        ensures mutated { MutateAnswers string_bytes F.FnOnce f self.old.items self.old self.new
+            HoldsByLength IsEmptyInline (λ len. INLINE_CAPACITY < len) result }
         ensures counted { MutateCosts string_bytes F.FnOnce f self.old.items meter.old meter.new (taken_cost B.SHARES) result }
     {
         with_mutated_metered(self, alloc, f, meter)
