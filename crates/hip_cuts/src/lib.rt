@@ -17,7 +17,7 @@
 //! }
 //! ```
 //!
-//! By a closure:
+//! By a closure, of which a line of a proof file says what passes (see `CharPred` of hip_match):
 //!
 //! ```text
 //! let digits = CharPred::new(|c| c.is_ascii_digit());

@@ -22,6 +22,7 @@ impl<B: Backend> Allocated<B> {
             self.entry reference_of result (λ now. now ≡ self.old)) }
         ensures same_reference { IfSome result (λ held. reference_of held ≡ self.entry.ghost_name) }
         ensures source { IfSome result (λ held. (source_of held).items ≡ self.old.items) }
+        ensures capacity { IfSome result (λ held. (source_of held).capacity ≡ self.old.capacity) }
         ensures sole { B.SHARES ≡ false → IsSome result }
     {
         match self.with_mut_slice(|_| ()) {
@@ -48,6 +49,7 @@ impl<'a, B: Backend> Sole<'a, Allocated<B>> {
         ensures ran { IfOk result
             (λ answer. FnOnceReturnsAtMut F.FnOnce f (source_of self.old).items answer (source_of self.new).items) }
         ensures len { length (source_of self.new).items ≡ length (source_of self.old).items }
+        ensures capacity { (source_of self.new).capacity ≡ (source_of self.old).capacity }
         ensures sole { B.SHARES ≡ false → IsOk result }
         ensures err { OnErr result (source_of self.new ≡ source_of self.old) }
         ensures handed_back { IfErr result (λ back. back ≡ f) }
