@@ -98,11 +98,19 @@ impl Gathering {
         meter: &mut Meter,
     ) -> Result<(), GrowFault>
         ensures items { OnOk result (self.new.items ≡ (self.old.items ++ gap.now) ++ bytes.now) }
-        ensures place { OnOk result (self.new.in_handle ≡ (self.old.in_handle && nat_le (length self.new.items) INLINE_CAPACITY)) }
-        ensures too_long { result ≡ Err GrowFault.TooLong → 2 ^ 64 ≤ length self.old.items + length gap.now + length bytes.now }
-        ensures memory { result ≡ Err GrowFault.Memory → self.old.in_handle ≡ true → INLINE_CAPACITY < length self.old.items + length gap.now + length bytes.now }
-        ensures counted { OnOk result (RisesAtMost meter.old meter.new (length gap.now + length bytes.now + spill_cost self.old.in_handle self.new.in_handle)) }
-        ensures copied { OnOk result (RisesAtLeast meter.old meter.new (length gap.now + length bytes.now)) }
+        ensures place { OnOk result
+            (self.new.in_handle
+            ≡ (self.old.in_handle && nat_le (length self.new.items) INLINE_CAPACITY)) }
+        ensures too_long { result ≡ Err GrowFault.TooLong
+            → 2 ^ 64 ≤ length self.old.items + length gap.now + length bytes.now }
+        ensures memory { result ≡ Err GrowFault.Memory → self.old.in_handle ≡ true
+            → INLINE_CAPACITY < length self.old.items + length gap.now + length bytes.now }
+        ensures counted { OnOk result
+            (RisesAtMost meter.old meter.new
+            (length gap.now + length bytes.now
+            + spill_cost self.old.in_handle self.new.in_handle)) }
+        ensures copied { OnOk result
+            (RisesAtLeast meter.old meter.new (length gap.now + length bytes.now)) }
         ensures refused_copies_nothing { OnErr result (meter.new ≡ meter.old) }
     {
         let Some(more) = gap.len().checked_add(bytes.len()) else {
@@ -169,9 +177,11 @@ impl Gathering {
         requires { self.in_handle ≡ nat_le (length self.items) INLINE_CAPACITY }
         ensures items { IfOk result (λ handle. handle.items ≡ self.items) }
         ensures kind { IfOk result (λ handle. handle.kind ≡ by_length (length self.items)) }
-        ensures capacity { IfOk result (λ handle. HasCapacity handle.kind (length self.items) handle.capacity) }
+        ensures capacity { IfOk result
+            (λ handle. HasCapacity handle.kind (length self.items) handle.capacity) }
         ensures memory { OnErr result (INLINE_CAPACITY < length self.items) }
-        ensures counted { RisesAtMost meter.old meter.new (unless_shared B.SHARES (length self.items)) }
+        ensures counted { RisesAtMost meter.old meter.new
+            (unless_shared B.SHARES (length self.items)) }
     {
         match self.place {
             Place::Handle(inline) => Ok(HipByt::from_inline(inline)),
@@ -198,9 +208,12 @@ fn spilled(
 ) -> Result<Filling, GrowFault>
     requires { length gap.now + length bytes.now < 2 ^ 64 }
     ensures items { IfOk result (λ filling. filling.items ≡ (inline.now ++ gap.now) ++ bytes.now) }
-    ensures too_long { result ≡ Err GrowFault.TooLong → 2 ^ 64 ≤ length inline.now + length gap.now + length bytes.now }
-    ensures counted { OnOk result (RisesAtMost meter.old meter.new (length inline.now + length gap.now + length bytes.now)) }
-    ensures copied { OnOk result (RisesAtLeast meter.old meter.new (length gap.now + length bytes.now)) }
+    ensures too_long { result ≡ Err GrowFault.TooLong
+        → 2 ^ 64 ≤ length inline.now + length gap.now + length bytes.now }
+    ensures counted { OnOk result
+        (RisesAtMost meter.old meter.new (length inline.now + length gap.now + length bytes.now)) }
+    ensures copied { OnOk result
+        (RisesAtLeast meter.old meter.new (length gap.now + length bytes.now)) }
     ensures refused_copies_nothing { OnErr result (meter.new ≡ meter.old) }
 {
     let more = gap.len() + bytes.len();

@@ -11,8 +11,10 @@ use crate::kind::Kind;
 pub fn slice_of_slice(bytes: &[u8], kind: Kind, start: usize, end: usize, from: usize, to: usize)
     requires slice { (start ≤ end) × (end ≤ length bytes.now) }
     requires slice_of_it { (from ≤ to) × (to ≤ end - start) }
-    ensures items { slice_range (slice_range bytes.now start end) from to ≡ slice_range bytes.now (start + from) (start + to) }
-    ensures range { slice_fault (Included (start + from)) (Excluded (start + to)) (length bytes.now) ≡ None }
+    ensures items { slice_range (slice_range bytes.now start end) from to
+        ≡ slice_range bytes.now (start + from) (start + to) }
+    ensures range { slice_fault (Included (start + from)) (Excluded (start + to))
+        (length bytes.now) ≡ None }
     ensures kind { cut_kind (cut_kind kind (end - start)) (to - from) ≡ cut_kind kind (to - from) }
 {}
 

@@ -105,7 +105,8 @@ pub fn with_mutated_metered<S: Source, R: Drop, F: FnOnce(&mut Vec<u8>) -> R + D
     requires { TakesItems vec_items F.FnOnce f (S.items source.old) }
     ensures mutated { MutateAnswers vec_items F.FnOnce f (S.items source.old) source.old source.new
         S.has_put S.is_emptied S.put_needs_memory result }
-    ensures counted { MutateCosts vec_items F.FnOnce f (S.items source.old) meter.old meter.new S.put_cost result }
+    ensures counted { MutateCosts vec_items F.FnOnce f
+        (S.items source.old) meter.old meter.new S.put_cost result }
 {
     let Ok((mut lent, block)) = source.lend_vec_metered(alloc, meter) else {
         return Err(MutateFault::Lend);
@@ -151,7 +152,9 @@ impl<'a, S: Source> RefMut<'a, S, Vec<u8>, Block> {
     /// The lent vector, for writing.
     #[inline]
     pub fn as_mut_vec(&mut self) -> &mut Vec<u8>
-        ensures* writes_back { sem 𝓛 (follows (the_row (record { mir = named 1; lft = [] }) S.row bytes_row block_row) bytes_row self.entry.ghost_name result.ghost_name (with_vec self.old)) }
+        ensures* writes_back { sem 𝓛
+            (follows (the_row (record { mir = named 1; lft = [] }) S.row bytes_row block_row)
+            bytes_row self.entry.ghost_name result.ghost_name (with_vec self.old)) }
         ensures items { result.now ≡ lent_vec self.old }
     {
         &mut self.vec
@@ -171,7 +174,8 @@ impl<'a, S: Source> RefMut<'a, S, Vec<u8>, Block> {
     pub fn finish_metered(self, alloc: Global, meter: &mut Meter) -> Result<(), Vec<u8>>
         ensures put { OnOk result (S.has_put (self.exit.0.now) (lent_items self.entry)) }
         ensures memory { OnErr result (S.put_needs_memory (length (lent_items self.entry))) }
-        ensures counted { RisesAtMost meter.old meter.new (S.put_cost (length (lent_items self.entry))) }
+        ensures counted { RisesAtMost meter.old meter.new
+            (S.put_cost (length (lent_items self.entry))) }
         ensures err { OnErr result (self.exit.0.now ≡ lent_source self.entry) }
         ensures handed_back { IfErr result (λ back. back ≡ lent_vec self.entry) }
     {

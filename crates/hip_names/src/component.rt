@@ -57,7 +57,8 @@ fn start_of(path: &[u8]) -> Option<Component<'_>>
 #[tactic(auto, using(crate::proofs::Names::naming))]
 #[inline]
 pub(crate) fn next_name<'a>(rest: &mut &'a [u8]) -> Option<Component<'a>>
-    ensures first { MatchOption result ((names rest.old.now ≡ []) × (names rest.new.now ≡ [])) (λ component. names rest.old.now ≡ shown component ∷ names rest.new.now) }
+    ensures first { MatchOption result ((names rest.old.now ≡ []) × (names rest.new.now ≡ []))
+        (λ component. names rest.old.now ≡ shown component ∷ names rest.new.now) }
 {
     while !rest.is_empty() {
         let all: &'a [u8] = *rest;

@@ -278,7 +278,8 @@ impl<B: Backend> Allocated<B> {
     pub fn try_into_vec_metered(self, alloc: Global, meter: &mut Meter) -> Result<Vec<u8>, Self>
         ensures items { IfOk result (λ vec. vec.items ≡ self.items) }
         ensures room { IfOk result (λ vec. self.capacity ≤ vec_capacity vec) }
-        ensures counted { RisesAtMost meter.old meter.new (unless_shared B.SHARES (length self.items)) }
+        ensures counted { RisesAtMost meter.old meter.new
+            (unless_shared B.SHARES (length self.items)) }
         ensures handed_back { IfErr result (λ back. back ≡ self) }
         ensures refused_copies_nothing { OnErr result (meter.new ≡ meter.old) }
     {
@@ -295,7 +296,8 @@ impl<B: Backend> Allocated<B> {
     ) -> Result<(Vec<u8>, Block), Self>
         ensures items { IfOk result (λ taken. taken.0.items ≡ self.items) }
         ensures room { IfOk result (λ taken. self.capacity ≤ vec_capacity taken.0) }
-        ensures counted { RisesAtMost meter.old meter.new (unless_shared B.SHARES (length self.items)) }
+        ensures counted { RisesAtMost meter.old meter.new
+            (unless_shared B.SHARES (length self.items)) }
         ensures handed_back { IfErr result (λ back. back ≡ self) }
         ensures refused_copies_nothing { OnErr result (meter.new ≡ meter.old) }
     {
@@ -392,7 +394,8 @@ impl<B: Backend> Allocated<B> {
     pub fn shrink_to(&mut self, alloc: Global, least: usize) -> Result<(), AllocError>
         ensures items { self.new.items ≡ self.old.items }
         ensures fits { length self.new.items ≤ self.new.capacity }
-        ensures kept { min self.old.capacity (max least (length self.old.items)) ≤ self.new.capacity }
+        ensures kept { min self.old.capacity (max least (length self.old.items))
+            ≤ self.new.capacity }
         ensures capacity { self.new.capacity ≤ self.old.capacity }
         ensures memory { OnErr result (max least (length self.old.items) < self.old.capacity) }
         ensures err { OnErr result (self.new ≡ self.old) }
@@ -409,7 +412,8 @@ impl<B: Backend> Allocated<B> {
     ) -> Result<(), AllocError>
         ensures items { self.new.items ≡ self.old.items }
         ensures fits { length self.new.items ≤ self.new.capacity }
-        ensures kept { min self.old.capacity (max least (length self.old.items)) ≤ self.new.capacity }
+        ensures kept { min self.old.capacity (max least (length self.old.items))
+            ≤ self.new.capacity }
         ensures capacity { self.new.capacity ≤ self.old.capacity }
         ensures counted { RisesAtMost meter.old meter.new
             (times_copied B.SHARES (length self.old.items)) }

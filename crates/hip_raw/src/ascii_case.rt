@@ -56,7 +56,8 @@ impl Case for Lower {
 #[inline(always)]
 fn move_block<C: Case>(bytes: &mut [u8], at: usize)
     requires { at + LANES ≤ length bytes.old }
-    ensures done { take (at + LANES) bytes.new ≡ take at bytes.old ++ map C.moved (take LANES (drop at bytes.old)) }
+    ensures done { take (at + LANES) bytes.new
+        ≡ take at bytes.old ++ map C.moved (take LANES (drop at bytes.old)) }
     ensures kept { drop (at + LANES) bytes.new ≡ drop (at + LANES) bytes.old }
 {
     C::move_lanes(u8x64::from_slice(&bytes[at..])).copy_to_slice(&mut bytes[at..]);

@@ -47,7 +47,8 @@ pub trait Backend: Drop + Sized {
         meter: &mut Meter,
     ) -> Result<(Self, usize), AllocError>
         requires { start + len ≤ length (items self.now) }
-        ensures items { IfOk result (λ made. window (items made.0) made.1 len ≡ window (items self.now) start len) }
+        ensures items { IfOk result
+            (λ made. window (items made.0) made.1 len ≡ window (items self.now) start len) }
         ensures within { IfOk result (λ made. made.1 + len ≤ length (items made.0)) }
         ensures position { SHARES ≡ false → IfOk result (λ made. made.1 ≡ 0) }
         ensures fits { IfOk result (λ made. length (items made.0) ≤ capacity made.0) }
@@ -65,7 +66,8 @@ pub trait Backend: Drop + Sized {
     fn try_into_vec(self, alloc: Global, meter: &mut Meter) -> Result<Vec<u8>, Self>
         ensures items { IfOk result (λ vec. vec.items ≡ items self) }
         ensures room { IfOk result (λ vec. capacity self ≤ vec_capacity vec) }
-        ensures counted { RisesAtMost meter.old meter.new (unless_shared SHARES (length (items self))) }
+        ensures counted { RisesAtMost meter.old meter.new
+            (unless_shared SHARES (length (items self))) }
         ensures handed_back { IfErr result (λ back. back ≡ self) }
         ensures refused_copies_nothing { OnErr result (meter.new ≡ meter.old) };
 
@@ -82,7 +84,8 @@ pub trait Backend: Drop + Sized {
 
     /// What is written in place, unless the owner is shared.
     fn writable(&mut self) -> Option<&mut Self::Sole>
-        ensures* writes_back { sem 𝓛 (LendsIf Self.row Self.Sole.row self.entry result (with_sole self.old) self.old) }
+        ensures* writes_back { sem 𝓛
+            (LendsIf Self.row Self.Sole.row self.entry result (with_sole self.old) self.old) }
         ensures items { IfSome result (λ sole. Self.Sole.items sole.now ≡ items self.old) }
         ensures capacity { IfSome result (λ sole. Self.Sole.capacity sole.now ≡ capacity self.old) }
         ensures bound { length (items self.old) < 2 ^ 64 }
@@ -91,19 +94,23 @@ pub trait Backend: Drop + Sized {
     /// Cuts the list to `keep` bytes and puts the addition behind them, unless the owner is shared. Room is taken before the cut.
     fn append(&mut self, alloc: Global, keep: usize, addition: &[u8], meter: &mut Meter) -> Appended
         requires { keep ≤ length (items self.old) }
-        ensures items { OnDone result (items self.new ≡ take keep (items self.old) ++ addition.now) }
+        ensures items { OnDone result
+            (items self.new ≡ take keep (items self.old) ++ addition.now) }
         ensures capacity { SHARES ≡ false → capacity self.old ≤ capacity self.new }
         ensures fits { length (items self.new) ≤ capacity self.new }
         ensures bound { length (items self.new) < 2 ^ 64 }
-        ensures counted { RisesAtMost meter.old meter.new (length addition.now + unless_shared SHARES keep) }
+        ensures counted { RisesAtMost meter.old meter.new
+            (length addition.now + unless_shared SHARES keep) }
         ensures copied { OnDone result (RisesAtLeast meter.old meter.new (length addition.now)) }
         ensures exact { SHARES ≡ false → OnDone result
             (RisesBy meter.old meter.new (append_copies (capacity self.old) keep (length addition.now))) }
         ensures potential { SHARES ≡ false → OnDone result (meter.new + pot (length (items self.new)) (capacity self.new)
             ≤ meter.old + pot keep (capacity self.old) + 3 * length addition.now) }
         ensures shared { OnShared result (SHARES ≡ true) }
-        ensures memory { OnMemory result (SHARES ≡ false → capacity self.old < keep + length addition.now) }
-        ensures refused { OnRefused result ((items self.new ≡ items self.old) × (capacity self.new ≡ capacity self.old)) }
+        ensures memory { OnMemory result
+            (SHARES ≡ false → capacity self.old < keep + length addition.now) }
+        ensures refused { OnRefused result
+            ((items self.new ≡ items self.old) × (capacity self.new ≡ capacity self.old)) }
         ensures refused_copies_nothing { OnRefused result (meter.new ≡ meter.old) };
 
     /// An owner of a copy of these bytes, with room for so many.
@@ -149,7 +156,8 @@ pub trait Backend: Drop + Sized {
     fn try_take_vec(self, alloc: Global, meter: &mut Meter) -> Result<(Vec<u8>, Block), Self>
         ensures items { IfOk result (λ taken. taken.0.items ≡ items self) }
         ensures room { IfOk result (λ taken. capacity self ≤ vec_capacity taken.0) }
-        ensures counted { RisesAtMost meter.old meter.new (unless_shared SHARES (length (items self))) }
+        ensures counted { RisesAtMost meter.old meter.new
+            (unless_shared SHARES (length (items self))) }
         ensures handed_back { IfErr result (λ back. back ≡ self) }
         ensures refused_copies_nothing { OnErr result (meter.new ≡ meter.old) }
     {

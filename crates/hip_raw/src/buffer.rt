@@ -43,7 +43,8 @@ fn fill_zeros(cells: &mut Cells<u8>, base: Base<u8>, from: usize, count: usize)
     requires small { length cells.old.slots < 2 ^ 63 }
     ensures at { cells.new.at ≡ cells.old.at }
     ensures places { length cells.new.slots ≡ length cells.old.slots }
-    ensures filled { take (from + count) cells.new.slots ≡ take from cells.old.slots ++ replicate count (Some 0) }
+    ensures filled { take (from + count) cells.new.slots
+        ≡ take from cells.old.slots ++ replicate count (Some 0) }
 {
     for i in 0..count {
         cells.write(base, from + i, 0);
@@ -59,7 +60,8 @@ fn fill_ends(cells: &mut Cells<u8>, base: Base<u8>, from: usize, count: usize, w
     requires reach { (width ≤ count) × (count ≤ 2 * width) }
     ensures at { cells.new.at ≡ cells.old.at }
     ensures places { length cells.new.slots ≡ length cells.old.slots }
-    ensures filled { take (from + count) cells.new.slots ≡ take from cells.old.slots ++ replicate count (Some 0) }
+    ensures filled { take (from + count) cells.new.slots
+        ≡ take from cells.old.slots ++ replicate count (Some 0) }
 {
     fill_zeros(cells, base, from, width);
     fill_zeros(cells, base, from + (count - width), width);
@@ -73,7 +75,8 @@ fn fill_range(cells: &mut Cells<u8>, base: Base<u8>, from: usize, count: usize)
     requires small { length cells.old.slots < 2 ^ 63 }
     ensures at { cells.new.at ≡ cells.old.at }
     ensures places { length cells.new.slots ≡ length cells.old.slots }
-    ensures filled { take (from + count) cells.new.slots ≡ take from cells.old.slots ++ replicate count (Some 0) }
+    ensures filled { take (from + count) cells.new.slots
+        ≡ take from cells.old.slots ++ replicate count (Some 0) }
 {
     match count {
         0 => (),

@@ -30,7 +30,8 @@ pub trait ByteSink {
     fn write(&mut self, bytes: &[u8]) -> Result<usize, IoFault>
         ensures within { WritesAtMost result bytes.now }
         ensures bytes { WriteAppends (written self.old) (written self.new) result bytes.now }
-        ensures full { IfOk result (λ count. count ≡ 0 → 0 < length bytes.now → may_be_full self.new) }
+        ensures full { IfOk result
+            (λ count. count ≡ 0 → 0 < length bytes.now → may_be_full self.new) }
         ensures failures { CountsRefusal result (failures self.old) (failures self.new) };
 
     /// How many writes failed. The count stays at `u64::MAX`.

@@ -63,9 +63,11 @@ impl<'a> ByteSource for SliceSource<'a> {
     #[inline]
     fn read(&mut self, room: &mut [u8]) -> Result<usize, IoFault>
         ensures within { ReadsAtMost result room.new }
-        ensures bytes { ReadConsumes (Some (rest_of self.old)) (Some (rest_of self.new)) result room.new }
+        ensures bytes { ReadConsumes (Some (rest_of self.old))
+            (Some (rest_of self.new)) result room.new }
         ensures failures { CountsRefusal result 0 0 }
-        ensures as_many { IfOk result (λ count. count ≡ min (length room.old) (length (rest_of self.old))) }
+        ensures as_many { IfOk result
+            (λ count. count ≡ min (length room.old) (length (rest_of self.old))) }
     {
         let count = room.len().min(self.rest.len());
         fill_counted(&mut room[..count], &self.rest[..count], &mut Meter::new());

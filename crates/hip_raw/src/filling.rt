@@ -101,7 +101,8 @@ impl Filling {
         ensures items { OnOk result (self.new.items ≡ (self.old.items ++ gap.now) ++ bytes.now) }
         ensures capacity { self.old.capacity ≤ self.new.capacity }
         ensures counted { RisesAtMost meter.old meter.new (length gap.now + length bytes.now) }
-        ensures copied { OnOk result (RisesAtLeast meter.old meter.new (length gap.now + length bytes.now)) }
+        ensures copied { OnOk result
+            (RisesAtLeast meter.old meter.new (length gap.now + length bytes.now)) }
         ensures memory { OnErr result
             (self.old.capacity < length self.old.items + length gap.now + length bytes.now) }
         ensures err { OnErr result (self.new ≡ self.old) }

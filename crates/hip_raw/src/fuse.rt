@@ -60,11 +60,13 @@ impl<T: Read> Read for Fuse<T> {
 
     fn read(&mut self, buf: &mut [u8]) -> io::Result<usize>
         ensures bound { ReadsAtMost result buf.new }
-        ensures bytes { ReadConsumes (T.remaining (inner_of self.old)) (T.remaining (inner_of self.new)) result buf.new }
+        ensures bytes { ReadConsumes (T.remaining (inner_of self.old))
+            (T.remaining (inner_of self.new)) result buf.new }
         ensures few { IfOk result (λ count. count ≤ max 1 (most_of self.old)) }
         ensures most { most_of self.new ≡ most_of self.old }
         ensures calls { calls_before self.new ≡ calls_before self.old - 1 }
-        ensures failing { calls_before self.old ≡ 1 → IsErr result × (inner_of self.new ≡ inner_of self.old) }
+        ensures failing { calls_before self.old ≡ 1
+            → IsErr result × (inner_of self.new ≡ inner_of self.old) }
     {
         self.burn()?;
         let most = self.most.max(1).min(buf.len());
@@ -77,11 +79,13 @@ impl<T: Write> Write for Fuse<T> {
 
     fn write(&mut self, buf: &[u8]) -> io::Result<usize>
         ensures bound { WritesAtMost result buf.now }
-        ensures bytes { WriteAppends (T.contents (inner_of self.old)) (T.contents (inner_of self.new)) result buf.now }
+        ensures bytes { WriteAppends (T.contents (inner_of self.old))
+            (T.contents (inner_of self.new)) result buf.now }
         ensures few { IfOk result (λ count. count ≤ most_of self.old) }
         ensures most { most_of self.new ≡ most_of self.old }
         ensures calls { calls_before self.new ≡ calls_before self.old - 1 }
-        ensures failing { calls_before self.old ≡ 1 → IsErr result × (inner_of self.new ≡ inner_of self.old) }
+        ensures failing { calls_before self.old ≡ 1
+            → IsErr result × (inner_of self.new ≡ inner_of self.old) }
     {
         self.burn()?;
         let most = self.most.min(buf.len());

@@ -84,7 +84,8 @@ impl<const N: usize, L: Length<N>> Inline<N, L> {
         ensures fits { IsSome result ↔ (length bytes.now ≤ N) }
         ensures items { IfSome result (λ inline. inline ≡ bytes.now) }
         ensures counted { RisesAtMost meter.old meter.new (length bytes.now) }
-        ensures exact { IfSome result (λ inline. meter.new ≡ count_from meter.old (length bytes.now)) }
+        ensures exact { IfSome result
+            (λ inline. meter.new ≡ count_from meter.old (length bytes.now)) }
         ensures refused_copies_nothing { IfNone result (meter.new ≡ meter.old) }
     {
         if bytes.len() <= N {

@@ -11,10 +11,13 @@ use hip_bytes::Backend;
 /// [`hip_bytes::laws::slice_of_slice`].)
 pub fn slice_of_slice(text: &str, start: usize, end: usize, from: usize, to: usize)
     requires slice { (start ≤ end) × IsCharBoundary text.now end }
-    requires slice_of_it { (from ≤ to) × IsCharBoundary (slice_range text.now start end) from × IsCharBoundary (slice_range text.now start end) to }
-    ensures items { slice_range (slice_range text.now start end) from to ≡ slice_range text.now (start + from) (start + to) }
+    requires slice_of_it { (from ≤ to) × IsCharBoundary (slice_range text.now start end) from
+        × IsCharBoundary (slice_range text.now start end) to }
+    ensures items { slice_range (slice_range text.now start end) from to
+        ≡ slice_range text.now (start + from) (start + to) }
     ensures ordered { (start + from ≤ start + to) × (start + to ≤ length text.now) }
-    ensures boundaries { IsCharBoundary text.now (start + from) × IsCharBoundary text.now (start + to) }
+    ensures boundaries { IsCharBoundary text.now (start + from)
+        × IsCharBoundary text.now (start + to) }
 {}
 
 /// The bytes of a text are the same text again.

@@ -50,7 +50,8 @@ pub trait TextSource: Drop {
     ) -> Result<(), String>
         ensures put { OnOk result (has_put self.new (string_bytes string)) }
         ensures memory { OnErr result (put_needs_memory (length (string_bytes string))) }
-        ensures counted { RisesAtMost meter.old meter.new (put_cost (length (string_bytes string))) }
+        ensures counted { RisesAtMost meter.old meter.new
+            (put_cost (length (string_bytes string))) }
         ensures err { OnErr result (self.new ≡ self.old) }
         ensures handed_back { IfErr result (λ back. back ≡ string) };
 }
@@ -104,7 +105,8 @@ pub fn with_mutated_metered<S: TextSource, R: Drop, F: FnOnce(&mut String) -> R 
     requires { TakesItems string_bytes F.FnOnce f (S.items source.old) }
     ensures mutated { MutateAnswers string_bytes F.FnOnce f (S.items source.old) source.old source.new
         S.has_put S.is_emptied S.put_needs_memory result }
-    ensures counted { MutateCosts string_bytes F.FnOnce f (S.items source.old) meter.old meter.new S.put_cost result }
+    ensures counted { MutateCosts string_bytes F.FnOnce f
+        (S.items source.old) meter.old meter.new S.put_cost result }
 {
     let Ok((mut lent, block)) = source.lend_string_metered(alloc, meter) else {
         return Err(MutateFault::Lend);
@@ -154,7 +156,9 @@ impl<'a, S: TextSource> RefMut<'a, S, String, Block> {
     /// The lent `String`, for writing.
     #[inline]
     pub fn as_mut_string(&mut self) -> &mut String
-        ensures* writes_back { sem 𝓛 (follows (the_row (record { mir = named 1; lft = [] }) S.row string_row block_row) string_row self.entry.ghost_name result.ghost_name (with_string self.old)) }
+        ensures* writes_back { sem 𝓛
+            (follows (the_row (record { mir = named 1; lft = [] }) S.row string_row block_row)
+            string_row self.entry.ghost_name result.ghost_name (with_string self.old)) }
         ensures items { result.now ≡ lent_string self.old }
     {
         &mut self.string
@@ -174,7 +178,8 @@ impl<'a, S: TextSource> RefMut<'a, S, String, Block> {
     pub fn finish_metered(self, alloc: Global, meter: &mut Meter) -> Result<(), String>
         ensures put { OnOk result (S.has_put (self.exit.0.now) (lent_items self.entry)) }
         ensures memory { OnErr result (S.put_needs_memory (length (lent_items self.entry))) }
-        ensures counted { RisesAtMost meter.old meter.new (S.put_cost (length (lent_items self.entry))) }
+        ensures counted { RisesAtMost meter.old meter.new
+            (S.put_cost (length (lent_items self.entry))) }
         ensures err { OnErr result (self.exit.0.now ≡ lent_source self.entry) }
         ensures handed_back { IfErr result (λ back. back ≡ lent_string self.entry) }
     {

@@ -15,8 +15,10 @@ const AT_ONCE: usize = 4096;
 impl<'b, B: Backend> HipByt<'b, B> {
     /// Writes the Borsh form: the length as four bytes, the least first, and then the bytes. A write that fails isn't tried again.
     pub fn serialize<W: ByteSink>(&self, sink: &mut W) -> Result<(), BorshFault>
-        ensures written { BorshWrites self.now.items (W.written sink.old) (W.written sink.new) result }
-        ensures failures { CountsWrites result (W.may_be_full sink.new) (W.failures sink.old) (W.failures sink.new) }
+        ensures written { BorshWrites self.now.items (W.written sink.old)
+            (W.written sink.new) result }
+        ensures failures { CountsWrites result (W.may_be_full sink.new) (W.failures sink.old)
+            (W.failures sink.new) }
         ensures too_long { result ≡ Err BorshFault.TooLong → sink.new ≡ sink.old }
     {
         let bytes = self.as_slice();
@@ -55,7 +57,8 @@ impl<'b, B: Backend> HipByt<'b, B> {
 /// Writes all these bytes.
 fn write_whole<W: ByteSink>(sink: &mut W, bytes: &[u8]) -> Result<(), IoFault>
     ensures moved { MovesOut bytes.now (W.written sink.old) (W.written sink.new) result }
-    ensures failures { CountsOut result (W.may_be_full sink.new) (W.failures sink.old) (W.failures sink.new) }
+    ensures failures { CountsOut result (W.may_be_full sink.new) (W.failures sink.old)
+        (W.failures sink.new) }
 {
     let mut done = 0;
     while done < bytes.len() {
@@ -70,7 +73,8 @@ fn write_whole<W: ByteSink>(sink: &mut W, bytes: &[u8]) -> Result<(), IoFault>
 
 /// Reads until the room is full.
 fn read_whole<R: ByteSource>(source: &mut R, room: &mut [u8]) -> Result<(), BorshFault>
-    ensures moved { MovesIn (λ _. room.new) (length room.old) (R.to_come source.old) (R.to_come source.new) result }
+    ensures moved { MovesIn (λ _. room.new) (length room.old) (R.to_come source.old)
+        (R.to_come source.new) result }
     ensures failures { CountsReads result (R.failures source.old) (R.failures source.new) }
     ensures memory { result ≡ Err BorshFault.Memory → ⊥ }
     ensures bytes { (i : ℕ) → slice_index room.new i < 256 }

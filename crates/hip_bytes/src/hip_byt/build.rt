@@ -32,8 +32,10 @@ impl<'b, B: Backend> HipByt<'b, B> {
         meter: &mut Meter,
     ) -> Result<Self, GrowFault>
         ensures repeated { RepeatAnswers self.now n result }
-        ensures counted { RisesAtMost meter.old meter.new (repeat_cost B.SHARES self.now.kind (length self.now.items) n) }
-        ensures copied { n ≢ 1 → IfOk result (λ handle. RisesAtLeast meter.old meter.new (length handle.items)) }
+        ensures counted { RisesAtMost meter.old meter.new
+            (repeat_cost B.SHARES self.now.kind (length self.now.items) n) }
+        ensures copied { n ≢ 1
+            → IfOk result (λ handle. RisesAtLeast meter.old meter.new (length handle.items)) }
         ensures refused_counts_none { result ≡ Err GrowFault.TooLong → meter.new ≡ meter.old }
     {
         if self.is_empty() {
@@ -63,8 +65,10 @@ impl<'b, B: Backend> HipByt<'b, B> {
         meter: &mut Meter,
     ) -> Result<Self, GrowFault>
         ensures joined { JoinAnswers (joined [] slices.now) result }
-        ensures counted { RisesAtMost meter.old meter.new (join_cost B.SHARES (length (joined [] slices.now))) }
-        ensures copied { IfOk result (λ handle. RisesAtLeast meter.old meter.new (length handle.items)) }
+        ensures counted { RisesAtMost meter.old meter.new
+            (join_cost B.SHARES (length (joined [] slices.now))) }
+        ensures copied { IfOk result
+            (λ handle. RisesAtLeast meter.old meter.new (length handle.items)) }
         ensures refused_counts_none { result ≡ Err GrowFault.TooLong → meter.new ≡ meter.old }
     {
         Self::join_slices_metered(alloc, slices, &[], meter)
@@ -85,8 +89,10 @@ impl<'b, B: Backend> HipByt<'b, B> {
         meter: &mut Meter,
     ) -> Result<Self, GrowFault>
         ensures joined { JoinAnswers (joined sep.now slices.now) result }
-        ensures counted { RisesAtMost meter.old meter.new (join_cost B.SHARES (length (joined sep.now slices.now))) }
-        ensures copied { IfOk result (λ handle. RisesAtLeast meter.old meter.new (length handle.items)) }
+        ensures counted { RisesAtMost meter.old meter.new
+            (join_cost B.SHARES (length (joined sep.now slices.now))) }
+        ensures copied { IfOk result
+            (λ handle. RisesAtLeast meter.old meter.new (length handle.items)) }
         ensures refused_counts_none { result ≡ Err GrowFault.TooLong → meter.new ≡ meter.old }
     {
         Self::join_piece_slices_metered(alloc, slices, sep, meter)
@@ -102,8 +108,10 @@ impl<'b, B: Backend> HipByt<'b, B> {
         requires separator { P.keeps sep.now }
         ensures joined { JoinAnswers (join_by P.bytes sep.now pieces.now) result }
         ensures kept { IfOk result (λ handle. P.keeps handle.items) }
-        ensures counted { RisesAtMost meter.old meter.new (join_cost B.SHARES (length (join_by P.bytes sep.now pieces.now))) }
-        ensures copied { IfOk result (λ handle. RisesAtLeast meter.old meter.new (length handle.items)) }
+        ensures counted { RisesAtMost meter.old meter.new
+            (join_cost B.SHARES (length (join_by P.bytes sep.now pieces.now))) }
+        ensures copied { IfOk result
+            (λ handle. RisesAtLeast meter.old meter.new (length handle.items)) }
         ensures refused_counts_none { result ≡ Err GrowFault.TooLong → meter.new ≡ meter.old }
     {
         let Some(len) = joined_len(pieces, sep) else {
@@ -127,7 +135,8 @@ fn gap(i: usize, sep: &[u8]) -> &[u8]
 
 /// How many bytes a join has, if that is a `usize`.
 fn joined_len<P: Piece>(pieces: &[P], sep: &[u8]) -> Option<usize>
-    ensures { SomeIff result (length (join_by P.bytes sep.now pieces.now) < 2 ^ 64) (length (join_by P.bytes sep.now pieces.now)) }
+    ensures { SomeIff result (length (join_by P.bytes sep.now pieces.now) < 2 ^ 64)
+        (length (join_by P.bytes sep.now pieces.now)) }
 {
     let mut len = pieces.len().saturating_sub(1).checked_mul(sep.len())?;
     for piece in pieces {
@@ -175,7 +184,8 @@ impl<'b, B: Backend> HipByt<'b, B> {
     fn cloned(&self, alloc: Global, meter: &mut Meter) -> Result<Self, GrowFault>
         ensures clone { CloneAnswers self.now result }
         ensures memory { IfErr result (λ fault. fault ≡ GrowFault.Memory) }
-        ensures counted { RisesAtMost meter.old meter.new (clone_cost B.SHARES self.now.kind (length self.now.items)) }
+        ensures counted { RisesAtMost meter.old meter.new
+            (clone_cost B.SHARES self.now.kind (length self.now.items)) }
         ensures bound { length self.now.items < 2 ^ 64 }
     {
         let _len = self.len();

@@ -29,7 +29,8 @@ impl<'b, B: Backend> HipByt<'b, B> {
         meter: &mut Meter,
     ) -> Result<HipByt<'static, B>, Self>
         ensures owned { OwnedAnswers self.entry result }
-        ensures counted { RisesAtMost meter.old meter.new (owned_cost B.SHARES self.entry.kind (length self.entry.items)) }
+        ensures counted { RisesAtMost meter.old meter.new
+            (owned_cost B.SHARES self.entry.kind (length self.entry.items)) }
     {
         let _capacity = self.capacity();
         match self.bare.repr {
@@ -98,9 +99,12 @@ impl<'b, B: Backend> HipByt<'b, B> {
     #[inline]
     pub fn from_cow(alloc: Global, cow: CowSlice<'b, u8>) -> Result<Self, CowSlice<'b, u8>>
         ensures items { IfOk result (λ handle. handle.items ≡ cow_slice_items cow.entry) }
-        ensures borrowed { IsBorrowedSlice cow.entry → IsOkAnd result (λ handle. handle.kind ≡ Kind.Borrowed) }
-        ensures owned { IsOwnedSlice cow.entry → IfOk result (λ handle. handle.kind ≡ by_length (length (cow_slice_items cow.entry))) }
-        ensures capacity { IfOk result (λ handle. HasCapacity handle.kind (length handle.items) handle.capacity) }
+        ensures borrowed { IsBorrowedSlice cow.entry
+            → IsOkAnd result (λ handle. handle.kind ≡ Kind.Borrowed) }
+        ensures owned { IsOwnedSlice cow.entry
+            → IfOk result (λ handle. handle.kind ≡ by_length (length (cow_slice_items cow.entry))) }
+        ensures capacity { IfOk result
+            (λ handle. HasCapacity handle.kind (length handle.items) handle.capacity) }
         ensures memory { OnErr result (INLINE_CAPACITY < length (cow_slice_items cow.entry)) }
         ensures handed_back { IfErr result (λ back. back ≡ cow.entry) }
     {

@@ -27,7 +27,8 @@ impl<'b, B: Backend> HipByt<'b, B> {
     #[inline]
     pub fn clone_metered(&self, alloc: Global, meter: &mut Meter) -> Result<Self, AllocError>
         ensures clone { CloneAnswers self.now result }
-        ensures counted { RisesAtMost meter.old meter.new (clone_cost B.SHARES self.now.kind (length self.now.items)) }
+        ensures counted { RisesAtMost meter.old meter.new
+            (clone_cost B.SHARES self.now.kind (length self.now.items)) }
     {
         let repr = match &self.bare.repr {
             Repr::Inline(inline) => Repr::Inline(inline.clone_metered(meter)),
@@ -52,7 +53,8 @@ impl<'b, B: Backend> HipByt<'b, B> {
         requires ordered { start ≤ end }
         requires in_bounds { end ≤ length self.now.items }
         ensures part { CutAnswers self.now (slice_range self.now.items start end) result }
-        ensures counted { RisesAtMost meter.old meter.new (cut_cost B.SHARES self.now.kind (end - start)) }
+        ensures counted { RisesAtMost meter.old meter.new
+            (cut_cost B.SHARES self.now.kind (end - start)) }
     {
         let repr = match &self.bare.repr {
             Repr::Inline(inline) => {
@@ -116,7 +118,8 @@ impl<'b, B: Backend> HipByt<'b, B> {
         alloc: Global,
         range: R,
     ) -> Result<Self, SliceRefusal<'_, 'b, B>>
-        ensures slice { R.has_bounds range → SliceAnswers self.now (R.start_bound range) (R.end_bound range) result }
+        ensures slice { R.has_bounds range
+            → SliceAnswers self.now (R.start_bound range) (R.end_bound range) result }
     {
         self.try_slice_metered(alloc, range, &mut Meter::new())
     }
@@ -129,8 +132,11 @@ impl<'b, B: Backend> HipByt<'b, B> {
         range: R,
         meter: &mut Meter,
     ) -> Result<Self, SliceRefusal<'_, 'b, B>>
-        ensures slice { R.has_bounds range → SliceAnswers self.now (R.start_bound range) (R.end_bound range) result }
-        ensures counted { R.has_bounds range → RisesAtMost meter.old meter.new (slice_cost B.SHARES self.now (R.start_bound range) (R.end_bound range)) }
+        ensures slice { R.has_bounds range
+            → SliceAnswers self.now (R.start_bound range) (R.end_bound range) result }
+        ensures counted { R.has_bounds range
+            → RisesAtMost meter.old meter.new
+            (slice_cost B.SHARES self.now (R.start_bound range) (R.end_bound range)) }
     {
         let low = bound_of(range.start_bound());
         let high = bound_of(range.end_bound());
@@ -141,8 +147,10 @@ impl<'b, B: Backend> HipByt<'b, B> {
     #[inline]
     pub fn slice<R: RangeBounds<usize>>(&self, alloc: Global, range: R) -> Result<Self, AllocError>
         requires bounds { R.has_bounds range }
-        requires valid { slice_fault (R.start_bound range) (R.end_bound range) (length self.now.items) ≡ None }
-        ensures part { CutAnswers self.now (slice_of (R.start_bound range) (R.end_bound range) self.now.items) result }
+        requires valid { slice_fault (R.start_bound range) (R.end_bound range)
+            (length self.now.items) ≡ None }
+        ensures part { CutAnswers self.now
+            (slice_of (R.start_bound range) (R.end_bound range) self.now.items) result }
     {
         self.slice_metered(alloc, range, &mut Meter::new())
     }
@@ -156,9 +164,13 @@ impl<'b, B: Backend> HipByt<'b, B> {
         meter: &mut Meter,
     ) -> Result<Self, AllocError>
         requires bounds { R.has_bounds range }
-        requires valid { slice_fault (R.start_bound range) (R.end_bound range) (length self.now.items) ≡ None }
-        ensures part { CutAnswers self.now (slice_of (R.start_bound range) (R.end_bound range) self.now.items) result }
-        ensures counted { RisesAtMost meter.old meter.new (cut_cost B.SHARES self.now.kind (length (slice_of (R.start_bound range) (R.end_bound range) self.now.items))) }
+        requires valid { slice_fault (R.start_bound range) (R.end_bound range)
+            (length self.now.items) ≡ None }
+        ensures part { CutAnswers self.now
+            (slice_of (R.start_bound range) (R.end_bound range) self.now.items) result }
+        ensures counted { RisesAtMost meter.old meter.new
+            (cut_cost B.SHARES self.now.kind
+            (length (slice_of (R.start_bound range) (R.end_bound range) self.now.items))) }
     {
         let (start, end) = sound_range(
             bound_of(range.start_bound()),
@@ -176,8 +188,10 @@ impl<'b, B: Backend> HipByt<'b, B> {
         range: R,
     ) -> Result<Self, AllocError>
         requires bounds { R.has_bounds range }
-        requires valid { slice_fault (R.start_bound range) (R.end_bound range) (length self.now.items) ≡ None }
-        ensures part { CutAnswers self.now (slice_of (R.start_bound range) (R.end_bound range) self.now.items) result }
+        requires valid { slice_fault (R.start_bound range) (R.end_bound range)
+            (length self.now.items) ≡ None }
+        ensures part { CutAnswers self.now
+            (slice_of (R.start_bound range) (R.end_bound range) self.now.items) result }
     {
         self.slice_metered(alloc, range, &mut Meter::new())
     }
@@ -191,9 +205,13 @@ impl<'b, B: Backend> HipByt<'b, B> {
         meter: &mut Meter,
     ) -> Result<Self, AllocError>
         requires bounds { R.has_bounds range }
-        requires valid { slice_fault (R.start_bound range) (R.end_bound range) (length self.now.items) ≡ None }
-        ensures part { CutAnswers self.now (slice_of (R.start_bound range) (R.end_bound range) self.now.items) result }
-        ensures counted { RisesAtMost meter.old meter.new (cut_cost B.SHARES self.now.kind (length (slice_of (R.start_bound range) (R.end_bound range) self.now.items))) }
+        requires valid { slice_fault (R.start_bound range) (R.end_bound range)
+            (length self.now.items) ≡ None }
+        ensures part { CutAnswers self.now
+            (slice_of (R.start_bound range) (R.end_bound range) self.now.items) result }
+        ensures counted { RisesAtMost meter.old meter.new
+            (cut_cost B.SHARES self.now.kind
+            (length (slice_of (R.start_bound range) (R.end_bound range) self.now.items))) }
     {
         self.slice_metered(alloc, range, meter)
     }

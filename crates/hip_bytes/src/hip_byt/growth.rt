@@ -23,11 +23,16 @@ fn joined<'b, B: Backend>(
     meter: &mut Meter,
 ) -> Result<Repr<'b, B>, AllocError>
     ensures items { IfOk result (λ repr. (handle_of repr).items ≡ front.now ++ back.now) }
-    ensures kind { IfOk result (λ repr. (handle_of repr).kind ≡ by_length (length front.now + length back.now)) }
-    ensures capacity { IfOk result (λ repr. HasCapacity (handle_of repr).kind (length front.now + length back.now) (handle_of repr).capacity) }
+    ensures kind { IfOk result
+        (λ repr. (handle_of repr).kind ≡ by_length (length front.now + length back.now)) }
+    ensures capacity { IfOk result
+        (λ repr. HasCapacity (handle_of repr).kind (length front.now + length back.now)
+        (handle_of repr).capacity) }
     ensures memory { OnErr result (INLINE_CAPACITY < length front.now + length back.now) }
-    ensures counted { RisesAtMost meter.old meter.new (times_copied B.SHARES (length front.now + length back.now)) }
-    ensures copied { IfOk result (λ repr. RisesAtLeast meter.old meter.new (length front.now + length back.now)) }
+    ensures counted { RisesAtMost meter.old meter.new
+        (times_copied B.SHARES (length front.now + length back.now)) }
+    ensures copied { IfOk result
+        (λ repr. RisesAtLeast meter.old meter.new (length front.now + length back.now)) }
 {
     let Some(len) = front.len().checked_add(back.len()) else {
         return Err(AllocError);
@@ -66,9 +71,11 @@ impl<'b, B: Backend> HipByt<'b, B> {
         meter: &mut Meter,
     ) -> Result<(), AllocError>
         ensures push { PushAnswers B.SHARES self.old addition.now result self.new }
-        ensures counted { RisesAtMost meter.old meter.new (push_cost B.SHARES (length self.old.items) (length addition.now)) }
+        ensures counted { RisesAtMost meter.old meter.new
+            (push_cost B.SHARES (length self.old.items) (length addition.now)) }
         ensures copied { OnOk result (RisesAtLeast meter.old meter.new (length addition.now)) }
-        ensures paid { PushIsPaid B.SHARES self.old self.new (length addition.now) meter.old meter.new }
+        ensures paid { PushIsPaid B.SHARES self.old self.new
+            (length addition.now) meter.old meter.new }
     {
         if addition.is_empty() {
             return Ok(());
@@ -103,11 +110,16 @@ impl<'b, B: Backend> HipByt<'b, B> {
         meter: &mut Meter,
     ) -> Result<(), AllocError>
         ensures items { OnOk result (self.new.items ≡ self.old.items ++ addition.now) }
-        ensures kind { OnOk result (self.new.kind ≡ by_length (length self.old.items + length addition.now)) }
-        ensures capacity { OnOk result (HasCapacity self.new.kind (length self.new.items) self.new.capacity) }
-        ensures memory { OnErr result (INLINE_CAPACITY < length self.old.items + length addition.now) }
-        ensures counted { RisesAtMost meter.old meter.new (times_copied B.SHARES (length self.old.items + length addition.now)) }
-        ensures copied { OnOk result (RisesAtLeast meter.old meter.new (length self.old.items + length addition.now)) }
+        ensures kind { OnOk result
+            (self.new.kind ≡ by_length (length self.old.items + length addition.now)) }
+        ensures capacity { OnOk result
+            (HasCapacity self.new.kind (length self.new.items) self.new.capacity) }
+        ensures memory { OnErr result
+            (INLINE_CAPACITY < length self.old.items + length addition.now) }
+        ensures counted { RisesAtMost meter.old meter.new
+            (times_copied B.SHARES (length self.old.items + length addition.now)) }
+        ensures copied { OnOk result
+            (RisesAtLeast meter.old meter.new (length self.old.items + length addition.now)) }
         ensures err { OnErr result (self.new ≡ self.old) }
     {
         self.bare.repr = joined(alloc, self.as_slice(), addition, meter)?;
@@ -131,7 +143,8 @@ impl<'b, B: Backend> HipByt<'b, B> {
         meter: &mut Meter,
     ) -> Result<(), AllocError>
         ensures push { PushAnswers B.SHARES self.old (byte ∷ []) result self.new }
-        ensures counted { RisesAtMost meter.old meter.new (push_cost B.SHARES (length self.old.items) 1) }
+        ensures counted { RisesAtMost meter.old meter.new
+            (push_cost B.SHARES (length self.old.items) 1) }
         ensures copied { OnOk result (RisesAtLeast meter.old meter.new 1) }
         ensures paid { PushIsPaid B.SHARES self.old self.new 1 meter.old meter.new }
     {
@@ -221,7 +234,8 @@ impl<'b, B: Backend> HipByt<'b, B> {
     /// Gives room back: to the handle itself where `least` and the bytes fit it, else to no less than both. Bytes that lie in the handle
     /// itself or with another value stay as they are.
     pub fn shrink_to(&mut self, alloc: Global, least: usize) -> Result<(), AllocError>
-        ensures shrink { ShrinkAnswers self.old (max least (length self.old.items)) result self.new }
+        ensures shrink { ShrinkAnswers self.old
+            (max least (length self.old.items)) result self.new }
     {
         self.shrink_to_metered(alloc, least, &mut Meter::new())
     }
@@ -233,8 +247,10 @@ impl<'b, B: Backend> HipByt<'b, B> {
         least: usize,
         meter: &mut Meter,
     ) -> Result<(), AllocError>
-        ensures shrink { ShrinkAnswers self.old (max least (length self.old.items)) result self.new }
-        ensures counted { RisesAtMost meter.old meter.new (shrink_cost B.SHARES self.old.kind (length self.old.items)) }
+        ensures shrink { ShrinkAnswers self.old
+            (max least (length self.old.items)) result self.new }
+        ensures counted { RisesAtMost meter.old meter.new
+            (shrink_cost B.SHARES self.old.kind (length self.old.items)) }
     {
         match &mut self.bare.repr {
             Repr::Inline(_) | Repr::Borrowed(_) => Ok(()),

@@ -20,8 +20,10 @@ impl<'b, B: Backend> HipByt<'b, B> {
         alloc: Global,
         pieces: I,
     ) -> Result<Self, GrowFault>
-        requires { (it : I.IntoIter) → I.into_iter_gives pieces it → I.IntoIter.can_next it × IsFinite (I.IntoIter.remaining it) }
-        ensures joined { GatherAnswers bytes_of I.into_iter_gives I.IntoIter.next_gives pieces [] result }
+        requires { (it : I.IntoIter) → I.into_iter_gives pieces it
+            → I.IntoIter.can_next it × IsFinite (I.IntoIter.remaining it) }
+        ensures joined { GatherAnswers bytes_of I.into_iter_gives
+            I.IntoIter.next_gives pieces [] result }
     {
         Self::join(alloc, pieces, &[])
     }
@@ -32,9 +34,12 @@ impl<'b, B: Backend> HipByt<'b, B> {
         pieces: I,
         meter: &mut Meter,
     ) -> Result<Self, GrowFault>
-        requires { (it : I.IntoIter) → I.into_iter_gives pieces it → I.IntoIter.can_next it × IsFinite (I.IntoIter.remaining it) }
-        ensures joined { GatherAnswers bytes_of I.into_iter_gives I.IntoIter.next_gives pieces [] result }
-        ensures counted { GatherCosts B.SHARES bytes_of I.into_iter_gives I.IntoIter.next_gives pieces [] result meter.old meter.new }
+        requires { (it : I.IntoIter) → I.into_iter_gives pieces it
+            → I.IntoIter.can_next it × IsFinite (I.IntoIter.remaining it) }
+        ensures joined { GatherAnswers bytes_of I.into_iter_gives
+            I.IntoIter.next_gives pieces [] result }
+        ensures counted { GatherCosts B.SHARES bytes_of I.into_iter_gives I.IntoIter.next_gives
+            pieces [] result meter.old meter.new }
     {
         Self::join_metered(alloc, pieces, &[], meter)
     }
@@ -45,8 +50,10 @@ impl<'b, B: Backend> HipByt<'b, B> {
         pieces: I,
         sep: &[u8],
     ) -> Result<Self, GrowFault>
-        requires { (it : I.IntoIter) → I.into_iter_gives pieces it → I.IntoIter.can_next it × IsFinite (I.IntoIter.remaining it) }
-        ensures joined { GatherAnswers bytes_of I.into_iter_gives I.IntoIter.next_gives pieces sep.now result }
+        requires { (it : I.IntoIter) → I.into_iter_gives pieces it
+            → I.IntoIter.can_next it × IsFinite (I.IntoIter.remaining it) }
+        ensures joined { GatherAnswers bytes_of I.into_iter_gives I.IntoIter.next_gives
+            pieces sep.now result }
     {
         Self::join_metered(alloc, pieces, sep, &mut Meter::new())
     }
@@ -58,9 +65,12 @@ impl<'b, B: Backend> HipByt<'b, B> {
         sep: &[u8],
         meter: &mut Meter,
     ) -> Result<Self, GrowFault>
-        requires { (it : I.IntoIter) → I.into_iter_gives pieces it → I.IntoIter.can_next it × IsFinite (I.IntoIter.remaining it) }
-        ensures joined { GatherAnswers bytes_of I.into_iter_gives I.IntoIter.next_gives pieces sep.now result }
-        ensures counted { GatherCosts B.SHARES bytes_of I.into_iter_gives I.IntoIter.next_gives pieces sep.now result meter.old meter.new }
+        requires { (it : I.IntoIter) → I.into_iter_gives pieces it
+            → I.IntoIter.can_next it × IsFinite (I.IntoIter.remaining it) }
+        ensures joined { GatherAnswers bytes_of I.into_iter_gives I.IntoIter.next_gives
+            pieces sep.now result }
+        ensures counted { GatherCosts B.SHARES bytes_of I.into_iter_gives I.IntoIter.next_gives
+            pieces sep.now result meter.old meter.new }
     {
         Self::join_pieces_metered(alloc, pieces, sep, meter)
     }
@@ -72,11 +82,14 @@ impl<'b, B: Backend> HipByt<'b, B> {
         sep: &[u8],
         meter: &mut Meter,
     ) -> Result<Self, GrowFault>
-        requires finite { (it : I.IntoIter) → I.into_iter_gives pieces it → I.IntoIter.can_next it × IsFinite (I.IntoIter.remaining it) }
+        requires finite { (it : I.IntoIter) → I.into_iter_gives pieces it
+            → I.IntoIter.can_next it × IsFinite (I.IntoIter.remaining it) }
         requires separator { P.keeps sep.now }
-        ensures joined { GatherAnswers P.bytes I.into_iter_gives I.IntoIter.next_gives pieces sep.now result }
+        ensures joined { GatherAnswers P.bytes I.into_iter_gives I.IntoIter.next_gives
+            pieces sep.now result }
         ensures kept { IfOk result (λ handle. P.keeps handle.items) }
-        ensures counted { GatherCosts B.SHARES P.bytes I.into_iter_gives I.IntoIter.next_gives pieces sep.now result meter.old meter.new }
+        ensures counted { GatherCosts B.SHARES P.bytes I.into_iter_gives I.IntoIter.next_gives
+            pieces sep.now result meter.old meter.new }
     {
         // A meter of its own, since what was lent to a call that isn't inlined lies in memory.
         let mut apart = Meter::new();
@@ -94,16 +107,28 @@ fn gathered<P: Piece, I: IntoIterator<Item = P>>(
     sep: &[u8],
     meter: &mut Meter,
 ) -> Result<Gathering, GrowFault>
-    requires finite { (it : I.IntoIter) → I.into_iter_gives pieces it → I.IntoIter.can_next it × IsFinite (I.IntoIter.remaining it) }
+    requires finite { (it : I.IntoIter) → I.into_iter_gives pieces it
+        → I.IntoIter.can_next it × IsFinite (I.IntoIter.remaining it) }
     requires separator { P.keeps sep.now }
-    ensures items { IfOk result (λ made. GivesAll I.into_iter_gives I.IntoIter.next_gives pieces (λ xs. made.items ≡ join_by P.bytes sep.now xs)) }
+    ensures items { IfOk result
+        (λ made. GivesAll I.into_iter_gives I.IntoIter.next_gives pieces
+        (λ xs. made.items ≡ join_by P.bytes sep.now xs)) }
     ensures kept { IfOk result (λ made. P.keeps made.items) }
-    ensures place { IfOk result (λ made. made.in_handle ≡ nat_le (length made.items) INLINE_CAPACITY) }
-    ensures too_long { result ≡ Err GrowFault.TooLong → GivesFirst I.into_iter_gives I.IntoIter.next_gives pieces (λ xs. 2 ^ 64 ≤ length (join_by P.bytes sep.now xs)) }
-    ensures memory { result ≡ Err GrowFault.Memory → GivesFirst I.into_iter_gives I.IntoIter.next_gives pieces (λ xs. INLINE_CAPACITY < length (join_by P.bytes sep.now xs)) }
-    ensures counted { IfOk result (λ made. RisesAtMost meter.old meter.new (length made.items + INLINE_CAPACITY)) }
+    ensures place { IfOk result
+        (λ made. made.in_handle ≡ nat_le (length made.items) INLINE_CAPACITY) }
+    ensures too_long { result ≡ Err GrowFault.TooLong
+        → GivesFirst I.into_iter_gives I.IntoIter.next_gives pieces
+        (λ xs. 2 ^ 64 ≤ length (join_by P.bytes sep.now xs)) }
+    ensures memory { result ≡ Err GrowFault.Memory
+        → GivesFirst I.into_iter_gives I.IntoIter.next_gives pieces
+        (λ xs. INLINE_CAPACITY < length (join_by P.bytes sep.now xs)) }
+    ensures counted { IfOk result
+        (λ made. RisesAtMost meter.old meter.new (length made.items + INLINE_CAPACITY)) }
     ensures copied { IfOk result (λ made. RisesAtLeast meter.old meter.new (length made.items)) }
-    ensures refused_counts { OnErr result (GivesFirst I.into_iter_gives I.IntoIter.next_gives pieces (λ xs. RisesAtMost meter.old meter.new (length (join_by P.bytes sep.now xs) + INLINE_CAPACITY))) }
+    ensures refused_counts { OnErr result
+        (GivesFirst I.into_iter_gives I.IntoIter.next_gives pieces
+        (λ xs. RisesAtMost meter.old meter.new
+        (length (join_by P.bytes sep.now xs) + INLINE_CAPACITY))) }
 {
     let mut made = Gathering::new();
     let mut gap: &[u8] = &[];

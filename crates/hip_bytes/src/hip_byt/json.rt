@@ -98,7 +98,9 @@ fn fill(room: &mut [u8], items: &[Value]) -> Result<(), JsonFault>
 /// Tests that the items are bytes.
 #[cold]
 fn test(items: &[Value]) -> Result<(), JsonFault>
-    ensures items { OnOk result ((bytes : List ℕ) × AreBytes (items_of (map view items.now)) bytes × (length bytes ≡ length items.now)) }
+    ensures items { OnOk result
+        ((bytes : List ℕ) × AreBytes (items_of (map view items.now)) bytes
+        × (length bytes ≡ length items.now)) }
     ensures err { IfErr result (TellsFirstOther (items_of (map view items.now))) }
 {
     for i in 0..items.len() {

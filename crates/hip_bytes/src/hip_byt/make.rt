@@ -54,7 +54,8 @@ impl<'b, B: Backend> HipByt<'b, B> {
         ensures fits { IsSome result ↔ (length bytes.now ≤ INLINE_CAPACITY) }
         ensures holds { IfSome result (λ handle. Holds handle Kind.Inline bytes.now) }
         ensures counted { RisesAtMost meter.old meter.new (length bytes.now) }
-        ensures copied { IfSome result (λ handle. RisesAtLeast meter.old meter.new (length bytes.now)) }
+        ensures copied { IfSome result
+            (λ handle. RisesAtLeast meter.old meter.new (length bytes.now)) }
         ensures none { IfNone result (meter.new ≡ meter.old) }
     {
         if bytes.len() <= INLINE_CAPACITY {
@@ -113,8 +114,10 @@ impl<'b, B: Backend> HipByt<'b, B> {
         meter: &mut Meter,
     ) -> Result<Self, AllocError>
         ensures made { MakeAnswers bytes.now result }
-        ensures counted { RisesAtMost meter.old meter.new (times_copied B.SHARES (length bytes.now)) }
-        ensures copied { IfOk result (λ handle. RisesAtLeast meter.old meter.new (length bytes.now)) }
+        ensures counted { RisesAtMost meter.old meter.new
+            (times_copied B.SHARES (length bytes.now)) }
+        ensures copied { IfOk result
+            (λ handle. RisesAtLeast meter.old meter.new (length bytes.now)) }
     {
         if bytes.len() <= INLINE_CAPACITY {
             return Ok(Self::inline_metered(bytes, meter));

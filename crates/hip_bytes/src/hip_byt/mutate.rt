@@ -114,7 +114,8 @@ impl<'b, B: Backend> HipByt<'b, B> {
         requires { TakesItems vec_items F.FnOnce f self.old.items }
         ensures mutated { MutateAnswers vec_items F.FnOnce f self.old.items self.old self.new
             HoldsByLength IsEmptyInline (λ len. INLINE_CAPACITY < len) result }
-        ensures counted { MutateCosts vec_items F.FnOnce f self.old.items meter.old meter.new (taken_cost B.SHARES) result }
+        ensures counted { MutateCosts vec_items F.FnOnce f self.old.items meter.old meter.new
+            (taken_cost B.SHARES) result }
     {
         with_mutated_metered(self, alloc, f, meter)
     }

@@ -13,7 +13,8 @@ impl<'b, B: Backend> HipByt<'b, B> {
     pub fn len(&self) -> usize
         ensures len { result ≡ length self.now.items }
         ensures bound { length self.now.items < 2 ^ 64 }
-        ensures fits_inline { self.now.kind ≡ Kind.Inline → length self.now.items ≤ INLINE_CAPACITY }
+        ensures fits_inline { self.now.kind ≡ Kind.Inline
+            → length self.now.items ≤ INLINE_CAPACITY }
     {
         match &self.bare.repr {
             Repr::Inline(inline) => inline.len(),
@@ -81,7 +82,8 @@ impl<'b, B: Backend> HipByt<'b, B> {
     /// Whether bytes that lie with an owner are too many for the handle itself. It holds of each other handle.
     #[inline]
     pub fn is_normalized(&self) -> bool
-        ensures { IsTrue result ↔ (self.now.kind ≡ Kind.Allocated → INLINE_CAPACITY < length self.now.items) }
+        ensures { IsTrue result
+            ↔ (self.now.kind ≡ Kind.Allocated → INLINE_CAPACITY < length self.now.items) }
     {
         !self.is_allocated() || self.len() > INLINE_CAPACITY
     }

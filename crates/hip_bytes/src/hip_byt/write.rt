@@ -24,7 +24,8 @@ impl<'b, B: Backend> HipByt<'b, B> {
     where
         F: Drop,
         requires { FnOnceTakesAtMut F.FnOnce f self.old.items }
-        ensures ran { IfSome result (λ answer. FnOnceReturnsAtMut F.FnOnce f self.old.items answer self.new.items) }
+        ensures ran { IfSome result
+            (λ answer. FnOnceReturnsAtMut F.FnOnce f self.old.items answer self.new.items) }
         ensures len { length self.new.items ≡ length self.old.items }
         ensures kind { self.new.kind ≡ self.old.kind }
         ensures capacity { self.new.capacity ≡ self.old.capacity }
@@ -62,12 +63,17 @@ impl<'b, B: Backend> HipByt<'b, B> {
         F: Drop,
         R: Drop,
         requires { FnOnceTakesAtMut F.FnOnce f self.old.items }
-        ensures ran { IfOk result (λ answer. FnOnceReturnsAtMut F.FnOnce f self.old.items answer self.new.items) }
+        ensures ran { IfOk result
+            (λ answer. FnOnceReturnsAtMut F.FnOnce f self.old.items answer self.new.items) }
         ensures len { length self.new.items ≡ length self.old.items }
-        ensures kind { OnOk result (self.new.kind ≡ owned_kind self.old.kind (length self.old.items)) }
-        ensures capacity { OnOk result (HasCapacity self.new.kind (length self.new.items) self.new.capacity) }
-        ensures kept { B.SHARES ≡ false → self.old.kind ≡ Kind.Allocated → self.new.capacity ≡ self.old.capacity }
-        ensures memory { OnErr result (WriteNeedsMemory B.SHARES self.old.kind (length self.old.items)) }
+        ensures kind { OnOk result
+            (self.new.kind ≡ owned_kind self.old.kind (length self.old.items)) }
+        ensures capacity { OnOk result
+            (HasCapacity self.new.kind (length self.new.items) self.new.capacity) }
+        ensures kept { B.SHARES ≡ false → self.old.kind ≡ Kind.Allocated
+            → self.new.capacity ≡ self.old.capacity }
+        ensures memory { OnErr result
+            (WriteNeedsMemory B.SHARES self.old.kind (length self.old.items)) }
         ensures err { OnErr result (self.new ≡ self.old) }
     {
         self.with_to_mut_slice_metered(alloc, f, &mut Meter::new())
@@ -85,13 +91,19 @@ impl<'b, B: Backend> HipByt<'b, B> {
         F: Drop,
         R: Drop,
         requires { FnOnceTakesAtMut F.FnOnce f self.old.items }
-        ensures ran { IfOk result (λ answer. FnOnceReturnsAtMut F.FnOnce f self.old.items answer self.new.items) }
+        ensures ran { IfOk result
+            (λ answer. FnOnceReturnsAtMut F.FnOnce f self.old.items answer self.new.items) }
         ensures len { length self.new.items ≡ length self.old.items }
-        ensures kind { OnOk result (self.new.kind ≡ owned_kind self.old.kind (length self.old.items)) }
-        ensures capacity { OnOk result (HasCapacity self.new.kind (length self.new.items) self.new.capacity) }
-        ensures kept { B.SHARES ≡ false → self.old.kind ≡ Kind.Allocated → self.new.capacity ≡ self.old.capacity }
-        ensures memory { OnErr result (WriteNeedsMemory B.SHARES self.old.kind (length self.old.items)) }
-        ensures counted { RisesAtMost meter.old meter.new (write_cost B.SHARES self.old.kind (length self.old.items)) }
+        ensures kind { OnOk result
+            (self.new.kind ≡ owned_kind self.old.kind (length self.old.items)) }
+        ensures capacity { OnOk result
+            (HasCapacity self.new.kind (length self.new.items) self.new.capacity) }
+        ensures kept { B.SHARES ≡ false → self.old.kind ≡ Kind.Allocated
+            → self.new.capacity ≡ self.old.capacity }
+        ensures memory { OnErr result
+            (WriteNeedsMemory B.SHARES self.old.kind (length self.old.items)) }
+        ensures counted { RisesAtMost meter.old meter.new
+            (write_cost B.SHARES self.old.kind (length self.old.items)) }
         ensures err { OnErr result (self.new ≡ self.old) }
     {
         let f = match &mut self.bare.repr {
@@ -118,7 +130,8 @@ impl<'b, B: Backend> HipByt<'b, B> {
     #[inline]
     pub fn to_mut_slice(&mut self, alloc: Global) -> Result<&mut [u8], AllocError>
         ensures items { IfOk result (λ bytes. bytes.now ≡ self.old.items) }
-        ensures memory { OnErr result (WriteNeedsMemory B.SHARES self.old.kind (length self.old.items)) }
+        ensures memory { OnErr result
+            (WriteNeedsMemory B.SHARES self.old.kind (length self.old.items)) }
     {
         self.to_mut_slice_metered(alloc, &mut Meter::new())
     }
@@ -131,8 +144,10 @@ impl<'b, B: Backend> HipByt<'b, B> {
         meter: &mut Meter,
     ) -> Result<&mut [u8], AllocError>
         ensures items { IfOk result (λ bytes. bytes.now ≡ self.old.items) }
-        ensures memory { OnErr result (WriteNeedsMemory B.SHARES self.old.kind (length self.old.items)) }
-        ensures counted { RisesAtMost meter.old meter.new (write_cost B.SHARES self.old.kind (length self.old.items)) }
+        ensures memory { OnErr result
+            (WriteNeedsMemory B.SHARES self.old.kind (length self.old.items)) }
+        ensures counted { RisesAtMost meter.old meter.new
+            (write_cost B.SHARES self.old.kind (length self.old.items)) }
     {
         self.with_to_mut_slice_metered(alloc, |_| (), meter)?;
         match self.as_mut_slice() {
@@ -144,7 +159,8 @@ impl<'b, B: Backend> HipByt<'b, B> {
     /// Moves the letters `A` to `Z` to `a` to `z`, and keeps every other byte.
     #[inline]
     pub fn make_ascii_lowercase(&mut self, alloc: Global) -> Result<(), AllocError>
-        ensures write { WriteAnswers B.SHARES self.old (map to_ascii_lowercase self.old.items) result self.new }
+        ensures write { WriteAnswers B.SHARES self.old
+            (map to_ascii_lowercase self.old.items) result self.new }
     {
         self.make_ascii_lowercase_metered(alloc, &mut Meter::new())
     }
@@ -156,8 +172,10 @@ impl<'b, B: Backend> HipByt<'b, B> {
         alloc: Global,
         meter: &mut Meter,
     ) -> Result<(), AllocError>
-        ensures write { WriteAnswers B.SHARES self.old (map to_ascii_lowercase self.old.items) result self.new }
-        ensures counted { RisesAtMost meter.old meter.new (write_cost B.SHARES self.old.kind (length self.old.items)) }
+        ensures write { WriteAnswers B.SHARES self.old
+            (map to_ascii_lowercase self.old.items) result self.new }
+        ensures counted { RisesAtMost meter.old meter.new
+            (write_cost B.SHARES self.old.kind (length self.old.items)) }
     {
         self.with_to_mut_slice_metered(alloc, |bytes| make_ascii_lowercase(bytes), meter)
     }
@@ -178,7 +196,9 @@ impl<'b, B: Backend> HipByt<'b, B> {
         meter: &mut Meter,
     ) -> Result<Self, AllocError>
         ensures copy { CopyAnswers self.now (map to_ascii_lowercase self.now.items) result }
-        ensures counted { RisesAtMost meter.old meter.new (clone_cost B.SHARES self.now.kind (length self.now.items) + write_cost B.SHARES self.now.kind (length self.now.items)) }
+        ensures counted { RisesAtMost meter.old meter.new
+            (clone_cost B.SHARES self.now.kind (length self.now.items)
+            + write_cost B.SHARES self.now.kind (length self.now.items)) }
     {
         let mut copy = self.clone_metered(alloc, meter)?;
         copy.make_ascii_lowercase_metered(alloc, meter)?;
@@ -188,7 +208,8 @@ impl<'b, B: Backend> HipByt<'b, B> {
     /// Moves the letters `a` to `z` to `A` to `Z`, and keeps every other byte.
     #[inline]
     pub fn make_ascii_uppercase(&mut self, alloc: Global) -> Result<(), AllocError>
-        ensures write { WriteAnswers B.SHARES self.old (map to_ascii_uppercase self.old.items) result self.new }
+        ensures write { WriteAnswers B.SHARES self.old
+            (map to_ascii_uppercase self.old.items) result self.new }
     {
         self.make_ascii_uppercase_metered(alloc, &mut Meter::new())
     }
@@ -200,8 +221,10 @@ impl<'b, B: Backend> HipByt<'b, B> {
         alloc: Global,
         meter: &mut Meter,
     ) -> Result<(), AllocError>
-        ensures write { WriteAnswers B.SHARES self.old (map to_ascii_uppercase self.old.items) result self.new }
-        ensures counted { RisesAtMost meter.old meter.new (write_cost B.SHARES self.old.kind (length self.old.items)) }
+        ensures write { WriteAnswers B.SHARES self.old
+            (map to_ascii_uppercase self.old.items) result self.new }
+        ensures counted { RisesAtMost meter.old meter.new
+            (write_cost B.SHARES self.old.kind (length self.old.items)) }
     {
         self.with_to_mut_slice_metered(alloc, |bytes| make_ascii_uppercase(bytes), meter)
     }
@@ -222,7 +245,9 @@ impl<'b, B: Backend> HipByt<'b, B> {
         meter: &mut Meter,
     ) -> Result<Self, AllocError>
         ensures copy { CopyAnswers self.now (map to_ascii_uppercase self.now.items) result }
-        ensures counted { RisesAtMost meter.old meter.new (clone_cost B.SHARES self.now.kind (length self.now.items) + write_cost B.SHARES self.now.kind (length self.now.items)) }
+        ensures counted { RisesAtMost meter.old meter.new
+            (clone_cost B.SHARES self.now.kind (length self.now.items)
+            + write_cost B.SHARES self.now.kind (length self.now.items)) }
     {
         let mut copy = self.clone_metered(alloc, meter)?;
         copy.make_ascii_uppercase_metered(alloc, meter)?;
@@ -241,7 +266,8 @@ fn written<'b, B: Backend, R, F: FnOnce(&mut [u8]) -> R>(
 where
     R: Drop,
     requires { FnOnceTakesAtMut F.FnOnce f bytes.now }
-    ensures ran { IfOk result (λ made. FnOnceReturnsAtMut F.FnOnce f bytes.now made.1 (handle_of made.0).items) }
+    ensures ran { IfOk result
+        (λ made. FnOnceReturnsAtMut F.FnOnce f bytes.now made.1 (handle_of made.0).items) }
     ensures len { IfOk result (λ made. length (handle_of made.0).items ≡ length bytes.now) }
     ensures kind { IfOk result (λ made. (handle_of made.0).kind ≡ Kind.Allocated) }
     ensures fits { IfOk result (λ made. length bytes.now ≤ (handle_of made.0).capacity) }
@@ -263,7 +289,8 @@ impl<'b, B: Backend> Bare<'b, B> {
         ensures items { IfSome result (λ bytes. bytes.now ≡ (handle_of self.old.repr).items) }
         ensures inline { (handle_of self.old.repr).kind ≡ Kind.Inline → IsSome result }
         ensures borrowed { OnSome result ((handle_of self.old.repr).kind ≡ Kind.Borrowed → ⊥) }
-        ensures sole { B.SHARES ≡ false → (handle_of self.old.repr).kind ≡ Kind.Allocated → IsSome result }
+        ensures sole { B.SHARES ≡ false → (handle_of self.old.repr).kind ≡ Kind.Allocated
+            → IsSome result }
     {
         match &mut self.repr {
             Repr::Inline(inline) => Some(inline.as_mut_slice()),

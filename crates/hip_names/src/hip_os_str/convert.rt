@@ -64,7 +64,9 @@ impl<'b, B: Backend> HipOsStr<'b, B> {
     /// that begins none, is U+FFFD.
     pub fn to_str_lossy(&self, alloc: Global) -> Result<HipStr<'b, B>, AllocError>
         ensures valid { IsUtf8 self.now.items → CloneAnswers self.now result }
-        ensures repaired { ¬ (IsUtf8 self.now.items) → IfOk result (λ text. HoldsByLength text (encode_utf8_all (lossy_chars self.now.items))) }
+        ensures repaired { ¬ (IsUtf8 self.now.items)
+            → IfOk result (λ text. HoldsByLength text
+            (encode_utf8_all (lossy_chars self.now.items))) }
     {
         if let Some(text) = self.to_str(alloc)? {
             return Ok(text);

@@ -105,7 +105,8 @@ impl<'b, B: Backend> HipOsStr<'b, B> {
     /// itself or with another value stay as they are.
     #[inline]
     pub fn shrink_to(&mut self, alloc: Global, least: usize) -> Result<(), AllocError>
-        ensures shrink { ShrinkAnswers self.old (max least (length self.old.items)) result self.new }
+        ensures shrink { ShrinkAnswers self.old
+            (max least (length self.old.items)) result self.new }
     {
         self.bytes.shrink_to(alloc, least)
     }

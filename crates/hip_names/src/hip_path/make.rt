@@ -85,7 +85,8 @@ impl<'b, B: Backend> HipPath<'b, B> {
     /// itself or with another value stay as they are.
     #[inline]
     pub fn shrink_to(&mut self, alloc: Global, least: usize) -> Result<(), AllocError>
-        ensures shrink { ShrinkAnswers self.old (max least (length self.old.items)) result self.new }
+        ensures shrink { ShrinkAnswers self.old
+            (max least (length self.old.items)) result self.new }
     {
         self.name.shrink_to(alloc, least)
     }

@@ -25,8 +25,10 @@ impl<'b, B: Backend> HipStr<'b, B> {
         meter: &mut Meter,
     ) -> Result<Self, GrowFault>
         ensures repeated { RepeatAnswers self.now n result }
-        ensures counted { RisesAtMost meter.old meter.new (repeat_cost B.SHARES self.now.kind (length self.now.items) n) }
-        ensures copied { n ≢ 1 → IfOk result (λ text. RisesAtLeast meter.old meter.new (length text.items)) }
+        ensures counted { RisesAtMost meter.old meter.new
+            (repeat_cost B.SHARES self.now.kind (length self.now.items) n) }
+        ensures copied { n ≢ 1
+            → IfOk result (λ text. RisesAtLeast meter.old meter.new (length text.items)) }
         ensures refused_counts_none { result ≡ Err GrowFault.TooLong → meter.new ≡ meter.old }
     {
         Ok(HipStr {
@@ -48,8 +50,10 @@ impl<'b, B: Backend> HipStr<'b, B> {
         meter: &mut Meter,
     ) -> Result<Self, GrowFault>
         ensures joined { JoinAnswers (joined [] texts.now) result }
-        ensures counted { RisesAtMost meter.old meter.new (join_cost B.SHARES (length (joined [] texts.now))) }
-        ensures copied { IfOk result (λ text. RisesAtLeast meter.old meter.new (length text.items)) }
+        ensures counted { RisesAtMost meter.old meter.new
+            (join_cost B.SHARES (length (joined [] texts.now))) }
+        ensures copied { IfOk result
+            (λ text. RisesAtLeast meter.old meter.new (length text.items)) }
         ensures refused_counts_none { result ≡ Err GrowFault.TooLong → meter.new ≡ meter.old }
     {
         Self::join_slices_metered(alloc, texts, "", meter)
@@ -70,8 +74,10 @@ impl<'b, B: Backend> HipStr<'b, B> {
         meter: &mut Meter,
     ) -> Result<Self, GrowFault>
         ensures joined { JoinAnswers (joined sep.now texts.now) result }
-        ensures counted { RisesAtMost meter.old meter.new (join_cost B.SHARES (length (joined sep.now texts.now))) }
-        ensures copied { IfOk result (λ text. RisesAtLeast meter.old meter.new (length text.items)) }
+        ensures counted { RisesAtMost meter.old meter.new
+            (join_cost B.SHARES (length (joined sep.now texts.now))) }
+        ensures copied { IfOk result
+            (λ text. RisesAtLeast meter.old meter.new (length text.items)) }
         ensures refused_counts_none { result ≡ Err GrowFault.TooLong → meter.new ≡ meter.old }
     {
         Ok(HipStr {
@@ -84,8 +90,10 @@ impl<'b, B: Backend> HipStr<'b, B> {
         alloc: Global,
         texts: I,
     ) -> Result<Self, GrowFault>
-        requires { (it : I.IntoIter) → I.into_iter_gives texts it → I.IntoIter.can_next it × IsFinite (I.IntoIter.remaining it) }
-        ensures joined { GatherAnswers bytes_of I.into_iter_gives I.IntoIter.next_gives texts [] result }
+        requires { (it : I.IntoIter) → I.into_iter_gives texts it
+            → I.IntoIter.can_next it × IsFinite (I.IntoIter.remaining it) }
+        ensures joined { GatherAnswers bytes_of I.into_iter_gives
+            I.IntoIter.next_gives texts [] result }
     {
         Self::concat_metered(alloc, texts, &mut Meter::new())
     }
@@ -96,9 +104,12 @@ impl<'b, B: Backend> HipStr<'b, B> {
         texts: I,
         meter: &mut Meter,
     ) -> Result<Self, GrowFault>
-        requires { (it : I.IntoIter) → I.into_iter_gives texts it → I.IntoIter.can_next it × IsFinite (I.IntoIter.remaining it) }
-        ensures joined { GatherAnswers bytes_of I.into_iter_gives I.IntoIter.next_gives texts [] result }
-        ensures counted { GatherCosts B.SHARES bytes_of I.into_iter_gives I.IntoIter.next_gives texts [] result meter.old meter.new }
+        requires { (it : I.IntoIter) → I.into_iter_gives texts it
+            → I.IntoIter.can_next it × IsFinite (I.IntoIter.remaining it) }
+        ensures joined { GatherAnswers bytes_of I.into_iter_gives
+            I.IntoIter.next_gives texts [] result }
+        ensures counted { GatherCosts B.SHARES bytes_of I.into_iter_gives I.IntoIter.next_gives
+            texts [] result meter.old meter.new }
     {
         Self::join_metered(alloc, texts, "", meter)
     }
@@ -109,8 +120,10 @@ impl<'b, B: Backend> HipStr<'b, B> {
         texts: I,
         sep: &str,
     ) -> Result<Self, GrowFault>
-        requires { (it : I.IntoIter) → I.into_iter_gives texts it → I.IntoIter.can_next it × IsFinite (I.IntoIter.remaining it) }
-        ensures joined { GatherAnswers bytes_of I.into_iter_gives I.IntoIter.next_gives texts sep.now result }
+        requires { (it : I.IntoIter) → I.into_iter_gives texts it
+            → I.IntoIter.can_next it × IsFinite (I.IntoIter.remaining it) }
+        ensures joined { GatherAnswers bytes_of I.into_iter_gives I.IntoIter.next_gives
+            texts sep.now result }
     {
         Self::join_metered(alloc, texts, sep, &mut Meter::new())
     }
@@ -123,9 +136,12 @@ impl<'b, B: Backend> HipStr<'b, B> {
         sep: &str,
         meter: &mut Meter,
     ) -> Result<Self, GrowFault>
-        requires { (it : I.IntoIter) → I.into_iter_gives texts it → I.IntoIter.can_next it × IsFinite (I.IntoIter.remaining it) }
-        ensures joined { GatherAnswers bytes_of I.into_iter_gives I.IntoIter.next_gives texts sep.now result }
-        ensures counted { GatherCosts B.SHARES bytes_of I.into_iter_gives I.IntoIter.next_gives texts sep.now result meter.old meter.new }
+        requires { (it : I.IntoIter) → I.into_iter_gives texts it
+            → I.IntoIter.can_next it × IsFinite (I.IntoIter.remaining it) }
+        ensures joined { GatherAnswers bytes_of I.into_iter_gives I.IntoIter.next_gives
+            texts sep.now result }
+        ensures counted { GatherCosts B.SHARES bytes_of I.into_iter_gives I.IntoIter.next_gives
+            texts sep.now result meter.old meter.new }
     {
         Ok(HipStr {
             bytes: HipByt::join_pieces_metered(alloc, texts, sep.as_bytes(), meter)?,

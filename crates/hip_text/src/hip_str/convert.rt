@@ -31,7 +31,8 @@ impl<'b, B: Backend> HipStr<'b, B> {
         meter: &mut Meter,
     ) -> Result<HipStr<'static, B>, Self>
         ensures owned { OwnedAnswers self.entry result }
-        ensures counted { RisesAtMost meter.old meter.new (owned_cost B.SHARES self.entry.kind (length self.entry.items)) }
+        ensures counted { RisesAtMost meter.old meter.new
+            (owned_cost B.SHARES self.entry.kind (length self.entry.items)) }
     {
         match self.bytes.into_owned_metered(alloc, meter) {
             Ok(bytes) => Ok(HipStr { bytes }),
@@ -57,7 +58,8 @@ impl<'b, B: Backend> HipStr<'b, B> {
         meter: &mut Meter,
     ) -> Result<Self, String>
         ensures made { MakeAnswers (string_bytes string) result }
-        ensures counted { RisesAtMost meter.old meter.new (taken_cost B.SHARES (length (string_bytes string))) }
+        ensures counted { RisesAtMost meter.old meter.new
+            (taken_cost B.SHARES (length (string_bytes string))) }
         ensures handed_back { IfErr result (λ back. back ≡ string) }
     {
         match HipByt::from_vec_metered(alloc, string.into_bytes(), meter) {
@@ -98,9 +100,12 @@ impl<'b, B: Backend> HipStr<'b, B> {
     #[inline]
     pub fn from_cow(alloc: Global, cow: CowStr<'b>) -> Result<Self, CowStr<'b>>
         ensures items { IfOk result (λ text. text.items ≡ cow_str_bytes cow.entry) }
-        ensures borrowed { IsBorrowedStr cow.entry → IsOkAnd result (λ text. text.kind ≡ Kind.Borrowed) }
-        ensures owned { IsOwnedStr cow.entry → IfOk result (λ text. text.kind ≡ by_length (length (cow_str_bytes cow.entry))) }
-        ensures capacity { IfOk result (λ text. HasCapacity text.kind (length text.items) text.capacity) }
+        ensures borrowed { IsBorrowedStr cow.entry
+            → IsOkAnd result (λ text. text.kind ≡ Kind.Borrowed) }
+        ensures owned { IsOwnedStr cow.entry
+            → IfOk result (λ text. text.kind ≡ by_length (length (cow_str_bytes cow.entry))) }
+        ensures capacity { IfOk result
+            (λ text. HasCapacity text.kind (length text.items) text.capacity) }
         ensures memory { OnErr result (INLINE_CAPACITY < length (cow_str_bytes cow.entry)) }
         ensures handed_back { IfErr result (λ back. back ≡ cow.entry) }
     {

@@ -25,7 +25,8 @@ fn text_range(
         (result ≡ Ok (start_index low, end_index high (length text.now)))
         (λ kind. result ≡ Err kind) }
     ensures ordered { IfOk result (λ range. (range.0 ≤ range.1) × (range.1 ≤ length text.now)) }
-    ensures boundaries { IfOk result (λ range. IsCharBoundary text.now range.0 × IsCharBoundary text.now range.1) }
+    ensures boundaries { IfOk result
+        (λ range. IsCharBoundary text.now range.0 × IsCharBoundary text.now range.1) }
 {
     let (start, end) = range_of(low, high, text.len())?;
     if !text.is_char_boundary(start) {
@@ -51,7 +52,8 @@ impl<'b, B: Backend> HipStr<'b, B> {
     #[inline]
     pub fn clone_metered(&self, alloc: Global, meter: &mut Meter) -> Result<Self, AllocError>
         ensures clone { CloneAnswers self.now result }
-        ensures counted { RisesAtMost meter.old meter.new (clone_cost B.SHARES self.now.kind (length self.now.items)) }
+        ensures counted { RisesAtMost meter.old meter.new
+            (clone_cost B.SHARES self.now.kind (length self.now.items)) }
     {
         Ok(HipStr {
             bytes: self.bytes.clone_metered(alloc, meter)?,
@@ -73,7 +75,8 @@ impl<'b, B: Backend> HipStr<'b, B> {
         requires start_at_boundary { IsCharBoundary self.now.items start }
         requires end_at_boundary { IsCharBoundary self.now.items end }
         ensures part { CutAnswers self.now (slice_range self.now.items start end) result }
-        ensures counted { RisesAtMost meter.old meter.new (cut_cost B.SHARES self.now.kind (end - start)) }
+        ensures counted { RisesAtMost meter.old meter.new
+            (cut_cost B.SHARES self.now.kind (end - start)) }
     {
         Ok(HipStr {
             bytes: self.bytes.part_metered(alloc, start, end, meter)?,
@@ -122,7 +125,8 @@ impl<'b, B: Backend> HipStr<'b, B> {
         alloc: Global,
         range: R,
     ) -> Result<Self, SliceRefusal<'_, 'b, B>>
-        ensures slice { R.has_bounds range → SliceAnswers self.now (R.start_bound range) (R.end_bound range) result }
+        ensures slice { R.has_bounds range
+            → SliceAnswers self.now (R.start_bound range) (R.end_bound range) result }
     {
         self.try_slice_metered(alloc, range, &mut Meter::new())
     }
@@ -135,8 +139,11 @@ impl<'b, B: Backend> HipStr<'b, B> {
         range: R,
         meter: &mut Meter,
     ) -> Result<Self, SliceRefusal<'_, 'b, B>>
-        ensures slice { R.has_bounds range → SliceAnswers self.now (R.start_bound range) (R.end_bound range) result }
-        ensures counted { R.has_bounds range → RisesAtMost meter.old meter.new (slice_cost B.SHARES self.now (R.start_bound range) (R.end_bound range)) }
+        ensures slice { R.has_bounds range
+            → SliceAnswers self.now (R.start_bound range) (R.end_bound range) result }
+        ensures counted { R.has_bounds range
+            → RisesAtMost meter.old meter.new
+            (slice_cost B.SHARES self.now (R.start_bound range) (R.end_bound range)) }
     {
         let low = bound_of(range.start_bound());
         let high = bound_of(range.end_bound());
@@ -147,8 +154,10 @@ impl<'b, B: Backend> HipStr<'b, B> {
     #[inline]
     pub fn slice<R: RangeBounds<usize>>(&self, alloc: Global, range: R) -> Result<Self, AllocError>
         requires bounds { R.has_bounds range }
-        requires valid { text_slice_fault (R.start_bound range) (R.end_bound range) self.now.items ≡ None }
-        ensures part { CutAnswers self.now (slice_of (R.start_bound range) (R.end_bound range) self.now.items) result }
+        requires valid { text_slice_fault (R.start_bound range)
+            (R.end_bound range) self.now.items ≡ None }
+        ensures part { CutAnswers self.now
+            (slice_of (R.start_bound range) (R.end_bound range) self.now.items) result }
     {
         self.slice_metered(alloc, range, &mut Meter::new())
     }
@@ -162,9 +171,13 @@ impl<'b, B: Backend> HipStr<'b, B> {
         meter: &mut Meter,
     ) -> Result<Self, AllocError>
         requires bounds { R.has_bounds range }
-        requires valid { text_slice_fault (R.start_bound range) (R.end_bound range) self.now.items ≡ None }
-        ensures part { CutAnswers self.now (slice_of (R.start_bound range) (R.end_bound range) self.now.items) result }
-        ensures counted { RisesAtMost meter.old meter.new (cut_cost B.SHARES self.now.kind (length (slice_of (R.start_bound range) (R.end_bound range) self.now.items))) }
+        requires valid { text_slice_fault (R.start_bound range)
+            (R.end_bound range) self.now.items ≡ None }
+        ensures part { CutAnswers self.now
+            (slice_of (R.start_bound range) (R.end_bound range) self.now.items) result }
+        ensures counted { RisesAtMost meter.old meter.new
+            (cut_cost B.SHARES self.now.kind
+            (length (slice_of (R.start_bound range) (R.end_bound range) self.now.items))) }
     {
         let low = bound_of(range.start_bound());
         let high = bound_of(range.end_bound());
@@ -180,8 +193,10 @@ impl<'b, B: Backend> HipStr<'b, B> {
         range: R,
     ) -> Result<Self, AllocError>
         requires bounds { R.has_bounds range }
-        requires valid { text_slice_fault (R.start_bound range) (R.end_bound range) self.now.items ≡ None }
-        ensures part { CutAnswers self.now (slice_of (R.start_bound range) (R.end_bound range) self.now.items) result }
+        requires valid { text_slice_fault (R.start_bound range)
+            (R.end_bound range) self.now.items ≡ None }
+        ensures part { CutAnswers self.now
+            (slice_of (R.start_bound range) (R.end_bound range) self.now.items) result }
     {
         self.slice_metered(alloc, range, &mut Meter::new())
     }
@@ -195,9 +210,13 @@ impl<'b, B: Backend> HipStr<'b, B> {
         meter: &mut Meter,
     ) -> Result<Self, AllocError>
         requires bounds { R.has_bounds range }
-        requires valid { text_slice_fault (R.start_bound range) (R.end_bound range) self.now.items ≡ None }
-        ensures part { CutAnswers self.now (slice_of (R.start_bound range) (R.end_bound range) self.now.items) result }
-        ensures counted { RisesAtMost meter.old meter.new (cut_cost B.SHARES self.now.kind (length (slice_of (R.start_bound range) (R.end_bound range) self.now.items))) }
+        requires valid { text_slice_fault (R.start_bound range)
+            (R.end_bound range) self.now.items ≡ None }
+        ensures part { CutAnswers self.now
+            (slice_of (R.start_bound range) (R.end_bound range) self.now.items) result }
+        ensures counted { RisesAtMost meter.old meter.new
+            (cut_cost B.SHARES self.now.kind
+            (length (slice_of (R.start_bound range) (R.end_bound range) self.now.items))) }
     {
         self.slice_metered(alloc, range, meter)
     }

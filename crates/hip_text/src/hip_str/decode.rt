@@ -34,7 +34,9 @@ impl<'b, B: Backend> HipStr<'b, B> {
     #[tactic(auto, using(crate::proofs::Texts::texts))]
     pub fn from_utf8_lossy(alloc: Global, bytes: HipByt<'b, B>) -> Result<Self, HipByt<'b, B>>
         ensures valid { IsUtf8 bytes.entry.items → IsOkAnd result (λ text. text ≡ bytes.entry) }
-        ensures repaired { ¬ (IsUtf8 bytes.entry.items) → IfOk result (λ text. HoldsByLength text (encode_utf8_all (lossy_chars bytes.entry.items))) }
+        ensures repaired { ¬ (IsUtf8 bytes.entry.items)
+            → IfOk result (λ text. HoldsByLength text
+            (encode_utf8_all (lossy_chars bytes.entry.items))) }
         ensures handed_back { IfErr result (λ back. back ≡ bytes.entry) }
     {
         if fault_of(bytes.as_slice()).is_none() {

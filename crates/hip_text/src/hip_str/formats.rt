@@ -15,8 +15,10 @@ impl<'b, B: Backend> HipStr<'b, B> {
     /// Writes the Borsh form, which is that of the bytes. A write that fails isn't tried again.
     #[inline]
     pub fn serialize<W: ByteSink>(&self, sink: &mut W) -> Result<(), BorshFault>
-        ensures written { BorshWrites self.now.items (W.written sink.old) (W.written sink.new) result }
-        ensures failures { CountsWrites result (W.may_be_full sink.new) (W.failures sink.old) (W.failures sink.new) }
+        ensures written { BorshWrites self.now.items (W.written sink.old)
+            (W.written sink.new) result }
+        ensures failures { CountsWrites result (W.may_be_full sink.new) (W.failures sink.old)
+            (W.failures sink.new) }
         ensures too_long { result ≡ Err BorshFault.TooLong → sink.new ≡ sink.old }
     {
         self.bytes.serialize(sink)

@@ -31,9 +31,11 @@ impl<'b, B: Backend> HipStr<'b, B> {
         meter: &mut Meter,
     ) -> Result<(), AllocError>
         ensures push { PushAnswers B.SHARES self.old addition.now result self.new }
-        ensures counted { RisesAtMost meter.old meter.new (push_cost B.SHARES (length self.old.items) (length addition.now)) }
+        ensures counted { RisesAtMost meter.old meter.new
+            (push_cost B.SHARES (length self.old.items) (length addition.now)) }
         ensures copied { OnOk result (RisesAtLeast meter.old meter.new (length addition.now)) }
-        ensures paid { PushIsPaid B.SHARES self.old self.new (length addition.now) meter.old meter.new }
+        ensures paid { PushIsPaid B.SHARES self.old self.new
+            (length addition.now) meter.old meter.new }
     {
         self.bytes
             .push_slice_metered(alloc, addition.as_bytes(), meter)
@@ -56,9 +58,11 @@ impl<'b, B: Backend> HipStr<'b, B> {
         meter: &mut Meter,
     ) -> Result<(), AllocError>
         ensures push { PushAnswers B.SHARES self.old (encode_utf8 c) result self.new }
-        ensures counted { RisesAtMost meter.old meter.new (push_cost B.SHARES (length self.old.items) (length (encode_utf8 c))) }
+        ensures counted { RisesAtMost meter.old meter.new
+            (push_cost B.SHARES (length self.old.items) (length (encode_utf8 c))) }
         ensures copied { OnOk result (RisesAtLeast meter.old meter.new (length (encode_utf8 c))) }
-        ensures paid { PushIsPaid B.SHARES self.old self.new (length (encode_utf8 c)) meter.old meter.new }
+        ensures paid { PushIsPaid B.SHARES self.old self.new
+            (length (encode_utf8 c)) meter.old meter.new }
     {
         let mut room = [0; 4];
         let bytes = c.encode_utf8(&mut room).as_bytes();
@@ -134,7 +138,8 @@ impl<'b, B: Backend> HipStr<'b, B> {
     /// Gives room back: to the handle itself where `least` and the bytes fit it, else to no less than both. Bytes that lie in the handle
     /// itself or with another value stay as they are.
     pub fn shrink_to(&mut self, alloc: Global, least: usize) -> Result<(), AllocError>
-        ensures shrink { ShrinkAnswers self.old (max least (length self.old.items)) result self.new }
+        ensures shrink { ShrinkAnswers self.old
+            (max least (length self.old.items)) result self.new }
     {
         self.shrink_to_metered(alloc, least, &mut Meter::new())
     }
@@ -147,8 +152,10 @@ impl<'b, B: Backend> HipStr<'b, B> {
         least: usize,
         meter: &mut Meter,
     ) -> Result<(), AllocError>
-        ensures shrink { ShrinkAnswers self.old (max least (length self.old.items)) result self.new }
-        ensures counted { RisesAtMost meter.old meter.new (shrink_cost B.SHARES self.old.kind (length self.old.items)) }
+        ensures shrink { ShrinkAnswers self.old
+            (max least (length self.old.items)) result self.new }
+        ensures counted { RisesAtMost meter.old meter.new
+            (shrink_cost B.SHARES self.old.kind (length self.old.items)) }
     {
         self.bytes.shrink_to_metered(alloc, least, meter)
     }

@@ -60,7 +60,8 @@ impl<'b, B: Backend> HipStr<'b, B> {
         meter: &mut Meter,
     ) -> Result<Self, AllocError>
         ensures made { MakeAnswers text.now result }
-        ensures counted { RisesAtMost meter.old meter.new (times_copied B.SHARES (length text.now)) }
+        ensures counted { RisesAtMost meter.old meter.new
+            (times_copied B.SHARES (length text.now)) }
         ensures copied { IfOk result (λ made. RisesAtLeast meter.old meter.new (length text.now)) }
     {
         let bytes = HipByt::from_slice_metered(alloc, text.as_bytes(), meter)?;

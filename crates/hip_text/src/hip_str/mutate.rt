@@ -106,7 +106,8 @@ impl<'b, B: Backend> HipStr<'b, B> {
         requires { TakesItems string_bytes F.FnOnce f self.old.items }
         ensures mutated { MutateAnswers string_bytes F.FnOnce f self.old.items self.old self.new
             HoldsByLength IsEmptyInline (λ len. INLINE_CAPACITY < len) result }
-        ensures counted { MutateCosts string_bytes F.FnOnce f self.old.items meter.old meter.new (taken_cost B.SHARES) result }
+        ensures counted { MutateCosts string_bytes F.FnOnce f self.old.items meter.old meter.new
+            (taken_cost B.SHARES) result }
     {
         with_mutated_metered(self, alloc, f, meter)
     }

@@ -30,7 +30,8 @@ impl<'b, B: Backend> HipStr<'b, B> {
 
     /// The text that these units spell, with U+FFFD for each surrogate without a partner.
     pub fn from_utf16_lossy(alloc: Global, units: &[u16]) -> Result<Self, AllocError>
-        ensures { IfOk result (λ text. HoldsByLength text (encode_utf8_all (utf16_lossy_chars units.now))) }
+        ensures { IfOk result
+            (λ text. HoldsByLength text (encode_utf8_all (utf16_lossy_chars units.now))) }
     {
         match HipStr::from_string(alloc, String::from_utf16_lossy(alloc, units)?) {
             Ok(text) => Ok(text),

@@ -14,7 +14,8 @@ impl<'b, B: Backend> HipStr<'b, B> {
     /// Moves the letters `A` to `Z` to `a` to `z`, and keeps every other character.
     #[inline]
     pub fn make_ascii_lowercase(&mut self, alloc: Global) -> Result<(), AllocError>
-        ensures write { WriteAnswers B.SHARES self.old (map to_ascii_lowercase self.old.items) result self.new }
+        ensures write { WriteAnswers B.SHARES self.old
+            (map to_ascii_lowercase self.old.items) result self.new }
     {
         self.make_ascii_lowercase_metered(alloc, &mut Meter::new())
     }
@@ -27,8 +28,10 @@ impl<'b, B: Backend> HipStr<'b, B> {
         alloc: Global,
         meter: &mut Meter,
     ) -> Result<(), AllocError>
-        ensures write { WriteAnswers B.SHARES self.old (map to_ascii_lowercase self.old.items) result self.new }
-        ensures counted { RisesAtMost meter.old meter.new (write_cost B.SHARES self.old.kind (length self.old.items)) }
+        ensures write { WriteAnswers B.SHARES self.old
+            (map to_ascii_lowercase self.old.items) result self.new }
+        ensures counted { RisesAtMost meter.old meter.new
+            (write_cost B.SHARES self.old.kind (length self.old.items)) }
     {
         self.bytes.make_ascii_lowercase_metered(alloc, meter)
     }
@@ -49,7 +52,9 @@ impl<'b, B: Backend> HipStr<'b, B> {
         meter: &mut Meter,
     ) -> Result<Self, AllocError>
         ensures copy { CopyAnswers self.now (map to_ascii_lowercase self.now.items) result }
-        ensures counted { RisesAtMost meter.old meter.new (clone_cost B.SHARES self.now.kind (length self.now.items) + write_cost B.SHARES self.now.kind (length self.now.items)) }
+        ensures counted { RisesAtMost meter.old meter.new
+            (clone_cost B.SHARES self.now.kind (length self.now.items)
+            + write_cost B.SHARES self.now.kind (length self.now.items)) }
     {
         let mut copy = self.clone_metered(alloc, meter)?;
         copy.make_ascii_lowercase_metered(alloc, meter)?;
@@ -59,7 +64,8 @@ impl<'b, B: Backend> HipStr<'b, B> {
     /// Moves the letters `a` to `z` to `A` to `Z`, and keeps every other character.
     #[inline]
     pub fn make_ascii_uppercase(&mut self, alloc: Global) -> Result<(), AllocError>
-        ensures write { WriteAnswers B.SHARES self.old (map to_ascii_uppercase self.old.items) result self.new }
+        ensures write { WriteAnswers B.SHARES self.old
+            (map to_ascii_uppercase self.old.items) result self.new }
     {
         self.make_ascii_uppercase_metered(alloc, &mut Meter::new())
     }
@@ -72,8 +78,10 @@ impl<'b, B: Backend> HipStr<'b, B> {
         alloc: Global,
         meter: &mut Meter,
     ) -> Result<(), AllocError>
-        ensures write { WriteAnswers B.SHARES self.old (map to_ascii_uppercase self.old.items) result self.new }
-        ensures counted { RisesAtMost meter.old meter.new (write_cost B.SHARES self.old.kind (length self.old.items)) }
+        ensures write { WriteAnswers B.SHARES self.old
+            (map to_ascii_uppercase self.old.items) result self.new }
+        ensures counted { RisesAtMost meter.old meter.new
+            (write_cost B.SHARES self.old.kind (length self.old.items)) }
     {
         self.bytes.make_ascii_uppercase_metered(alloc, meter)
     }
@@ -94,7 +102,9 @@ impl<'b, B: Backend> HipStr<'b, B> {
         meter: &mut Meter,
     ) -> Result<Self, AllocError>
         ensures copy { CopyAnswers self.now (map to_ascii_uppercase self.now.items) result }
-        ensures counted { RisesAtMost meter.old meter.new (clone_cost B.SHARES self.now.kind (length self.now.items) + write_cost B.SHARES self.now.kind (length self.now.items)) }
+        ensures counted { RisesAtMost meter.old meter.new
+            (clone_cost B.SHARES self.now.kind (length self.now.items)
+            + write_cost B.SHARES self.now.kind (length self.now.items)) }
     {
         let mut copy = self.clone_metered(alloc, meter)?;
         copy.make_ascii_uppercase_metered(alloc, meter)?;
