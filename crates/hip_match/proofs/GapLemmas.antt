@@ -61,3 +61,10 @@ module _ (t : List ℕ) (from to : ℕ) (w : IsWindow t from to) where
 
   pub no_run : NoSpace t from to → to ≤ from → nonempty (parts t from to) ≡ []
   no_run none empty = ap nonempty (only_part none) ∙ nonempty-dropped (from, to) [] empty
+
+  -- what is left once nothing is: an empty window, and no run in it
+  pub closed : IsWindow t from from
+  closed = record { utf8 = w.utf8; start = w.start; end = w.start; ordered = omega arith }
+
+pub none_left : (t : List ℕ) (from to : ℕ) → IsWindow t from to → nonempty (parts t from from) ≡ []
+none_left t from to w = no_run t from from (closed t from to w) (λ k lo hi. absurd (omega arith)) (omega arith)

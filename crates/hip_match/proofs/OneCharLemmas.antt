@@ -13,6 +13,10 @@ pub record HasCharOccurrences (t : List ℕ) (e : ℕ → Option ℕ) : Type 0 w
   pub spans : (a b : ℕ) → e a ≡ Some b → IsCut t (a, b)
   pub one : (a b : ℕ) → e a ≡ Some b → IsOneChar t (a, b)
 
+pub one_chars : (t : List ℕ) (e : ℕ → Option ℕ) → ((a b : ℕ) → e a ≡ Some b → IsCut t (a, b))
+    → ((a b : ℕ) → e a ≡ Some b → IsOneChar t (a, b)) → HasCharOccurrences t e
+one_chars t e spans one = record { spans = spans; one = one }
+
 module _ (t : List ℕ) (e : ℕ → Option ℕ) (h : HasCharOccurrences t e) where
   pub nonempty : (a b : ℕ) → e a ≡ Some b → a < b
   nonempty a b is = (h.one a b is).holds

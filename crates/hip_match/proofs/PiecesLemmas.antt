@@ -163,7 +163,7 @@ ended-append_end (x ∷ l) i n m h full same = ap (λ r. (i, x.1) ∷ r) (ended-
 ended-none : (old new : List (ℕ × ℕ)) (i n : ℕ) → new ≡ [] → InOrder i old n → InOrder i new n
 ended-none old new i n none h = let P : List (ℕ × ℕ) → Type 0 = λ l. InOrder i l n in subst P (sym none) (InOrder-le old i n h)
 
-pub TakesLastCut-before : (old new : List (ℕ × ℕ)) (n : ℕ) (m : ℕ × ℕ) → old ≡ new ++ m ∷ [] → m.0 < m.1 → m.1 < n → TakesLastCut old new n (Some m)
+pub TakesLastCut-before : (old new : List (ℕ × ℕ)) (n : ℕ) (m : ℕ × ℕ) → old ≡ new ++ m ∷ [] → m.0 < m.1 → m.1 < n → TakesLastCut n old (Some m) new
 TakesLastCut-before old new n m is full lt i h =
     let P : List (ℕ × ℕ) → Type 0 = λ l. InOrder i l n in
     let order = subst P is h in
@@ -171,7 +171,7 @@ TakesLastCut-before old new n m is full lt i h =
     (ap (λ l. ended i l n) is ∙ ended-append new i n m order full lt, omega arith, InOrder-widen new i m.0 m.1 front (omega arith))
 
 pub TakesLastCut-at : (old mid new : List (ℕ × ℕ)) (n : ℕ) (m : ℕ × ℕ) (r : Option (ℕ × ℕ)) → old ≡ mid ++ m ∷ [] → m.0 < m.1 → n ≤ m.1
-    → MatchOption r ((mid ≡ []) × (new ≡ [])) (λ y. mid ≡ new ++ y ∷ []) → IfSome r (λ y. y.0 < y.1) → TakesLastCut old new n r
+    → MatchOption r ((mid ≡ []) × (new ≡ [])) (λ y. mid ≡ new ++ y ∷ []) → IfSome r (λ y. y.0 < y.1) → TakesLastCut n old r new
 TakesLastCut-at old mid new n m None is full ge later some i h =
     let P : List (ℕ × ℕ) → Type 0 = λ l. InOrder i l n in
     let order = subst P is h in

@@ -3,7 +3,8 @@ use Rattle.std.specs.Prelude.{◌≡◌, ℕ, Bool, Option, List, [], map, if◌
 use Rattle.std.proofs.Common.{refl, sym, ◌∙◌}
 use Rattle.hip_match.specs.Leftmost.{leftmost_between}
 use Rattle.hip_match.specs.Rightmost.{rightmost_between}
-use Rattle.hip_match.specs.Ready.{IsFrontWindow, IsBackWindow}
+use Rattle.hip_match.specs.Pieces.{ended, gaps, gaps_back}
+use Rattle.hip_match.specs.Ready.{IsBackWindow, IsBetween, IsBetweenBack, IsFrontWindow}
 use Rattle.hip_match.specs.Runs.{line_of}
 
 -- the pattern q may be searched for where p may, and occurs where p does
@@ -54,10 +55,10 @@ back_kept can copy_can t u e f i j k l d b move text ends from to done =
 
 -- the parts that a place, a list of matches and another place make, where what lies in order between the places stays so
 pub parts_kept : {A : Type 0} (Between : List ℕ → ℕ → List (ℕ × ℕ) → ℕ → Type 0)
-    (parts : A → ℕ → List (ℕ × ℕ) → ℕ → List (ℕ × ℕ)) (can copy_can : Type 0) (t u : List ℕ) (l m : List (ℕ × ℕ))
-    (i j k n : ℕ) (d b : A) → Keeps can copy_can t u l m → j ≡ i → n ≡ k → b ≡ d
+    (parts : A → ℕ → List (ℕ × ℕ) → ℕ → List (ℕ × ℕ)) {can copy_can : Type 0} {t u : List ℕ} {l m : List (ℕ × ℕ)}
+    {i j k n : ℕ} {d b : A} → Keeps can copy_can t u l m → j ≡ i → n ≡ k → b ≡ d
     → Keeps (can × Between t i l k) (copy_can × Between u j m n) t u (parts d i l k) (parts b j m n)
-parts_kept Between parts can copy_can t u l m i j k n d b kept from to last =
+parts_kept Between parts kept from to last =
     record {
       ready = λ h. (kept.ready h.0, rw (kept.text, kept.rest, from, to) h.1);
       text = kept.text;
@@ -65,12 +66,34 @@ parts_kept Between parts can copy_can t u l m i j k n d b kept from to last =
     }
 
 -- what is made of ranges
-pub made_kept : (can copy_can : Type 0) (t u : List ℕ) (l m : List (ℕ × ℕ)) (f g : List (ℕ × ℕ) → List (ℕ × ℕ))
+pub made_kept : {can copy_can : Type 0} {t u : List ℕ} {l m : List (ℕ × ℕ)} {f g : List (ℕ × ℕ) → List (ℕ × ℕ)}
     → g ≡ f → Keeps can copy_can t u l m → Keeps can copy_can t u (f l) (g m)
-made_kept can copy_can t u l m f g same kept = record { ready = kept.ready; text = kept.text; rest = rw (same, kept.rest) refl }
+made_kept same kept = record { ready = kept.ready; text = kept.text; rest = rw (same, kept.rest) refl }
+
+-- the gaps between the matches that are left
+pub gaps_kept : {can copy_can : Type 0} {t u : List ℕ} {l m : List (ℕ × ℕ)} {i j k n : ℕ} {d b : Bool}
+    → Keeps can copy_can t u l m → j ≡ i → n ≡ k → b ≡ d
+    → Keeps (can × IsBetween t i l k) (copy_can × IsBetween u j m n) t u
+    (if d then [] else gaps i l k) (if b then [] else gaps j m n)
+gaps_kept = parts_kept IsBetween (λ done i l n. if done then [] else gaps i l n)
+
+-- the same from the back
+pub gaps_back_kept : {can copy_can : Type 0} {t u : List ℕ} {l m : List (ℕ × ℕ)} {i j k n : ℕ} {d b : Bool}
+    → Keeps can copy_can t u l m → j ≡ i → n ≡ k → b ≡ d
+    → Keeps (can × IsBetweenBack t i l k) (copy_can × IsBetweenBack u j m n) t u
+    (if d then [] else gaps_back i l k) (if b then [] else gaps_back j m n)
+gaps_back_kept =
+    parts_kept IsBetweenBack (λ done i l n. if done then [] else gaps_back i l n)
+
+-- the parts that matches end
+pub ended_kept : {can copy_can : Type 0} {t u : List ℕ} {l m : List (ℕ × ℕ)} {i j k n : ℕ} {d b : Bool}
+    → Keeps can copy_can t u l m → j ≡ i → n ≡ k → b ≡ d
+    → Keeps (can × IsBetween t i l k) (copy_can × IsBetween u j m n) t u
+    (if d then [] else ended i l k) (if b then [] else ended j m n)
+ended_kept = parts_kept IsBetween (λ done i l n. if done then [] else ended i l n)
 
 -- the lines of a text, of which the parts are ranges too
-pub lines_kept : (can copy_can : Type 0) (v w t u : List ℕ) (l m : List (ℕ × ℕ)) → u ≡ t → Keeps can copy_can v w l m
+pub lines_kept : {can copy_can : Type 0} {v w t u : List ℕ} {l m : List (ℕ × ℕ)} → u ≡ t → Keeps can copy_can v w l m
     → Keeps (can × (v ≡ t)) (copy_can × (w ≡ u)) t u (map (line_of t) l) (map (line_of u) m)
-lines_kept can copy_can v w t u l m text kept =
+lines_kept text kept =
     record { ready = λ h. (kept.ready h.0, kept.text ∙ h.1 ∙ sym text); text = text; rest = rw (text, kept.rest) refl }

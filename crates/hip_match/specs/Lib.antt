@@ -14,4 +14,5 @@ pub mod Answers
 pub mod Marks
 pub mod Ready
 pub mod Clones
+pub mod Iterators
 pub mod Rows

@@ -1,5 +1,5 @@
 -- The pieces that a list of matches cuts a text into, as Rust's documentation of `str` tells them. The text has n bytes.
-use Rattle.std.specs.Prelude.{ℕ, zero, suc, ◌≤◌, ◌==◌, Option, List, [], ◌∷◌, if◌then◌else◌}
+use Rattle.std.specs.Prelude.{Bool, ℕ, zero, suc, ◌≤◌, ◌==◌, Option, List, [], ◌∷◌, if◌then◌else◌}
 use Rattle.hip_match.specs.Leftmost.{leftmost}
 use Rattle.hip_match.specs.Rightmost.{rightmost}
 
@@ -52,6 +52,14 @@ at_most_from zero rs i = []
 at_most_from (suc count) [] i = []
 at_most_from (suc zero) (r ∷ rs) i = (i, r.1) ∷ []
 at_most_from (suc (suc count)) (r ∷ rs) i = r ∷ at_most_from (suc count) rs i
+
+-- the parts that an occurrence ends: without the last where that is empty and is still to be left out
+abbrev pub to_terminator : Bool → List (ℕ × ℕ) → List (ℕ × ℕ)
+to_terminator ending rs = if ending then without_empty_last rs else rs
+
+-- the same from the back
+abbrev pub from_terminator : Bool → List (ℕ × ℕ) → List (ℕ × ℕ)
+from_terminator beginning rs = if beginning then without_empty_first rs else rs
 
 -- the methods of `str`
 abbrev pub split : (ℕ → Option ℕ) → ℕ → List (ℕ × ℕ)

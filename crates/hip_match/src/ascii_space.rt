@@ -1,8 +1,8 @@
 //! ASCII white space, found 64 bytes at a time.
 ghost use Rattle.std.specs.Prelude.{◌≡◌, ◌+◌, ◌*◌, ◌<◌, ◌≤◌, [], ◌∷◌, length, IfSome, MatchOption};
 ghost use Rattle.hip_match.specs.Marks.{NoSpace, AreMarks, IsNextSpace, IsLastSpace, AreFrontMarks, AreBackMarks, parts};
-ghost use Rattle.hip_match.specs.Occurrence.{IsCut};
-ghost use Rattle.hip_match.specs.Ready.{IsWindow};
+ghost use Rattle.hip_match.specs.Iterators.{Gives, Takes};
+ghost use Rattle.hip_match.specs.Ready.{IsWindow, TakesOnly};
 ghost use Rattle.hip_match.specs.Runs.{nonempty, split_ascii_whitespace};
 
 use crate::ranges::{CloneRanges, Ranges, RangesBack};
@@ -76,8 +76,10 @@ impl FrontMarks {
     fn next(&mut self, bytes: &[u8], to: usize) -> Option<usize>
         requires marks { AreFrontMarks bytes.now self.old.from self.old.block self.old.marks }
         requires within { to ≤ length bytes.now }
-        ensures next { MatchOption result (NoSpace bytes.now self.old.from to) (λ at. IsNextSpace bytes.now self.old.from at × (at < to)) }
-        ensures in_block { IfSome result (λ at. (self.new.block ≤ at) × (at < self.new.block + 64)) }
+        ensures next { MatchOption result (NoSpace bytes.now self.old.from to)
+            (λ at. IsNextSpace bytes.now self.old.from at × (at < to)) }
+        ensures in_block { IfSome result
+            (λ at. (self.new.block ≤ at) × (at < self.new.block + 64)) }
         ensures from { self.new.from ≡ self.old.from }
         ensures marks { AreFrontMarks bytes.now self.new.from self.new.block self.new.marks }
     {
@@ -138,8 +140,10 @@ impl BackMarks {
     #[inline(always)]
     fn last(&mut self, bytes: &[u8], from: usize) -> Option<usize>
         requires { AreBackMarks bytes.now self.old.to self.old.blocks self.old.marks }
-        ensures last { MatchOption result (NoSpace bytes.now from self.old.to) (λ at. IsLastSpace bytes.now self.old.to at × (from ≤ at)) }
-        ensures in_block { IfSome result (λ at. (64 * self.new.blocks ≤ at) × (at < 64 * self.new.blocks + 64)) }
+        ensures last { MatchOption result (NoSpace bytes.now from self.old.to)
+            (λ at. IsLastSpace bytes.now self.old.to at × (from ≤ at)) }
+        ensures in_block { IfSome result
+            (λ at. (64 * self.new.blocks ≤ at) × (at < 64 * self.new.blocks + 64)) }
         ensures to { self.new.to ≡ self.old.to }
         ensures marks { AreBackMarks bytes.now self.new.to self.new.blocks self.new.marks }
     {
@@ -174,24 +178,23 @@ impl BackMarks {
     }
 }
 
-/// The longest runs of a text without ASCII white space.
+/// The longest runs of a text without ASCII white space, to which U+000B doesn't belong.
 #[derive(Clone, Drop)]
-pub(crate) struct AsciiRuns<'h> {
+pub struct SplitAsciiWhitespace<'h> {
     text: &'h str,
     front: FrontMarks,
     back: BackMarks,
 }
 
-impl<'h> AsciiRuns<'h> {
+impl<'h> SplitAsciiWhitespace<'h> {
     /// The runs of `text` between ASCII white space.
     #[inline]
-    pub(crate) fn new(text: &'h str) -> Self
-        ensures ready { ⟦<AsciiRuns<'h> as Ranges>⟧.ready result }
-        ensures text { ⟦<AsciiRuns<'h> as Ranges>⟧.text result ≡ text.now }
-        ensures rest { ⟦<AsciiRuns<'h> as Ranges>⟧.rest result ≡ split_ascii_whitespace text.now }
+    pub fn new(text: &'h str) -> Self
+        ensures ranges { Gives ⟦<SplitAsciiWhitespace<'h> as Ranges>⟧ result text.now
+            (split_ascii_whitespace text.now) }
     {
         let bytes = text.as_bytes();
-        AsciiRuns {
+        SplitAsciiWhitespace {
             text,
             front: FrontMarks::new(bytes),
             back: BackMarks::new(bytes),
@@ -201,13 +204,10 @@ impl<'h> AsciiRuns<'h> {
     // What is left, where it holds no white space: one run, or nothing.
     #[inline]
     fn take_rest(&mut self) -> Option<(usize, usize)>
-        requires ready { ⟦<AsciiRuns<'h> as Ranges>⟧.ready self.old }
+        requires ready { ⟦<SplitAsciiWhitespace<'h> as Ranges>⟧.ready self.old }
         requires clear { NoSpace self.old.text.now self.old.front.from self.old.back.to }
-        ensures only { MatchOption result (⟦<AsciiRuns<'h> as Ranges>⟧.rest self.old ≡ []) (λ r. ⟦<AsciiRuns<'h> as Ranges>⟧.rest self.old ≡ r ∷ []) }
-        ensures rest { ⟦<AsciiRuns<'h> as Ranges>⟧.rest self.new ≡ [] }
-        ensures cut { IfSome result (IsCut self.old.text.now) }
-        ensures text { self.new.text.now ≡ self.old.text.now }
-        ensures ready { ⟦<AsciiRuns<'h> as Ranges>⟧.ready self.new }
+        ensures taken { Takes ⟦<SplitAsciiWhitespace<'h> as Ranges>⟧ TakesOnly
+            self.old result self.new }
     {
         let start = self.front.from;
         let end = self.back.to;
@@ -220,7 +220,7 @@ impl<'h> AsciiRuns<'h> {
     }
 }
 
-impl<'h> Ranges for AsciiRuns<'h> {
+impl<'h> Ranges for SplitAsciiWhitespace<'h> {
     ghost ready = { λ s. IsWindow s.text.now s.front.from s.back.to
         × AreFrontMarks s.text.now s.front.from s.front.block s.front.marks
         × AreBackMarks s.text.now s.back.to s.back.blocks s.back.marks };
@@ -243,13 +243,13 @@ impl<'h> Ranges for AsciiRuns<'h> {
     }
 }
 
-impl<'h> CloneRanges for AsciiRuns<'h> {
+impl<'h> CloneRanges for SplitAsciiWhitespace<'h> {
     ghost use Rattle.std.proofs.Common.{rules};
 
     ghost clone_keeps = { Prim.search rules };
 }
 
-impl<'h> RangesBack for AsciiRuns<'h> {
+impl<'h> RangesBack for SplitAsciiWhitespace<'h> {
     #[inline(always)]
     fn next_back(&mut self) -> Option<(usize, usize)> {
         let bytes = self.text.as_bytes();

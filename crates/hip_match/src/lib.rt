@@ -19,8 +19,8 @@
 //! The words of the contracts stand in `specs/`: `Occurrence` (where a pattern occurs, and what a search gives), `Characters` and `Texts`
 //! (where sets of characters and texts occur), `Leftmost` and `Rightmost` (the lists of matches), `Pieces` (the parts between matches, and
 //! lists in order), `Runs` (lines, and runs between white space), `Trims` (what is removed from the ends), `Draw` (what a script draws),
-//! `Joined` (pieces put together again), `Answers` (what a closure answers), `Ready` and `Marks` (what a walk keeps of its places) and
-//! `Clones` (what its clone keeps); what they give for texts as one writes them down stands in `Rows`, and `CharLaws` and `TextLaws` have
+//! `Joined` (pieces put together again), `Answers` (what a closure answers), `Ready` and `Marks` (what a walk keeps of its places),
+//! `Clones` (what its clone keeps) and `Iterators` (what is said of a walk by its type's own words); what they give for texts as one writes them down stands in `Rows`, and `CharLaws` and `TextLaws` have
 //! what holds of the places where characters and texts occur.
 #![tactic(auto)]
 

@@ -2,7 +2,8 @@
 ghost use Rattle.std.specs.Prelude.{◌≡◌, ◌==◌, map};
 ghost use Rattle.std.proofs.Common.{ap};
 ghost use Rattle.hip_match.specs.Characters.{char_ends};
-ghost use Rattle.hip_match.specs.Clones.{lines_kept};
+ghost use Rattle.hip_match.specs.Clones.{ended_kept, lines_kept};
+ghost use Rattle.hip_match.specs.Iterators.{Gives};
 ghost use Rattle.hip_match.specs.Occurrence.{IsCut};
 ghost use Rattle.hip_match.specs.Runs.{line_of, lines};
 
@@ -20,9 +21,7 @@ impl<'h> Lines<'h> {
     /// The lines of `text`.
     #[inline]
     pub fn new(text: &'h str) -> Self
-        ensures ready { ⟦<Lines<'h> as Ranges>⟧.ready result }
-        ensures text { ⟦<Lines<'h> as Ranges>⟧.text result ≡ text.now }
-        ensures rest { ⟦<Lines<'h> as Ranges>⟧.rest result ≡ lines text.now }
+        ensures ranges { Gives ⟦<Lines<'h> as Ranges>⟧ result text.now (lines text.now) }
     {
         Lines {
             text,
@@ -52,7 +51,7 @@ fn without_line_end(text: &str, part: (usize, usize)) -> (usize, usize)
 
 impl<'h> Ranges for Lines<'h> {
     ghost ready = { λ s. ⟦<SplitInclusive<'h, char> as Ranges>⟧.ready s.parts
-        × (⟦<SplitInclusive<'h, char> as Ranges>⟧.text s.parts ≡ s.text.now) };
+        × (s.parts.matches.text.now ≡ s.text.now) };
 
     ghost text = { λ s. s.text.now };
 
@@ -66,8 +65,11 @@ impl<'h> Ranges for Lines<'h> {
 }
 
 impl<'h> CloneRanges for Lines<'h> {
-    ghost clone_keeps = { λ s copy is. lines_kept _ _ _ _ s.text.now copy.text.now _ _ (ap (λ t. t.now) is.0)
-        (is.1 (λ p q same. record { searchable = λ h. h; occurs = ap (λ c. char_ends (λ d. d == c)) same })) };
+    ghost clone_keeps = { λ _ _ is. lines_kept (ap (λ t. t.now) is.0)
+        (ended_kept (is.1.0 (λ _ _ same. record {
+          searchable = λ h. h;
+          occurs = ap (λ c. char_ends (λ d. d == c)) same;
+        })) is.1.1.0 is.1.1.1.0 is.1.1.1.1) };
 }
 
 impl<'h> RangesBack for Lines<'h> {

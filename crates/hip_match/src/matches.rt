@@ -1,10 +1,9 @@
 //! The occurrences of a pattern, leftmost first.
-ghost use Rattle.std.specs.Prelude.{◌≡◌, ◌<◌, [], IfSome, length, if◌then◌else◌};
-ghost use Rattle.std.specs.Iterator.{YieldsLast};
-ghost use Rattle.hip_match.specs.Clones.{ClonesKeep, KeepsRanges};
-ghost use Rattle.hip_match.specs.Occurrence.{IsCut};
+ghost use Rattle.std.specs.Prelude.{◌<◌, [], IfSome, length, if◌then◌else◌};
+ghost use Rattle.hip_match.specs.Clones.{ClonesKeep};
+ghost use Rattle.hip_match.specs.Iterators.{Gives, GivesAlike, Takes};
 ghost use Rattle.hip_match.specs.Leftmost.{leftmost, leftmost_between};
-ghost use Rattle.hip_match.specs.Ready.{IsFrontWindow, IsBetween, TakesLastCut};
+ghost use Rattle.hip_match.specs.Ready.{IsFrontWindow, IsBetween, TakesLast, TakesLastCut};
 
 use crate::boundaries::boundary_after;
 use crate::pattern::{ClonePattern, OneChar, Pattern};
@@ -24,11 +23,8 @@ pub struct Matches<'h, P: Pattern> {
 
 // The searcher is prepared anew, so that nothing but the pattern's clone may want memory.
 impl<'h, P: Pattern + Clone> Clone for Matches<'h, P> {
-    ghost is_clone = { λ m copy. ClonesKeep P.is_clone P.can_search P.ends → KeepsRanges
-        ⟦<Matches<'h, P> as Ranges>⟧.ready
-        ⟦<Matches<'h, P> as Ranges>⟧.text
-        ⟦<Matches<'h, P> as Ranges>⟧.rest
-        m copy };
+    ghost is_clone = { λ m copy. ClonesKeep P.is_clone P.can_search P.ends →
+        GivesAlike ⟦<Matches<'h, P> as Ranges>⟧ m copy };
 
     ghost is_infallible = { λ m. P.is_infallible m.pattern };
 
@@ -55,10 +51,10 @@ impl<'h, P: Pattern> Matches<'h, P> {
     #[inline]
     pub fn new(text: &'h str, pattern: P) -> Self
         requires { P.can_search pattern }
-        ensures ready { ⟦<Matches<'h, P> as Ranges>⟧.ready result }
-        ensures text { ⟦<Matches<'h, P> as Ranges>⟧.text result ≡ text.now }
-        ensures rest { ⟦<Matches<'h, P> as Ranges>⟧.rest result ≡ leftmost (P.ends pattern text.now) (length text.now) }
-        ensures between { IsBetween text.now 0 (⟦<Matches<'h, P> as Ranges>⟧.rest result) (length text.now) }
+        ensures ranges { Gives ⟦<Matches<'h, P> as Ranges>⟧ result text.now
+            (leftmost (P.ends pattern text.now) (length text.now)) }
+        ensures between { IsBetween text.now 0
+            (leftmost (P.ends pattern text.now) (length text.now)) (length text.now) }
     {
         let searcher = pattern.searcher();
         Matches {
@@ -111,10 +107,7 @@ impl<'h, P: OneChar> Matches<'h, P> {
     #[inline]
     pub(crate) fn next_back_match(&mut self) -> Option<(usize, usize)>
         requires { ⟦<Matches<'h, P> as Ranges>⟧.ready self.old }
-        ensures last { YieldsLast (⟦<Matches<'h, P> as Ranges>⟧.rest) self.old result self.new }
-        ensures cut { IfSome result (IsCut (⟦<Matches<'h, P> as Ranges>⟧.text self.old)) }
-        ensures text { ⟦<Matches<'h, P> as Ranges>⟧.text self.new ≡ ⟦<Matches<'h, P> as Ranges>⟧.text self.old }
-        ensures ready { ⟦<Matches<'h, P> as Ranges>⟧.ready self.new }
+        ensures taken { Takes ⟦<Matches<'h, P> as Ranges>⟧ TakesLast self.old result self.new }
         ensures holds { IfSome result (λ r. r.0 < r.1) }
     {
         if self.done {
@@ -138,10 +131,8 @@ impl<'h, P: OneChar> Matches<'h, P> {
     #[inline]
     pub(crate) fn last_before(&mut self, end: usize) -> Option<(usize, usize)>
         requires { ⟦<Matches<'h, P> as Ranges>⟧.ready self.old }
-        ensures taken { TakesLastCut (⟦<Matches<'h, P> as Ranges>⟧.rest self.old) (⟦<Matches<'h, P> as Ranges>⟧.rest self.new) end result }
-        ensures cut { IfSome result (IsCut (⟦<Matches<'h, P> as Ranges>⟧.text self.old)) }
-        ensures text { ⟦<Matches<'h, P> as Ranges>⟧.text self.new ≡ ⟦<Matches<'h, P> as Ranges>⟧.text self.old }
-        ensures ready { ⟦<Matches<'h, P> as Ranges>⟧.ready self.new }
+        ensures taken { Takes ⟦<Matches<'h, P> as Ranges>⟧
+            (TakesLastCut end) self.old result self.new }
     {
         let last = self.next_back_match()?;
         if last.1 < end {
@@ -159,25 +150,9 @@ impl<'h, P: OneChar> RangesBack for Matches<'h, P> {
 }
 
 /// The ranges of the occurrences of a pattern in a text, leftmost first: those of [`Matches`].
-#[derive(Drop)]
+#[derive(Clone, Drop)]
 pub struct MatchIndices<'h, P: Pattern> {
     matches: Matches<'h, P>,
-}
-
-impl<'h, P: Pattern + Clone> Clone for MatchIndices<'h, P> {
-    ghost is_clone = { λ s copy. ClonesKeep P.is_clone P.can_search P.ends → KeepsRanges
-        ⟦<MatchIndices<'h, P> as Ranges>⟧.ready
-        ⟦<MatchIndices<'h, P> as Ranges>⟧.text
-        ⟦<MatchIndices<'h, P> as Ranges>⟧.rest
-        s copy };
-
-    ghost is_infallible = { λ s. P.is_infallible s.matches.pattern };
-
-    fn clone(&self) -> Result<Self, AllocError> {
-        Ok(MatchIndices {
-            matches: self.matches.clone()?,
-        })
-    }
 }
 
 impl<'h, P: ClonePattern> CloneRanges for MatchIndices<'h, P> {
@@ -189,9 +164,8 @@ impl<'h, P: Pattern> MatchIndices<'h, P> {
     #[inline]
     pub fn new(text: &'h str, pattern: P) -> Self
         requires { P.can_search pattern }
-        ensures ready { ⟦<MatchIndices<'h, P> as Ranges>⟧.ready result }
-        ensures text { ⟦<MatchIndices<'h, P> as Ranges>⟧.text result ≡ text.now }
-        ensures rest { ⟦<MatchIndices<'h, P> as Ranges>⟧.rest result ≡ leftmost (P.ends pattern text.now) (length text.now) }
+        ensures ranges { Gives ⟦<MatchIndices<'h, P> as Ranges>⟧ result text.now
+            (leftmost (P.ends pattern text.now) (length text.now)) }
     {
         MatchIndices {
             matches: Matches::new(text, pattern),
@@ -202,7 +176,7 @@ impl<'h, P: Pattern> MatchIndices<'h, P> {
 impl<'h, P: Pattern> Ranges for MatchIndices<'h, P> {
     ghost ready = { λ s. ⟦<Matches<'h, P> as Ranges>⟧.ready s.matches };
 
-    ghost text = { λ s. ⟦<Matches<'h, P> as Ranges>⟧.text s.matches };
+    ghost text = { λ s. s.matches.text.now };
 
     ghost rest = { λ s. ⟦<Matches<'h, P> as Ranges>⟧.rest s.matches };
 

@@ -28,9 +28,12 @@ pub fn choose_by<T>(seen: &T) -> Chosen
 impl<F: Fn(char) -> bool> CharPred<F> {
     /// The characters that `test` passes, where `chosen` has its answers. A caller with type parameters makes those by [`choose_by`] in a function without any.
     pub fn with(test: F, chosen: Chosen) -> Self
-        requires { (c : ℕ) → IsScalar c → F.pre test c × ((answer : Bool) → F.post test c answer → answer ≡ answer_at chosen.answers c) }
+        requires { (c : ℕ) → IsScalar c
+            → F.pre test c
+            × ((answer : Bool) → F.post test c answer → answer ≡ answer_at chosen.answers c) }
         ensures can { ⟦<CharPred<F> as Pattern>⟧.can_search result }
-        ensures ends { ⟦<CharPred<F> as Pattern>⟧.ends result ≡ char_ends (λ c. answer_at chosen.answers c) }
+        ensures ends { ⟦<CharPred<F> as Pattern>⟧.ends result
+            ≡ char_ends (λ c. answer_at chosen.answers c) }
     {
         CharPred { test, chosen }
     }
@@ -38,7 +41,8 @@ impl<F: Fn(char) -> bool> CharPred<F> {
     /// The characters that `test` passes. It may be called on every character, and gives one answer for each.
     pub fn new(test: F) -> Self
         ghost passes: { ℕ → Bool }
-        requires { (c : ℕ) → IsScalar c → F.pre test c × ((answer : Bool) → F.post test c answer → answer ≡ passes c) }
+        requires { (c : ℕ) → IsScalar c
+            → F.pre test c × ((answer : Bool) → F.post test c answer → answer ≡ passes c) }
         ensures can { ⟦<CharPred<F> as Pattern>⟧.can_search result }
         ensures ends { ⟦<CharPred<F> as Pattern>⟧.ends result ≡ char_ends passes }
     {

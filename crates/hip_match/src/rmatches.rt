@@ -1,6 +1,7 @@
 //! The occurrences of a pattern, rightmost first.
-ghost use Rattle.std.specs.Prelude.{◌≡◌, [], length, if◌then◌else◌};
-ghost use Rattle.hip_match.specs.Clones.{ClonesKeep, KeepsRanges};
+ghost use Rattle.std.specs.Prelude.{[], length, if◌then◌else◌};
+ghost use Rattle.hip_match.specs.Clones.{ClonesKeep};
+ghost use Rattle.hip_match.specs.Iterators.{Gives, GivesAlike};
 ghost use Rattle.hip_match.specs.Rightmost.{rightmost, rightmost_between};
 ghost use Rattle.hip_match.specs.Ready.{IsBackWindow, IsBetweenBack};
 
@@ -22,11 +23,8 @@ pub struct RMatches<'h, P: ReversePattern> {
 
 // The searcher is prepared anew, so that nothing but the pattern's clone may want memory.
 impl<'h, P: ReversePattern + Clone> Clone for RMatches<'h, P> {
-    ghost is_clone = { λ m copy. ClonesKeep P.is_clone P.can_search P.ends → KeepsRanges
-        ⟦<RMatches<'h, P> as Ranges>⟧.ready
-        ⟦<RMatches<'h, P> as Ranges>⟧.text
-        ⟦<RMatches<'h, P> as Ranges>⟧.rest
-        m copy };
+    ghost is_clone = { λ m copy. ClonesKeep P.is_clone P.can_search P.ends →
+        GivesAlike ⟦<RMatches<'h, P> as Ranges>⟧ m copy };
 
     ghost is_infallible = { λ m. P.is_infallible m.pattern };
 
@@ -53,10 +51,10 @@ impl<'h, P: ReversePattern> RMatches<'h, P> {
     #[inline]
     pub fn new(text: &'h str, pattern: P) -> Self
         requires { P.can_search pattern }
-        ensures ready { ⟦<RMatches<'h, P> as Ranges>⟧.ready result }
-        ensures text { ⟦<RMatches<'h, P> as Ranges>⟧.text result ≡ text.now }
-        ensures rest { ⟦<RMatches<'h, P> as Ranges>⟧.rest result ≡ rightmost (P.ends pattern text.now) (length text.now) }
-        ensures between { IsBetweenBack text.now 0 (⟦<RMatches<'h, P> as Ranges>⟧.rest result) (length text.now) }
+        ensures ranges { Gives ⟦<RMatches<'h, P> as Ranges>⟧ result text.now
+            (rightmost (P.ends pattern text.now) (length text.now)) }
+        ensures between { IsBetweenBack text.now 0
+            (rightmost (P.ends pattern text.now) (length text.now)) (length text.now) }
     {
         let searcher = pattern.reverse_searcher();
         RMatches {
@@ -124,25 +122,9 @@ impl<'h, P: OneChar> RangesBack for RMatches<'h, P> {
 }
 
 /// The ranges of the rightmost occurrences of a pattern in a text, last first: those of [`RMatches`].
-#[derive(Drop)]
+#[derive(Clone, Drop)]
 pub struct RMatchIndices<'h, P: ReversePattern> {
     matches: RMatches<'h, P>,
-}
-
-impl<'h, P: ReversePattern + Clone> Clone for RMatchIndices<'h, P> {
-    ghost is_clone = { λ s copy. ClonesKeep P.is_clone P.can_search P.ends → KeepsRanges
-        ⟦<RMatchIndices<'h, P> as Ranges>⟧.ready
-        ⟦<RMatchIndices<'h, P> as Ranges>⟧.text
-        ⟦<RMatchIndices<'h, P> as Ranges>⟧.rest
-        s copy };
-
-    ghost is_infallible = { λ s. P.is_infallible s.matches.pattern };
-
-    fn clone(&self) -> Result<Self, AllocError> {
-        Ok(RMatchIndices {
-            matches: self.matches.clone()?,
-        })
-    }
 }
 
 impl<'h, P: ReversePattern + ClonePattern> CloneRanges for RMatchIndices<'h, P> {
@@ -154,9 +136,8 @@ impl<'h, P: ReversePattern> RMatchIndices<'h, P> {
     #[inline]
     pub fn new(text: &'h str, pattern: P) -> Self
         requires { P.can_search pattern }
-        ensures ready { ⟦<RMatchIndices<'h, P> as Ranges>⟧.ready result }
-        ensures text { ⟦<RMatchIndices<'h, P> as Ranges>⟧.text result ≡ text.now }
-        ensures rest { ⟦<RMatchIndices<'h, P> as Ranges>⟧.rest result ≡ rightmost (P.ends pattern text.now) (length text.now) }
+        ensures ranges { Gives ⟦<RMatchIndices<'h, P> as Ranges>⟧ result text.now
+            (rightmost (P.ends pattern text.now) (length text.now)) }
     {
         RMatchIndices {
             matches: RMatches::new(text, pattern),
@@ -167,7 +148,7 @@ impl<'h, P: ReversePattern> RMatchIndices<'h, P> {
 impl<'h, P: ReversePattern> Ranges for RMatchIndices<'h, P> {
     ghost ready = { λ s. ⟦<RMatches<'h, P> as Ranges>⟧.ready s.matches };
 
-    ghost text = { λ s. ⟦<RMatches<'h, P> as Ranges>⟧.text s.matches };
+    ghost text = { λ s. s.matches.text.now };
 
     ghost rest = { λ s. ⟦<RMatches<'h, P> as Ranges>⟧.rest s.matches };
 

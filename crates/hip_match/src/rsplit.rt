@@ -1,16 +1,18 @@
 //! The parts of a text between the occurrences of a pattern, from its end.
-ghost use Rattle.std.specs.Prelude.{◌≡◌, [], length, if◌then◌else◌};
-ghost use Rattle.hip_match.specs.Clones.{ClonesKeep, KeepsRanges};
-ghost use Rattle.hip_match.specs.Pieces.{rsplit, rsplit_terminator, rsplitn, gaps_back, at_most_from, without_empty_first};
+ghost use Rattle.std.specs.Prelude.{[], length, if◌then◌else◌};
+ghost use Rattle.std.proofs.Common.{ap};
+ghost use Rattle.hip_match.specs.Clones.{gaps_back_kept, made_kept, parts_kept};
+ghost use Rattle.hip_match.specs.Iterators.{Gives, LiesBetweenBack};
+ghost use Rattle.hip_match.specs.Pieces.{rsplit, rsplit_terminator, rsplitn};
+ghost use Rattle.hip_match.specs.Pieces.{at_most_from, from_terminator, gaps_back};
 ghost use Rattle.hip_match.specs.Ready.{IsBetweenBack};
 
 use crate::pattern::{ClonePattern, OneChar, ReversePattern};
 use crate::ranges::{CloneRanges, Ranges, RangesBack};
 use crate::rmatches::RMatches;
-use std::alloc::AllocError;
 
 /// The parts of a text between the rightmost occurrences of a pattern, last first.
-#[derive(Drop)]
+#[derive(Clone, Drop)]
 pub struct RSplit<'h, P: ReversePattern> {
     matches: RMatches<'h, P>,
     start: usize,
@@ -18,27 +20,8 @@ pub struct RSplit<'h, P: ReversePattern> {
     done: bool,
 }
 
-impl<'h, P: ReversePattern + Clone> Clone for RSplit<'h, P> {
-    ghost is_clone = { λ s copy. ClonesKeep P.is_clone P.can_search P.ends → KeepsRanges
-        ⟦<RSplit<'h, P> as Ranges>⟧.ready
-        ⟦<RSplit<'h, P> as Ranges>⟧.text
-        ⟦<RSplit<'h, P> as Ranges>⟧.rest
-        s copy };
-
-    ghost is_infallible = { λ s. P.is_infallible s.matches.pattern };
-
-    fn clone(&self) -> Result<Self, AllocError> {
-        Ok(RSplit {
-            matches: self.matches.clone()?,
-            start: self.start,
-            end: self.end,
-            done: self.done,
-        })
-    }
-}
-
 impl<'h, P: ReversePattern + ClonePattern> CloneRanges for RSplit<'h, P> {
-    ghost clone_keeps = { λ _ _ is. is P.clones_keep };
+    ghost clone_keeps = { λ _ _ is. gaps_back_kept (is.0 P.clones_keep) is.1.0 is.1.1.0 is.1.1.1 };
 }
 
 impl<'h, P: ReversePattern> RSplit<'h, P> {
@@ -46,9 +29,8 @@ impl<'h, P: ReversePattern> RSplit<'h, P> {
     #[inline]
     pub fn new(text: &'h str, pattern: P) -> Self
         requires { P.can_search pattern }
-        ensures ready { ⟦<RSplit<'h, P> as Ranges>⟧.ready result }
-        ensures text { ⟦<RSplit<'h, P> as Ranges>⟧.text result ≡ text.now }
-        ensures rest { ⟦<RSplit<'h, P> as Ranges>⟧.rest result ≡ rsplit (P.ends pattern text.now) (length text.now) }
+        ensures ranges { Gives ⟦<RSplit<'h, P> as Ranges>⟧ result text.now
+            (rsplit (P.ends pattern text.now) (length text.now)) }
     {
         RSplit {
             matches: RMatches::new(text, pattern),
@@ -60,10 +42,9 @@ impl<'h, P: ReversePattern> RSplit<'h, P> {
 }
 
 impl<'h, P: ReversePattern> Ranges for RSplit<'h, P> {
-    ghost ready = { λ s. ⟦<RMatches<'h, P> as Ranges>⟧.ready s.matches
-        × IsBetweenBack (⟦<RMatches<'h, P> as Ranges>⟧.text s.matches) s.start (⟦<RMatches<'h, P> as Ranges>⟧.rest s.matches) s.end };
+    ghost ready = { λ s. LiesBetweenBack ⟦<RMatches<'h, P> as Ranges>⟧ s.matches s.start s.end };
 
-    ghost text = { λ s. ⟦<RMatches<'h, P> as Ranges>⟧.text s.matches };
+    ghost text = { λ s. s.matches.text.now };
 
     ghost rest = { λ s. if s.done then [] else gaps_back s.start (⟦<RMatches<'h, P> as Ranges>⟧.rest s.matches) s.end };
 
@@ -107,32 +88,16 @@ impl<'h, P: OneChar> RangesBack for RSplit<'h, P> {
 }
 
 /// The parts of a text between the rightmost occurrences of a pattern, last first, without the first of them where that is empty.
-#[derive(Drop)]
+#[derive(Clone, Drop)]
 pub struct RSplitTerminator<'h, P: ReversePattern> {
     split: RSplit<'h, P>,
     // An empty part at the end of the text is still to be left out.
     beginning: bool,
 }
 
-impl<'h, P: ReversePattern + Clone> Clone for RSplitTerminator<'h, P> {
-    ghost is_clone = { λ s copy. ClonesKeep P.is_clone P.can_search P.ends → KeepsRanges
-        ⟦<RSplitTerminator<'h, P> as Ranges>⟧.ready
-        ⟦<RSplitTerminator<'h, P> as Ranges>⟧.text
-        ⟦<RSplitTerminator<'h, P> as Ranges>⟧.rest
-        s copy };
-
-    ghost is_infallible = { λ s. P.is_infallible s.split.matches.pattern };
-
-    fn clone(&self) -> Result<Self, AllocError> {
-        Ok(RSplitTerminator {
-            split: self.split.clone()?,
-            beginning: self.beginning,
-        })
-    }
-}
-
 impl<'h, P: ReversePattern + ClonePattern> CloneRanges for RSplitTerminator<'h, P> {
-    ghost clone_keeps = { λ _ _ is. is P.clones_keep };
+    ghost clone_keeps = { λ _ _ is. made_kept (ap from_terminator is.1)
+        (gaps_back_kept (is.0.0 P.clones_keep) is.0.1.0 is.0.1.1.0 is.0.1.1.1) };
 }
 
 impl<'h, P: ReversePattern> RSplitTerminator<'h, P> {
@@ -140,9 +105,8 @@ impl<'h, P: ReversePattern> RSplitTerminator<'h, P> {
     #[inline]
     pub fn new(text: &'h str, pattern: P) -> Self
         requires { P.can_search pattern }
-        ensures ready { ⟦<RSplitTerminator<'h, P> as Ranges>⟧.ready result }
-        ensures text { ⟦<RSplitTerminator<'h, P> as Ranges>⟧.text result ≡ text.now }
-        ensures rest { ⟦<RSplitTerminator<'h, P> as Ranges>⟧.rest result ≡ rsplit_terminator (P.ends pattern text.now) (length text.now) }
+        ensures ranges { Gives ⟦<RSplitTerminator<'h, P> as Ranges>⟧ result text.now
+            (rsplit_terminator (P.ends pattern text.now) (length text.now)) }
     {
         RSplitTerminator {
             split: RSplit::new(text, pattern),
@@ -154,9 +118,9 @@ impl<'h, P: ReversePattern> RSplitTerminator<'h, P> {
 impl<'h, P: ReversePattern> Ranges for RSplitTerminator<'h, P> {
     ghost ready = { λ s. ⟦<RSplit<'h, P> as Ranges>⟧.ready s.split };
 
-    ghost text = { λ s. ⟦<RSplit<'h, P> as Ranges>⟧.text s.split };
+    ghost text = { λ s. s.split.matches.text.now };
 
-    ghost rest = { λ s. if s.beginning then without_empty_first (⟦<RSplit<'h, P> as Ranges>⟧.rest s.split) else ⟦<RSplit<'h, P> as Ranges>⟧.rest s.split };
+    ghost rest = { λ s. from_terminator s.beginning (⟦<RSplit<'h, P> as Ranges>⟧.rest s.split) };
 
     #[inline]
     fn next(&mut self) -> Option<(usize, usize)> {
@@ -184,7 +148,7 @@ impl<'h, P: OneChar> RangesBack for RSplitTerminator<'h, P> {
 }
 
 /// At most so many parts of a text between the rightmost occurrences of a pattern, last first, of which the last of so many begins at the text's start.
-#[derive(Drop)]
+#[derive(Clone, Drop)]
 pub struct RSplitN<'h, P: ReversePattern> {
     matches: RMatches<'h, P>,
     start: usize,
@@ -192,27 +156,10 @@ pub struct RSplitN<'h, P: ReversePattern> {
     count: usize,
 }
 
-impl<'h, P: ReversePattern + Clone> Clone for RSplitN<'h, P> {
-    ghost is_clone = { λ s copy. ClonesKeep P.is_clone P.can_search P.ends → KeepsRanges
-        ⟦<RSplitN<'h, P> as Ranges>⟧.ready
-        ⟦<RSplitN<'h, P> as Ranges>⟧.text
-        ⟦<RSplitN<'h, P> as Ranges>⟧.rest
-        s copy };
-
-    ghost is_infallible = { λ s. P.is_infallible s.matches.pattern };
-
-    fn clone(&self) -> Result<Self, AllocError> {
-        Ok(RSplitN {
-            matches: self.matches.clone()?,
-            start: self.start,
-            end: self.end,
-            count: self.count,
-        })
-    }
-}
-
 impl<'h, P: ReversePattern + ClonePattern> CloneRanges for RSplitN<'h, P> {
-    ghost clone_keeps = { λ _ _ is. is P.clones_keep };
+    ghost clone_keeps = { λ _ _ is. parts_kept IsBetweenBack
+        (λ count i l n. at_most_from count (gaps_back i l n) i)
+        (is.0 P.clones_keep) is.1.0 is.1.1.0 is.1.1.1 };
 }
 
 impl<'h, P: ReversePattern> RSplitN<'h, P> {
@@ -220,9 +167,8 @@ impl<'h, P: ReversePattern> RSplitN<'h, P> {
     #[inline]
     pub fn new(text: &'h str, count: usize, pattern: P) -> Self
         requires { P.can_search pattern }
-        ensures ready { ⟦<RSplitN<'h, P> as Ranges>⟧.ready result }
-        ensures text { ⟦<RSplitN<'h, P> as Ranges>⟧.text result ≡ text.now }
-        ensures rest { ⟦<RSplitN<'h, P> as Ranges>⟧.rest result ≡ rsplitn count (P.ends pattern text.now) (length text.now) }
+        ensures ranges { Gives ⟦<RSplitN<'h, P> as Ranges>⟧ result text.now
+            (rsplitn count (P.ends pattern text.now) (length text.now)) }
     {
         RSplitN {
             matches: RMatches::new(text, pattern),
@@ -234,10 +180,9 @@ impl<'h, P: ReversePattern> RSplitN<'h, P> {
 }
 
 impl<'h, P: ReversePattern> Ranges for RSplitN<'h, P> {
-    ghost ready = { λ s. ⟦<RMatches<'h, P> as Ranges>⟧.ready s.matches
-        × IsBetweenBack (⟦<RMatches<'h, P> as Ranges>⟧.text s.matches) s.start (⟦<RMatches<'h, P> as Ranges>⟧.rest s.matches) s.end };
+    ghost ready = { λ s. LiesBetweenBack ⟦<RMatches<'h, P> as Ranges>⟧ s.matches s.start s.end };
 
-    ghost text = { λ s. ⟦<RMatches<'h, P> as Ranges>⟧.text s.matches };
+    ghost text = { λ s. s.matches.text.now };
 
     ghost rest = { λ s. at_most_from s.count (gaps_back s.start (⟦<RMatches<'h, P> as Ranges>⟧.rest s.matches) s.end) s.start };
 

@@ -1,16 +1,18 @@
 //! The parts of a text between the occurrences of a pattern, from its front.
-ghost use Rattle.std.specs.Prelude.{◌≡◌, [], length, if◌then◌else◌};
-ghost use Rattle.hip_match.specs.Clones.{ClonesKeep, KeepsRanges};
-ghost use Rattle.hip_match.specs.Pieces.{split, split_inclusive, split_terminator, splitn, gaps, ended, at_most_to, without_empty_last};
+ghost use Rattle.std.specs.Prelude.{[], length, if◌then◌else◌};
+ghost use Rattle.std.proofs.Common.{ap};
+ghost use Rattle.hip_match.specs.Clones.{ended_kept, gaps_kept, made_kept, parts_kept};
+ghost use Rattle.hip_match.specs.Iterators.{Gives, LiesBetween};
+ghost use Rattle.hip_match.specs.Pieces.{split, split_inclusive, split_terminator, splitn};
+ghost use Rattle.hip_match.specs.Pieces.{at_most_to, ended, gaps, to_terminator};
 ghost use Rattle.hip_match.specs.Ready.{IsBetween};
 
 use crate::matches::Matches;
 use crate::pattern::{ClonePattern, OneChar, Pattern};
 use crate::ranges::{CloneRanges, Ranges, RangesBack};
-use std::alloc::AllocError;
 
 /// The parts of a text between the occurrences of a pattern, one more than there are occurrences.
-#[derive(Drop)]
+#[derive(Clone, Drop)]
 pub struct Split<'h, P: Pattern> {
     matches: Matches<'h, P>,
     start: usize,
@@ -18,27 +20,8 @@ pub struct Split<'h, P: Pattern> {
     done: bool,
 }
 
-impl<'h, P: Pattern + Clone> Clone for Split<'h, P> {
-    ghost is_clone = { λ s copy. ClonesKeep P.is_clone P.can_search P.ends → KeepsRanges
-        ⟦<Split<'h, P> as Ranges>⟧.ready
-        ⟦<Split<'h, P> as Ranges>⟧.text
-        ⟦<Split<'h, P> as Ranges>⟧.rest
-        s copy };
-
-    ghost is_infallible = { λ s. P.is_infallible s.matches.pattern };
-
-    fn clone(&self) -> Result<Self, AllocError> {
-        Ok(Self {
-            matches: self.matches.clone()?,
-            start: self.start,
-            end: self.end,
-            done: self.done,
-        })
-    }
-}
-
 impl<'h, P: ClonePattern> CloneRanges for Split<'h, P> {
-    ghost clone_keeps = { λ _ _ is. is P.clones_keep };
+    ghost clone_keeps = { λ _ _ is. gaps_kept (is.0 P.clones_keep) is.1.0 is.1.1.0 is.1.1.1 };
 }
 
 impl<'h, P: Pattern> Split<'h, P> {
@@ -46,9 +29,8 @@ impl<'h, P: Pattern> Split<'h, P> {
     #[inline]
     pub fn new(text: &'h str, pattern: P) -> Self
         requires { P.can_search pattern }
-        ensures ready { ⟦<Split<'h, P> as Ranges>⟧.ready result }
-        ensures text { ⟦<Split<'h, P> as Ranges>⟧.text result ≡ text.now }
-        ensures rest { ⟦<Split<'h, P> as Ranges>⟧.rest result ≡ split (P.ends pattern text.now) (length text.now) }
+        ensures ranges { Gives ⟦<Split<'h, P> as Ranges>⟧ result text.now
+            (split (P.ends pattern text.now) (length text.now)) }
     {
         Split {
             matches: Matches::new(text, pattern),
@@ -60,10 +42,9 @@ impl<'h, P: Pattern> Split<'h, P> {
 }
 
 impl<'h, P: Pattern> Ranges for Split<'h, P> {
-    ghost ready = { λ s. ⟦<Matches<'h, P> as Ranges>⟧.ready s.matches
-        × IsBetween (⟦<Matches<'h, P> as Ranges>⟧.text s.matches) s.start (⟦<Matches<'h, P> as Ranges>⟧.rest s.matches) s.end };
+    ghost ready = { λ s. LiesBetween ⟦<Matches<'h, P> as Ranges>⟧ s.matches s.start s.end };
 
-    ghost text = { λ s. ⟦<Matches<'h, P> as Ranges>⟧.text s.matches };
+    ghost text = { λ s. s.matches.text.now };
 
     ghost rest = { λ s. if s.done then [] else gaps s.start (⟦<Matches<'h, P> as Ranges>⟧.rest s.matches) s.end };
 
@@ -107,7 +88,7 @@ impl<'h, P: OneChar> RangesBack for Split<'h, P> {
 }
 
 /// The parts of a text, each ended by an occurrence of a pattern, which belongs to it. A last empty part is left out.
-#[derive(Drop)]
+#[derive(Clone, Drop)]
 pub struct SplitInclusive<'h, P: Pattern> {
     matches: Matches<'h, P>,
     start: usize,
@@ -115,27 +96,8 @@ pub struct SplitInclusive<'h, P: Pattern> {
     done: bool,
 }
 
-impl<'h, P: Pattern + Clone> Clone for SplitInclusive<'h, P> {
-    ghost is_clone = { λ s copy. ClonesKeep P.is_clone P.can_search P.ends → KeepsRanges
-        ⟦<SplitInclusive<'h, P> as Ranges>⟧.ready
-        ⟦<SplitInclusive<'h, P> as Ranges>⟧.text
-        ⟦<SplitInclusive<'h, P> as Ranges>⟧.rest
-        s copy };
-
-    ghost is_infallible = { λ s. P.is_infallible s.matches.pattern };
-
-    fn clone(&self) -> Result<Self, AllocError> {
-        Ok(SplitInclusive {
-            matches: self.matches.clone()?,
-            start: self.start,
-            end: self.end,
-            done: self.done,
-        })
-    }
-}
-
 impl<'h, P: ClonePattern> CloneRanges for SplitInclusive<'h, P> {
-    ghost clone_keeps = { λ _ _ is. is P.clones_keep };
+    ghost clone_keeps = { λ _ _ is. ended_kept (is.0 P.clones_keep) is.1.0 is.1.1.0 is.1.1.1 };
 }
 
 impl<'h, P: Pattern> SplitInclusive<'h, P> {
@@ -143,9 +105,8 @@ impl<'h, P: Pattern> SplitInclusive<'h, P> {
     #[inline]
     pub fn new(text: &'h str, pattern: P) -> Self
         requires { P.can_search pattern }
-        ensures ready { ⟦<SplitInclusive<'h, P> as Ranges>⟧.ready result }
-        ensures text { ⟦<SplitInclusive<'h, P> as Ranges>⟧.text result ≡ text.now }
-        ensures rest { ⟦<SplitInclusive<'h, P> as Ranges>⟧.rest result ≡ split_inclusive (P.ends pattern text.now) (length text.now) }
+        ensures ranges { Gives ⟦<SplitInclusive<'h, P> as Ranges>⟧ result text.now
+            (split_inclusive (P.ends pattern text.now) (length text.now)) }
     {
         SplitInclusive {
             matches: Matches::new(text, pattern),
@@ -157,10 +118,9 @@ impl<'h, P: Pattern> SplitInclusive<'h, P> {
 }
 
 impl<'h, P: Pattern> Ranges for SplitInclusive<'h, P> {
-    ghost ready = { λ s. ⟦<Matches<'h, P> as Ranges>⟧.ready s.matches
-        × IsBetween (⟦<Matches<'h, P> as Ranges>⟧.text s.matches) s.start (⟦<Matches<'h, P> as Ranges>⟧.rest s.matches) s.end };
+    ghost ready = { λ s. LiesBetween ⟦<Matches<'h, P> as Ranges>⟧ s.matches s.start s.end };
 
-    ghost text = { λ s. ⟦<Matches<'h, P> as Ranges>⟧.text s.matches };
+    ghost text = { λ s. s.matches.text.now };
 
     ghost rest = { λ s. if s.done then [] else ended s.start (⟦<Matches<'h, P> as Ranges>⟧.rest s.matches) s.end };
 
@@ -212,32 +172,16 @@ impl<'h, P: OneChar> RangesBack for SplitInclusive<'h, P> {
 }
 
 /// The parts of a text between the occurrences of a pattern, without the last where that is empty.
-#[derive(Drop)]
+#[derive(Clone, Drop)]
 pub struct SplitTerminator<'h, P: Pattern> {
     split: Split<'h, P>,
     // A last empty part is still to be left out.
     ending: bool,
 }
 
-impl<'h, P: Pattern + Clone> Clone for SplitTerminator<'h, P> {
-    ghost is_clone = { λ s copy. ClonesKeep P.is_clone P.can_search P.ends → KeepsRanges
-        ⟦<SplitTerminator<'h, P> as Ranges>⟧.ready
-        ⟦<SplitTerminator<'h, P> as Ranges>⟧.text
-        ⟦<SplitTerminator<'h, P> as Ranges>⟧.rest
-        s copy };
-
-    ghost is_infallible = { λ s. P.is_infallible s.split.matches.pattern };
-
-    fn clone(&self) -> Result<Self, AllocError> {
-        Ok(SplitTerminator {
-            split: self.split.clone()?,
-            ending: self.ending,
-        })
-    }
-}
-
 impl<'h, P: ClonePattern> CloneRanges for SplitTerminator<'h, P> {
-    ghost clone_keeps = { λ _ _ is. is P.clones_keep };
+    ghost clone_keeps = { λ _ _ is. made_kept (ap to_terminator is.1)
+        (gaps_kept (is.0.0 P.clones_keep) is.0.1.0 is.0.1.1.0 is.0.1.1.1) };
 }
 
 impl<'h, P: Pattern> SplitTerminator<'h, P> {
@@ -245,9 +189,8 @@ impl<'h, P: Pattern> SplitTerminator<'h, P> {
     #[inline]
     pub fn new(text: &'h str, pattern: P) -> Self
         requires { P.can_search pattern }
-        ensures ready { ⟦<SplitTerminator<'h, P> as Ranges>⟧.ready result }
-        ensures text { ⟦<SplitTerminator<'h, P> as Ranges>⟧.text result ≡ text.now }
-        ensures rest { ⟦<SplitTerminator<'h, P> as Ranges>⟧.rest result ≡ split_terminator (P.ends pattern text.now) (length text.now) }
+        ensures ranges { Gives ⟦<SplitTerminator<'h, P> as Ranges>⟧ result text.now
+            (split_terminator (P.ends pattern text.now) (length text.now)) }
     {
         SplitTerminator {
             split: Split::new(text, pattern),
@@ -259,9 +202,9 @@ impl<'h, P: Pattern> SplitTerminator<'h, P> {
 impl<'h, P: Pattern> Ranges for SplitTerminator<'h, P> {
     ghost ready = { λ s. ⟦<Split<'h, P> as Ranges>⟧.ready s.split };
 
-    ghost text = { λ s. ⟦<Split<'h, P> as Ranges>⟧.text s.split };
+    ghost text = { λ s. s.split.matches.text.now };
 
-    ghost rest = { λ s. if s.ending then without_empty_last (⟦<Split<'h, P> as Ranges>⟧.rest s.split) else ⟦<Split<'h, P> as Ranges>⟧.rest s.split };
+    ghost rest = { λ s. to_terminator s.ending (⟦<Split<'h, P> as Ranges>⟧.rest s.split) };
 
     #[inline(always)]
     fn next(&mut self) -> Option<(usize, usize)> {
@@ -289,7 +232,7 @@ impl<'h, P: OneChar> RangesBack for SplitTerminator<'h, P> {
 }
 
 /// At most so many parts of a text between the occurrences of a pattern, of which the last of so many runs to the end.
-#[derive(Drop)]
+#[derive(Clone, Drop)]
 pub struct SplitN<'h, P: Pattern> {
     matches: Matches<'h, P>,
     start: usize,
@@ -297,27 +240,10 @@ pub struct SplitN<'h, P: Pattern> {
     count: usize,
 }
 
-impl<'h, P: Pattern + Clone> Clone for SplitN<'h, P> {
-    ghost is_clone = { λ s copy. ClonesKeep P.is_clone P.can_search P.ends → KeepsRanges
-        ⟦<SplitN<'h, P> as Ranges>⟧.ready
-        ⟦<SplitN<'h, P> as Ranges>⟧.text
-        ⟦<SplitN<'h, P> as Ranges>⟧.rest
-        s copy };
-
-    ghost is_infallible = { λ s. P.is_infallible s.matches.pattern };
-
-    fn clone(&self) -> Result<Self, AllocError> {
-        Ok(SplitN {
-            matches: self.matches.clone()?,
-            start: self.start,
-            end: self.end,
-            count: self.count,
-        })
-    }
-}
-
 impl<'h, P: ClonePattern> CloneRanges for SplitN<'h, P> {
-    ghost clone_keeps = { λ _ _ is. is P.clones_keep };
+    ghost clone_keeps = { λ _ _ is. parts_kept IsBetween
+        (λ count i l n. at_most_to count (gaps i l n) n)
+        (is.0 P.clones_keep) is.1.0 is.1.1.0 is.1.1.1 };
 }
 
 impl<'h, P: Pattern> SplitN<'h, P> {
@@ -325,9 +251,8 @@ impl<'h, P: Pattern> SplitN<'h, P> {
     #[inline]
     pub fn new(text: &'h str, count: usize, pattern: P) -> Self
         requires { P.can_search pattern }
-        ensures ready { ⟦<SplitN<'h, P> as Ranges>⟧.ready result }
-        ensures text { ⟦<SplitN<'h, P> as Ranges>⟧.text result ≡ text.now }
-        ensures rest { ⟦<SplitN<'h, P> as Ranges>⟧.rest result ≡ splitn count (P.ends pattern text.now) (length text.now) }
+        ensures ranges { Gives ⟦<SplitN<'h, P> as Ranges>⟧ result text.now
+            (splitn count (P.ends pattern text.now) (length text.now)) }
     {
         SplitN {
             matches: Matches::new(text, pattern),
@@ -339,10 +264,9 @@ impl<'h, P: Pattern> SplitN<'h, P> {
 }
 
 impl<'h, P: Pattern> Ranges for SplitN<'h, P> {
-    ghost ready = { λ s. ⟦<Matches<'h, P> as Ranges>⟧.ready s.matches
-        × IsBetween (⟦<Matches<'h, P> as Ranges>⟧.text s.matches) s.start (⟦<Matches<'h, P> as Ranges>⟧.rest s.matches) s.end };
+    ghost ready = { λ s. LiesBetween ⟦<Matches<'h, P> as Ranges>⟧ s.matches s.start s.end };
 
-    ghost text = { λ s. ⟦<Matches<'h, P> as Ranges>⟧.text s.matches };
+    ghost text = { λ s. s.matches.text.now };
 
     ghost rest = { λ s. at_most_to s.count (gaps s.start (⟦<Matches<'h, P> as Ranges>⟧.rest s.matches) s.end) s.end };
 

@@ -105,7 +105,8 @@ pub fn trim_end(text: &str) -> (usize, usize)
 #[inline]
 pub fn trim(text: &str) -> (usize, usize)
     ensures front { TrimsFront (char_ends is_whitespace text.now) result.0 }
-    ensures back { TrimsBack (char_ends is_whitespace text.now) result.0 (length text.now) result.1 }
+    ensures back { TrimsBack (char_ends is_whitespace text.now) result.0
+        (length text.now) result.1 }
     ensures cut { IsCut text.now result }
 {
     trim_matches(text, WhiteSpace)

@@ -4,10 +4,11 @@ ghost use Rattle.std.proofs.Common.{refl};
 ghost use Rattle.std.specs.Char.{is_whitespace};
 ghost use Rattle.hip_match.specs.Characters.{char_ends};
 ghost use Rattle.hip_match.specs.CharLaws.{char_ends-spans, char_ends-one_start, char_ends-one_char};
-ghost use Rattle.hip_match.specs.Clones.{made_kept};
-ghost use Rattle.hip_match.specs.Runs.{nonempty, split_whitespace, split_ascii_whitespace};
+ghost use Rattle.hip_match.specs.Clones.{gaps_kept, made_kept};
+ghost use Rattle.hip_match.specs.Iterators.{Gives};
+ghost use Rattle.hip_match.specs.Runs.{nonempty, split_whitespace};
 
-use crate::ascii_space::AsciiRuns;
+pub use crate::ascii_space::SplitAsciiWhitespace;
 use crate::chars::{CharSet, end_of, first_of, last_of, start_before};
 use crate::pattern::{ClonePattern, DoubleEndedPattern, OneChar, Pattern, ReversePattern};
 use crate::ranges::{CloneRanges, Ranges, RangesBack};
@@ -126,7 +127,7 @@ impl<R: Ranges> Ranges for Runs<R> {
 }
 
 impl<R: CloneRanges> CloneRanges for Runs<R> {
-    ghost clone_keeps = { λ s copy is. made_kept _ _ _ _ _ _ nonempty nonempty refl
+    ghost clone_keeps = { λ s copy is. made_kept {f = nonempty} refl
         (R.clone_keeps s.ranges copy.ranges is) };
 }
 
@@ -152,9 +153,8 @@ impl<'h> SplitWhitespace<'h> {
     /// The runs of `text` between white space.
     #[inline]
     pub fn new(text: &'h str) -> Self
-        ensures ready { ⟦<SplitWhitespace<'h> as Ranges>⟧.ready result }
-        ensures text { ⟦<SplitWhitespace<'h> as Ranges>⟧.text result ≡ text.now }
-        ensures rest { ⟦<SplitWhitespace<'h> as Ranges>⟧.rest result ≡ split_whitespace text.now }
+        ensures ranges { Gives ⟦<SplitWhitespace<'h> as Ranges>⟧ result text.now
+            (split_whitespace text.now) }
     {
         SplitWhitespace {
             runs: Runs {
@@ -167,7 +167,7 @@ impl<'h> SplitWhitespace<'h> {
 impl<'h> Ranges for SplitWhitespace<'h> {
     ghost ready = { λ s. ⟦<Runs<Split<'h, WhiteSpace>> as Ranges>⟧.ready s.runs };
 
-    ghost text = { λ s. ⟦<Runs<Split<'h, WhiteSpace>> as Ranges>⟧.text s.runs };
+    ghost text = { λ s. s.runs.ranges.matches.text.now };
 
     ghost rest = { λ s. ⟦<Runs<Split<'h, WhiteSpace>> as Ranges>⟧.rest s.runs };
 
@@ -178,57 +178,12 @@ impl<'h> Ranges for SplitWhitespace<'h> {
 }
 
 impl<'h> CloneRanges for SplitWhitespace<'h> {
-    ghost clone_keeps = { λ s copy is. made_kept _ _ _ _ _ _ nonempty nonempty refl
-        (is (λ p q same. record { searchable = λ h. h; occurs = refl })) };
+    ghost clone_keeps = { λ _ _ is. made_kept {f = nonempty} refl
+        (gaps_kept (is.0 (λ _ _ _. record { searchable = λ h. h; occurs = refl }))
+        is.1.0 is.1.1.0 is.1.1.1) };
 }
 
 impl<'h> RangesBack for SplitWhitespace<'h> {
-    #[inline]
-    fn next_back(&mut self) -> Option<(usize, usize)> {
-        self.runs.next_back()
-    }
-}
-
-/// The longest runs of a text without ASCII white space, to which U+000B doesn't belong.
-#[derive(Clone, Drop)]
-pub struct SplitAsciiWhitespace<'h> {
-    runs: AsciiRuns<'h>,
-}
-
-impl<'h> SplitAsciiWhitespace<'h> {
-    /// The runs of `text` between ASCII white space.
-    #[inline]
-    pub fn new(text: &'h str) -> Self
-        ensures ready { ⟦<SplitAsciiWhitespace<'h> as Ranges>⟧.ready result }
-        ensures text { ⟦<SplitAsciiWhitespace<'h> as Ranges>⟧.text result ≡ text.now }
-        ensures rest { ⟦<SplitAsciiWhitespace<'h> as Ranges>⟧.rest result ≡ split_ascii_whitespace text.now }
-    {
-        SplitAsciiWhitespace {
-            runs: AsciiRuns::new(text),
-        }
-    }
-}
-
-impl<'h> Ranges for SplitAsciiWhitespace<'h> {
-    ghost ready = { λ s. ⟦<AsciiRuns<'h> as Ranges>⟧.ready s.runs };
-
-    ghost text = { λ s. ⟦<AsciiRuns<'h> as Ranges>⟧.text s.runs };
-
-    ghost rest = { λ s. ⟦<AsciiRuns<'h> as Ranges>⟧.rest s.runs };
-
-    #[inline]
-    fn next(&mut self) -> Option<(usize, usize)> {
-        self.runs.next()
-    }
-}
-
-impl<'h> CloneRanges for SplitAsciiWhitespace<'h> {
-    ghost use Rattle.std.proofs.Common.{rules};
-
-    ghost clone_keeps = { Prim.search rules };
-}
-
-impl<'h> RangesBack for SplitAsciiWhitespace<'h> {
     #[inline]
     fn next_back(&mut self) -> Option<(usize, usize)> {
         self.runs.next_back()

@@ -1,42 +1,43 @@
 use Rattle.std.proofs.Common.{refl}
-use Rattle.hip_match.proofs.OneCharLemmas.{clear, back_match, back_none, back_past}
+use Rattle.hip_match.proofs.OneCharLemmas.{one_chars, clear, back_match, back_none, back_past}
 use Rattle.hip_match.proofs.matches.Matches.next_back_match.Goals as goal
 use Rattle.hip_match.proofs.matches.Matches.next_back_match.Goals.{in_default-via-in-Some+else-self-start, in_default-via-in_default}
 
-pub returns-in-Some-clause-last : goal.returns-in-Some-clause-last
-returns-in-Some-clause-last g c =
-    let utf8 = c.requires.window.utf8 in
-    rw c.if-self.false (back_match _ _ (record { spans = λ a b. g.met.P.Pattern.spans _ _ a b utf8; one = λ a b. g.met.P.OneChar.one_char _ _ a b utf8 })
-    _ _ c.requires.window _ _ c.in-Some.ensures c.if-self-start.true)
-
-pub returns-in-Some-clause-cut : goal.returns-in-Some-clause-cut
-returns-in-Some-clause-cut g c = g.met.P.Pattern.spans _ _ _ _ c.requires.window.utf8 c.in-Some.ensures.occurs
-
-pub returns-in-Some-clause-ready : goal.returns-in-Some-clause-ready
-returns-in-Some-clause-ready g c =
+pub returns-in-Some-clause-taken : goal.returns-in-Some-clause-taken
+returns-in-Some-clause-taken g c =
     let utf8 = c.requires.window.utf8 in
     let here = g.met.P.Pattern.spans _ _ _ _ utf8 c.in-Some.ensures.occurs in
+    let one = one_chars _ _ (λ a b. g.met.P.Pattern.spans _ _ a b utf8) (λ a b. g.met.P.OneChar.one_char _ _ a b utf8) in
     record {
-      searchable = c.requires.searchable;
-      window = record { utf8 = utf8; start = c.requires.window.start; end = here.start; ordered = c.if-self-start.true };
-      whole = clear _ _ (record { spans = λ a b. g.met.P.Pattern.spans _ _ a b utf8; one = λ a b. g.met.P.OneChar.one_char _ _ a b utf8 }) _ here.start;
+      list = rw c.if-self.false (back_match _ _ one _ _ c.requires.window _ _ c.in-Some.ensures c.if-self-start.true);
+      cut = here;
+      text = refl;
+      ready = record {
+        searchable = c.requires.searchable;
+        window = record { utf8 = utf8; start = c.requires.window.start; end = here.start; ordered = c.if-self-start.true };
+        whole = clear _ _ one _ here.start;
+      };
     }
 
-pub returns-in_default-clause-last : goal.returns-in_default-clause-last
-returns-in_default-clause-last g c =
+pub returns-in_default-clause-taken : goal.returns-in_default-clause-taken
+returns-in_default-clause-taken g c =
     let utf8 = c.requires.window.utf8 in
-    elim c.in_default.branch [
-      | in_default-via-in-Some+else-self-start w ↦ (
-        rw c.if-self.false (back_past _ _ (record { spans = λ a b. g.met.P.Pattern.spans _ _ a b utf8; one = λ a b. g.met.P.OneChar.one_char _ _ a b utf8 })
-            _ _ c.requires.window _ _ w.in-Some.ensures w.if-self-start.false),
-        refl,
-      )
-      | in_default-via-in_default w ↦ (
-        rw c.if-self.false (back_none _ _ (record { spans = λ a b. g.met.P.Pattern.spans _ _ a b utf8; one = λ a b. g.met.P.OneChar.one_char _ _ a b utf8 })
-            _ _ c.requires.window w.in_default.ensures),
-        refl,
-      )
-    ]
+    let one = one_chars _ _ (λ a b. g.met.P.Pattern.spans _ _ a b utf8) (λ a b. g.met.P.OneChar.one_char _ _ a b utf8) in
+    record {
+      list = elim c.in_default.branch [
+        | in_default-via-in-Some+else-self-start w ↦ (
+          rw c.if-self.false (back_past _ _ one _ _ c.requires.window _ _ w.in-Some.ensures w.if-self-start.false),
+          refl,
+        )
+        | in_default-via-in_default w ↦ (
+          rw c.if-self.false (back_none _ _ one _ _ c.requires.window w.in_default.ensures),
+          refl,
+        )
+      ];
+      cut = _;
+      text = refl;
+      ready = c.requires;
+    }
 
 pub returns-in-Some-clause-holds : goal.returns-in-Some-clause-holds
 returns-in-Some-clause-holds g c = (g.met.P.OneChar.one_char _ _ _ _ c.requires.window.utf8 c.in-Some.ensures.occurs).holds

@@ -1,19 +1,23 @@
-use Rattle.std.proofs.Common.{length, arith}
+use Rattle.std.proofs.Common.{length, arith, refl}
 use Rattle.std.proofs.lemmas.Str.{IsCharBoundary-start, IsCharBoundary-end}
 use Rattle.hip_match.proofs.RightmostLemmas.{rightmost_between-InOrder}
 use Rattle.hip_match.proofs.rmatches.RMatches.new.Goals as goal
 
-pub returns-clause-ready : goal.returns-clause-ready
-returns-clause-ready g c =
+pub returns-clause-ranges : goal.returns-clause-ranges
+returns-clause-ranges g c =
     record {
-      searchable = (c.requires, c.reverse_searcher-searcher.ensures);
-      window = record {
-        utf8 = c.utf8.text;
-        start = IsCharBoundary-start _ c.utf8.text;
-        end = IsCharBoundary-end _;
-        ordered = omega arith;
+      ready = record {
+        searchable = (c.requires, c.reverse_searcher-searcher.ensures);
+        window = record {
+          utf8 = c.utf8.text;
+          start = IsCharBoundary-start _ c.utf8.text;
+          end = IsCharBoundary-end _;
+          ordered = omega arith;
+        };
+        whole = λ a b is lt. absurd (omega arith);
       };
-      whole = λ a b is lt. absurd (omega arith);
+      text = refl;
+      rest = refl;
     }
 
 pub returns-clause-between : goal.returns-clause-between

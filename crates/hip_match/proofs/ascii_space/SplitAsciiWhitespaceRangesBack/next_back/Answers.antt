@@ -4,7 +4,7 @@ use Rattle.hip_match.specs.Marks.{AreBackMarks, parts}
 use Rattle.hip_match.specs.Occurrence.{IsCut}
 use Rattle.hip_match.specs.Runs.{nonempty}
 use Rattle.hip_match.proofs.GapLemmas.{last_cut, last_run, last_empty}
-use Rattle.hip_match.proofs.ascii_space.AsciiRunsRangesBack.next_back.Goals as goal
+use Rattle.hip_match.proofs.ascii_space.SplitAsciiWhitespaceRangesBack.next_back.Goals as goal
 
 pub returns-then-at-end-clause-last : goal.returns-then-at-end-clause-last
 returns-then-at-end-clause-last c =

@@ -3,7 +3,7 @@ use Rattle.std.specs.Str.{IsCharBoundary}
 use Rattle.hip_match.specs.Marks.{AreFrontMarks, parts}
 use Rattle.hip_match.specs.Runs.{nonempty}
 use Rattle.hip_match.proofs.GapLemmas.{next_cut, first_run, first_empty}
-use Rattle.hip_match.proofs.ascii_space.AsciiRunsRanges.next.Goals as goal
+use Rattle.hip_match.proofs.ascii_space.SplitAsciiWhitespaceRanges.next.Goals as goal
 
 pub returns-then-start-at-clause-first : goal.returns-then-start-at-clause-first
 returns-then-start-at-clause-first c =

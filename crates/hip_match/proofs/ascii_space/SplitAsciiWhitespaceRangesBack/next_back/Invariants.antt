@@ -2,7 +2,7 @@ use Rattle.std.proofs.Common.{◌≡◌, ◌-◌}
 use Rattle.hip_match.specs.Marks.{AreFrontMarks, AreBackMarks, parts}
 use Rattle.hip_match.specs.Ready.{IsWindow}
 use Rattle.hip_match.specs.Runs.{nonempty}
-use Rattle.hip_match.proofs.ascii_space.AsciiRunsRanges.next.Given as goal
+use Rattle.hip_match.proofs.ascii_space.SplitAsciiWhitespaceRangesBack.next_back.Given as goal
 
 -- it is ready, and only empty parts were passed
 abbrev pub invariant-loop-at : goal.invariant-loop-at
