@@ -1,2 +1,1 @@
-pub mod Collects
 pub mod Costs

@@ -1,3 +1,4 @@
 pub mod Cut
 pub mod Laws
 pub mod Piece
+pub mod Walks

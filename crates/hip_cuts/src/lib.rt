@@ -6,7 +6,7 @@
 //! - [`PiecesAt`] gives the pieces at ranges of the caller's, as those by a closure, by which no function holds an [`IterWrapper`].
 //!
 //! Where a text is cut is found by hip_match, whose ranges these are; how, by hip_text. The words of the contracts are theirs, and `Piece`
-//! (what a walk gives) and `Cut` (what trims and strips leave) of `specs/`.
+//! (what a walk gives), `Walks` (of a walk by a closure) and `Cut` (what trims and strips leave) of `specs/`.
 //!
 //! A loop over a walk is proved with no proof file:
 //!
@@ -31,9 +31,11 @@ pub mod laws;
 mod pieces;
 mod pieces_at;
 mod text_cuts;
+mod walk;
 
 pub use hip_match;
 pub use hip_text::{Backend, HipStr, INLINE_CAPACITY, Kind, Meter, Rc, Unique};
 pub use pieces::{IterWrapper, Pieces, Source, Unnumbered};
-pub use pieces_at::{PiecesAt, Walk};
+pub use pieces_at::PiecesAt;
 pub use text_cuts::TextCuts;
+pub use walk::Walk;

@@ -135,8 +135,10 @@ impl<'h, 'b, B: Backend, I: Ranges + Drop> Pieces<'h, HipStr<'b, B>, I> {
         mut self,
         meter: &mut Meter,
     ) -> Result<Vec<(usize, HipStr<'b, B>)>, AllocError>
-        ensures matches { IfOk result (λ matches. AreMatches self.entry.source self.entry.rest matches.items) }
-        ensures counted { RisesAtMost meter.old meter.new (parts_cost B.SHARES self.entry.source self.entry.rest) }
+        ensures matches { IfOk result
+            (λ matches. AreMatches self.entry.source self.entry.rest matches.items) }
+        ensures counted { RisesAtMost meter.old meter.new
+            (parts_cost B.SHARES self.entry.source self.entry.rest) }
     {
         let mut matches = Vec::new(self.alloc);
         while let Some((position, part)) = self.first_match(meter) {
@@ -180,8 +182,8 @@ impl<'h, 'b, B: Backend, I: Unnumbered> Pieces<'h, HipStr<'b, B>, I> {
         ensures counted { FirstCosts B.SHARES self.old result self.new meter.old meter.new }
         ensures source { self.new.source ≡ self.old.source }
     {
-        let (from, to) = self.ranges.next()?;
-        Some(self.source.part_metered(self.alloc, from, to, meter))
+        let (_, piece) = self.first_match(meter)?;
+        Some(piece)
     }
 }
 
@@ -195,11 +197,13 @@ impl<'h, 'b, B: Backend, I: Unnumbered + Drop> Pieces<'h, HipStr<'b, B>, I> {
 
     /// [`Pieces::collect`], counted.
     pub fn collect_metered(mut self, meter: &mut Meter) -> Result<Vec<HipStr<'b, B>>, AllocError>
-        ensures pieces { IfOk result (λ pieces. AreParts self.entry.source self.entry.rest pieces.items) }
-        ensures counted { RisesAtMost meter.old meter.new (parts_cost B.SHARES self.entry.source self.entry.rest) }
+        ensures pieces { IfOk result
+            (λ pieces. AreParts self.entry.source self.entry.rest pieces.items) }
+        ensures counted { RisesAtMost meter.old meter.new
+            (parts_cost B.SHARES self.entry.source self.entry.rest) }
     {
         let mut pieces = Vec::new(self.alloc);
-        while let Some(piece) = self.next_metered(meter) {
+        while let Some((_, piece)) = self.first_match(meter) {
             pieces.push(piece?)?;
         }
         Ok(pieces)
@@ -226,8 +230,8 @@ impl<'h, 'b, B: Backend, I: Unnumbered + RangesBack> Pieces<'h, HipStr<'b, B>, I
         ensures counted { LastCosts B.SHARES self.old result self.new meter.old meter.new }
         ensures source { self.new.source ≡ self.old.source }
     {
-        let (from, to) = self.ranges.next_back()?;
-        Some(self.source.part_metered(self.alloc, from, to, meter))
+        let (_, piece) = self.last_match(meter)?;
+        Some(piece)
     }
 }
 
@@ -289,7 +293,8 @@ impl<'h, 'b, B: Backend, P: Pattern> Pieces<'h, HipStr<'b, B>, MatchIndices<'h, 
 
     /// All matches that are left, in a vector, which wants memory besides what the pieces want.
     pub fn collect(self) -> Result<Vec<(usize, HipStr<'b, B>)>, AllocError>
-        ensures { IfOk result (λ matches. AreMatches self.entry.source self.entry.rest matches.items) }
+        ensures { IfOk result
+            (λ matches. AreMatches self.entry.source self.entry.rest matches.items) }
     {
         self.collect_metered(&mut Meter::new())
     }
@@ -299,8 +304,10 @@ impl<'h, 'b, B: Backend, P: Pattern> Pieces<'h, HipStr<'b, B>, MatchIndices<'h, 
         self,
         meter: &mut Meter,
     ) -> Result<Vec<(usize, HipStr<'b, B>)>, AllocError>
-        ensures matches { IfOk result (λ matches. AreMatches self.entry.source self.entry.rest matches.items) }
-        ensures counted { RisesAtMost meter.old meter.new (parts_cost B.SHARES self.entry.source self.entry.rest) }
+        ensures matches { IfOk result
+            (λ matches. AreMatches self.entry.source self.entry.rest matches.items) }
+        ensures counted { RisesAtMost meter.old meter.new
+            (parts_cost B.SHARES self.entry.source self.entry.rest) }
     {
         self.collect_matches(meter)
     }
@@ -387,7 +394,8 @@ impl<'h, 'b, B: Backend, P: ReversePattern> Pieces<'h, HipStr<'b, B>, RMatchIndi
 
     /// All matches that are left, in a vector, which wants memory besides what the pieces want.
     pub fn collect(self) -> Result<Vec<(usize, HipStr<'b, B>)>, AllocError>
-        ensures { IfOk result (λ matches. AreMatches self.entry.source self.entry.rest matches.items) }
+        ensures { IfOk result
+            (λ matches. AreMatches self.entry.source self.entry.rest matches.items) }
     {
         self.collect_metered(&mut Meter::new())
     }
@@ -397,8 +405,10 @@ impl<'h, 'b, B: Backend, P: ReversePattern> Pieces<'h, HipStr<'b, B>, RMatchIndi
         self,
         meter: &mut Meter,
     ) -> Result<Vec<(usize, HipStr<'b, B>)>, AllocError>
-        ensures matches { IfOk result (λ matches. AreMatches self.entry.source self.entry.rest matches.items) }
-        ensures counted { RisesAtMost meter.old meter.new (parts_cost B.SHARES self.entry.source self.entry.rest) }
+        ensures matches { IfOk result
+            (λ matches. AreMatches self.entry.source self.entry.rest matches.items) }
+        ensures counted { RisesAtMost meter.old meter.new
+            (parts_cost B.SHARES self.entry.source self.entry.rest) }
     {
         self.collect_matches(meter)
     }

@@ -2,22 +2,14 @@
 ghost use Rattle.std.specs.Prelude.{◌≡◌, IfSome, length};
 ghost use Rattle.std.specs.Iterator.{UpTo, at_most, item_count};
 ghost use Rattle.std.specs.Iterator.SizeHint.{IsWithinCount};
-ghost use Rattle.hip_cuts.specs.Piece.{DrawsFirstMatch, DrawsLastMatch, KeepsLeft, Left, draws_by};
-ghost use Rattle.hip_cuts.specs.Piece.{ClonesKeepRanges};
+ghost use Rattle.hip_cuts.specs.Piece.{ClonesKeepRanges, DrawsFirstMatch, DrawsLastMatch, draws_by};
+ghost use Rattle.hip_cuts.specs.Walks.{GoesAlike, GoesOver};
 
 use crate::pieces::Source;
+use crate::walk::Walk;
 use hip_match::ranges::{Ranges, RangesBack};
 use hip_text::{Backend, HipStr, Meter};
 use std::alloc::{AllocError, Global};
-
-/// What is left of pieces at ranges of the caller's.
-pub trait Walk {
-    /// Holds of what [`TextCuts::pieces_at`](crate::TextCuts::pieces_at) made, and stays so.
-    ghost ready: { Self → Type 0 };
-
-    /// The source, and the ranges that are still to come.
-    ghost left: { Self → Left };
-}
 
 /// The pieces of a source at the ranges that `I` gives, each with its position: what a function holds that made the ranges by a closure.
 #[derive(Drop)]
@@ -38,9 +30,7 @@ impl<'h, S: Source, I: Ranges> PiecesAt<'h, S, I> {
     pub(crate) fn new(source: &'h S, alloc: Global, ranges: I) -> Self
         requires ready { I.ready ranges }
         requires text { I.text ranges ≡ (S.handle source.now).items }
-        ensures ready { ⟦<Self as Walk>⟧.ready result }
-        ensures source { (⟦<Self as Walk>⟧.left result).source ≡ S.handle source.now }
-        ensures rest { (⟦<Self as Walk>⟧.left result).rest ≡ I.rest ranges }
+        ensures { GoesOver ⟦<Self as Walk>⟧ result (S.handle source.now) (I.rest ranges) }
     {
         PiecesAt {
             source,
@@ -53,7 +43,7 @@ impl<'h, S: Source, I: Ranges> PiecesAt<'h, S, I> {
 /// The same pieces once more, where a clone of the ranges gives what they do.
 impl<'h, S: Source, I: Ranges + Clone> Clone for PiecesAt<'h, S, I> {
     ghost is_clone = { λ pieces copy. ClonesKeepRanges I.is_clone I.ready I.text I.rest
-        → KeepsLeft ⟦<PiecesAt<'h, S, I> as Walk>⟧.ready ⟦<PiecesAt<'h, S, I> as Walk>⟧.left pieces copy };
+        → GoesAlike ⟦<PiecesAt<'h, S, I> as Walk>⟧ pieces copy };
 
     ghost is_infallible = { λ pieces. I.is_infallible pieces.ranges };
 

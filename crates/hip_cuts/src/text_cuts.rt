@@ -10,9 +10,11 @@ ghost use Rattle.hip_match.specs.Trims.{strip_prefix, strip_suffix, split_once, 
 ghost use Rattle.hip_cuts.specs.Cut.{LeavesBetween, LeavesEnd, LeavesStart, found_in, space_ends};
 ghost use Rattle.hip_cuts.specs.Cut.{OnceAnswers, OnceCosts, StripAnswers, StripCosts, TrimAnswers, TrimCosts};
 ghost use Rattle.hip_cuts.specs.Cut.{PartIfAny, PartIfAnyCosts, PartsIfAny, PartsIfAnyCosts};
+ghost use Rattle.hip_cuts.specs.Walks.{GoesOver};
 
 use crate::pieces::{Pieces, Source};
-use crate::pieces_at::{PiecesAt, Walk};
+use crate::pieces_at::PiecesAt;
+use crate::walk::Walk;
 use hip_match::lines::Lines;
 use hip_match::matches::{MatchIndices, Matches};
 use hip_match::pattern::{DoubleEndedPattern, Pattern, ReversePattern};
@@ -42,7 +44,8 @@ pub trait TextCuts<B: Backend>: Source {
     ) -> Pieces<'h, Self, SplitInclusive<'h, P>>
         requires { P.can_search pattern }
         ensures source { result.source ≡ Self.handle self.now }
-        ensures rest { result.rest ≡ found_in (Self.handle self.now) split_inclusive (P.ends pattern) };
+        ensures rest { result.rest
+            ≡ found_in (Self.handle self.now) split_inclusive (P.ends pattern) };
 
     /// The parts of [`TextCuts::split`] without the last where that is empty.
     fn split_terminator<'h, P: Pattern>(
@@ -52,7 +55,8 @@ pub trait TextCuts<B: Backend>: Source {
     ) -> Pieces<'h, Self, SplitTerminator<'h, P>>
         requires { P.can_search pattern }
         ensures source { result.source ≡ Self.handle self.now }
-        ensures rest { result.rest ≡ found_in (Self.handle self.now) split_terminator (P.ends pattern) };
+        ensures rest { result.rest
+            ≡ found_in (Self.handle self.now) split_terminator (P.ends pattern) };
 
     /// At most `count` parts, of which the last of so many runs on to the end.
     fn splitn<'h, P: Pattern>(
@@ -63,7 +67,8 @@ pub trait TextCuts<B: Backend>: Source {
     ) -> Pieces<'h, Self, SplitN<'h, P>>
         requires { P.can_search pattern }
         ensures source { result.source ≡ Self.handle self.now }
-        ensures rest { result.rest ≡ found_in (Self.handle self.now) (splitn count) (P.ends pattern) };
+        ensures rest { result.rest
+            ≡ found_in (Self.handle self.now) (splitn count) (P.ends pattern) };
 
     /// The occurrences of `pattern`, leftmost first, none overlapping.
     fn matches<'h, P: Pattern>(
@@ -103,7 +108,8 @@ pub trait TextCuts<B: Backend>: Source {
     ) -> Pieces<'h, Self, RSplitTerminator<'h, P>>
         requires { P.can_search pattern }
         ensures source { result.source ≡ Self.handle self.now }
-        ensures rest { result.rest ≡ found_in (Self.handle self.now) rsplit_terminator (P.ends pattern) };
+        ensures rest { result.rest
+            ≡ found_in (Self.handle self.now) rsplit_terminator (P.ends pattern) };
 
     /// At most `count` parts from the end, of which the last of so many runs on to the front.
     fn rsplitn<'h, P: ReversePattern>(
@@ -114,7 +120,8 @@ pub trait TextCuts<B: Backend>: Source {
     ) -> Pieces<'h, Self, RSplitN<'h, P>>
         requires { P.can_search pattern }
         ensures source { result.source ≡ Self.handle self.now }
-        ensures rest { result.rest ≡ found_in (Self.handle self.now) (rsplitn count) (P.ends pattern) };
+        ensures rest { result.rest
+            ≡ found_in (Self.handle self.now) (rsplitn count) (P.ends pattern) };
 
     /// The occurrences of `pattern`, rightmost first, none overlapping.
     fn rmatches<'h, P: ReversePattern>(
@@ -158,36 +165,44 @@ pub trait TextCuts<B: Backend>: Source {
     fn pieces_at<'h, I: Ranges>(&'h self, alloc: Global, ranges: I) -> PiecesAt<'h, Self, I>
         requires ready { I.ready ranges }
         requires text { I.text ranges ≡ (Self.handle self.now).items }
-        ensures ready { ⟦<PiecesAt<'h, Self, I> as Walk>⟧.ready result }
-        ensures source { (⟦<PiecesAt<'h, Self, I> as Walk>⟧.left result).source ≡ Self.handle self.now }
-        ensures rest { (⟦<PiecesAt<'h, Self, I> as Walk>⟧.left result).rest ≡ I.rest ranges };
+        ensures { GoesOver ⟦<PiecesAt<'h, Self, I> as Walk>⟧ result
+            (Self.handle self.now) (I.rest ranges) };
 
     /// The text without white space at its front and at its end.
     fn trim(&self, alloc: Global) -> Result<Self, AllocError>
-        ensures trimmed { TrimAnswers Self.handle LeavesBetween space_ends (Self.handle self.now) result };
+        ensures trimmed { TrimAnswers Self.handle LeavesBetween space_ends
+            (Self.handle self.now) result };
 
     /// [`TextCuts::trim`], counted.
     fn trim_metered(&self, alloc: Global, meter: &mut Meter) -> Result<Self, AllocError>
-        ensures trimmed { TrimAnswers Self.handle LeavesBetween space_ends (Self.handle self.now) result }
-        ensures counted { TrimCosts B.SHARES LeavesBetween space_ends (Self.handle self.now) meter.old meter.new };
+        ensures trimmed { TrimAnswers Self.handle LeavesBetween space_ends
+            (Self.handle self.now) result }
+        ensures counted { TrimCosts B.SHARES LeavesBetween space_ends
+            (Self.handle self.now) meter.old meter.new };
 
     /// The text without white space at its front.
     fn trim_start(&self, alloc: Global) -> Result<Self, AllocError>
-        ensures trimmed { TrimAnswers Self.handle LeavesEnd space_ends (Self.handle self.now) result };
+        ensures trimmed { TrimAnswers Self.handle LeavesEnd space_ends
+            (Self.handle self.now) result };
 
     /// [`TextCuts::trim_start`], counted.
     fn trim_start_metered(&self, alloc: Global, meter: &mut Meter) -> Result<Self, AllocError>
-        ensures trimmed { TrimAnswers Self.handle LeavesEnd space_ends (Self.handle self.now) result }
-        ensures counted { TrimCosts B.SHARES LeavesEnd space_ends (Self.handle self.now) meter.old meter.new };
+        ensures trimmed { TrimAnswers Self.handle LeavesEnd space_ends
+            (Self.handle self.now) result }
+        ensures counted { TrimCosts B.SHARES LeavesEnd space_ends
+            (Self.handle self.now) meter.old meter.new };
 
     /// The text without white space at its end.
     fn trim_end(&self, alloc: Global) -> Result<Self, AllocError>
-        ensures trimmed { TrimAnswers Self.handle LeavesStart space_ends (Self.handle self.now) result };
+        ensures trimmed { TrimAnswers Self.handle LeavesStart space_ends
+            (Self.handle self.now) result };
 
     /// [`TextCuts::trim_end`], counted.
     fn trim_end_metered(&self, alloc: Global, meter: &mut Meter) -> Result<Self, AllocError>
-        ensures trimmed { TrimAnswers Self.handle LeavesStart space_ends (Self.handle self.now) result }
-        ensures counted { TrimCosts B.SHARES LeavesStart space_ends (Self.handle self.now) meter.old meter.new };
+        ensures trimmed { TrimAnswers Self.handle LeavesStart space_ends
+            (Self.handle self.now) result }
+        ensures counted { TrimCosts B.SHARES LeavesStart space_ends
+            (Self.handle self.now) meter.old meter.new };
 
     /// The text without the longest front of occurrences of `pattern`, and without the longest back of them in what is left.
     fn trim_matches<P: DoubleEndedPattern>(
@@ -196,7 +211,8 @@ pub trait TextCuts<B: Backend>: Source {
         pattern: P,
     ) -> Result<Self, AllocError>
         requires { P.can_search pattern }
-        ensures trimmed { TrimAnswers Self.handle LeavesBetween (P.ends pattern) (Self.handle self.now) result };
+        ensures trimmed { TrimAnswers Self.handle LeavesBetween (P.ends pattern)
+            (Self.handle self.now) result };
 
     /// [`TextCuts::trim_matches`], counted.
     fn trim_matches_metered<P: DoubleEndedPattern>(
@@ -206,13 +222,16 @@ pub trait TextCuts<B: Backend>: Source {
         meter: &mut Meter,
     ) -> Result<Self, AllocError>
         requires { P.can_search pattern }
-        ensures trimmed { TrimAnswers Self.handle LeavesBetween (P.ends pattern) (Self.handle self.now) result }
-        ensures counted { TrimCosts B.SHARES LeavesBetween (P.ends pattern) (Self.handle self.now) meter.old meter.new };
+        ensures trimmed { TrimAnswers Self.handle LeavesBetween (P.ends pattern)
+            (Self.handle self.now) result }
+        ensures counted { TrimCosts B.SHARES LeavesBetween (P.ends pattern)
+            (Self.handle self.now) meter.old meter.new };
 
     /// The text without the longest front of occurrences of `pattern`. An empty pattern removes nothing.
     fn trim_start_matches<P: Pattern>(&self, alloc: Global, pattern: P) -> Result<Self, AllocError>
         requires { P.can_search pattern }
-        ensures trimmed { TrimAnswers Self.handle LeavesEnd (P.ends pattern) (Self.handle self.now) result };
+        ensures trimmed { TrimAnswers Self.handle LeavesEnd (P.ends pattern)
+            (Self.handle self.now) result };
 
     /// [`TextCuts::trim_start_matches`], counted.
     fn trim_start_matches_metered<P: Pattern>(
@@ -222,8 +241,10 @@ pub trait TextCuts<B: Backend>: Source {
         meter: &mut Meter,
     ) -> Result<Self, AllocError>
         requires { P.can_search pattern }
-        ensures trimmed { TrimAnswers Self.handle LeavesEnd (P.ends pattern) (Self.handle self.now) result }
-        ensures counted { TrimCosts B.SHARES LeavesEnd (P.ends pattern) (Self.handle self.now) meter.old meter.new };
+        ensures trimmed { TrimAnswers Self.handle LeavesEnd (P.ends pattern)
+            (Self.handle self.now) result }
+        ensures counted { TrimCosts B.SHARES LeavesEnd (P.ends pattern)
+            (Self.handle self.now) meter.old meter.new };
 
     /// The text without the longest back of occurrences of `pattern`. An empty pattern removes nothing.
     fn trim_end_matches<P: ReversePattern>(
@@ -232,7 +253,8 @@ pub trait TextCuts<B: Backend>: Source {
         pattern: P,
     ) -> Result<Self, AllocError>
         requires { P.can_search pattern }
-        ensures trimmed { TrimAnswers Self.handle LeavesStart (P.ends pattern) (Self.handle self.now) result };
+        ensures trimmed { TrimAnswers Self.handle LeavesStart (P.ends pattern)
+            (Self.handle self.now) result };
 
     /// [`TextCuts::trim_end_matches`], counted.
     fn trim_end_matches_metered<P: ReversePattern>(
@@ -242,8 +264,10 @@ pub trait TextCuts<B: Backend>: Source {
         meter: &mut Meter,
     ) -> Result<Self, AllocError>
         requires { P.can_search pattern }
-        ensures trimmed { TrimAnswers Self.handle LeavesStart (P.ends pattern) (Self.handle self.now) result }
-        ensures counted { TrimCosts B.SHARES LeavesStart (P.ends pattern) (Self.handle self.now) meter.old meter.new };
+        ensures trimmed { TrimAnswers Self.handle LeavesStart (P.ends pattern)
+            (Self.handle self.now) result }
+        ensures counted { TrimCosts B.SHARES LeavesStart (P.ends pattern)
+            (Self.handle self.now) meter.old meter.new };
 
     /// The text without one occurrence of `pattern` at its front, if there is one.
     fn strip_prefix<P: Pattern>(
@@ -252,7 +276,8 @@ pub trait TextCuts<B: Backend>: Source {
         pattern: P,
     ) -> Result<Option<Self>, AllocError>
         requires { P.can_search pattern }
-        ensures stripped { StripAnswers Self.handle strip_prefix (P.ends pattern) (Self.handle self.now) result };
+        ensures stripped { StripAnswers Self.handle strip_prefix (P.ends pattern)
+            (Self.handle self.now) result };
 
     /// [`TextCuts::strip_prefix`], counted.
     fn strip_prefix_metered<P: Pattern>(
@@ -262,8 +287,10 @@ pub trait TextCuts<B: Backend>: Source {
         meter: &mut Meter,
     ) -> Result<Option<Self>, AllocError>
         requires { P.can_search pattern }
-        ensures stripped { StripAnswers Self.handle strip_prefix (P.ends pattern) (Self.handle self.now) result }
-        ensures counted { StripCosts B.SHARES strip_prefix (P.ends pattern) (Self.handle self.now) meter.old meter.new };
+        ensures stripped { StripAnswers Self.handle strip_prefix (P.ends pattern)
+            (Self.handle self.now) result }
+        ensures counted { StripCosts B.SHARES strip_prefix (P.ends pattern)
+            (Self.handle self.now) meter.old meter.new };
 
     /// The text without one occurrence of `pattern` at its end, if there is one.
     fn strip_suffix<P: ReversePattern>(
@@ -272,7 +299,8 @@ pub trait TextCuts<B: Backend>: Source {
         pattern: P,
     ) -> Result<Option<Self>, AllocError>
         requires { P.can_search pattern }
-        ensures stripped { StripAnswers Self.handle strip_suffix (P.ends pattern) (Self.handle self.now) result };
+        ensures stripped { StripAnswers Self.handle strip_suffix (P.ends pattern)
+            (Self.handle self.now) result };
 
     /// [`TextCuts::strip_suffix`], counted.
     fn strip_suffix_metered<P: ReversePattern>(
@@ -282,8 +310,10 @@ pub trait TextCuts<B: Backend>: Source {
         meter: &mut Meter,
     ) -> Result<Option<Self>, AllocError>
         requires { P.can_search pattern }
-        ensures stripped { StripAnswers Self.handle strip_suffix (P.ends pattern) (Self.handle self.now) result }
-        ensures counted { StripCosts B.SHARES strip_suffix (P.ends pattern) (Self.handle self.now) meter.old meter.new };
+        ensures stripped { StripAnswers Self.handle strip_suffix (P.ends pattern)
+            (Self.handle self.now) result }
+        ensures counted { StripCosts B.SHARES strip_suffix (P.ends pattern)
+            (Self.handle self.now) meter.old meter.new };
 
     /// What lies before the first occurrence of `pattern` and all that lies behind it, if there is one.
     fn split_once<P: Pattern>(
@@ -292,7 +322,8 @@ pub trait TextCuts<B: Backend>: Source {
         pattern: P,
     ) -> Result<Option<(Self, Self)>, AllocError>
         requires { P.can_search pattern }
-        ensures parts { OnceAnswers Self.handle split_once (P.ends pattern) (Self.handle self.now) result };
+        ensures parts { OnceAnswers Self.handle split_once (P.ends pattern)
+            (Self.handle self.now) result };
 
     /// [`TextCuts::split_once`], counted.
     fn split_once_metered<P: Pattern>(
@@ -302,8 +333,10 @@ pub trait TextCuts<B: Backend>: Source {
         meter: &mut Meter,
     ) -> Result<Option<(Self, Self)>, AllocError>
         requires { P.can_search pattern }
-        ensures parts { OnceAnswers Self.handle split_once (P.ends pattern) (Self.handle self.now) result }
-        ensures counted { OnceCosts B.SHARES split_once (P.ends pattern) (Self.handle self.now) meter.old meter.new };
+        ensures parts { OnceAnswers Self.handle split_once (P.ends pattern)
+            (Self.handle self.now) result }
+        ensures counted { OnceCosts B.SHARES split_once (P.ends pattern)
+            (Self.handle self.now) meter.old meter.new };
 
     /// What lies before the last occurrence of `pattern` and all that lies behind it, if there is one.
     fn rsplit_once<P: ReversePattern>(
@@ -312,7 +345,8 @@ pub trait TextCuts<B: Backend>: Source {
         pattern: P,
     ) -> Result<Option<(Self, Self)>, AllocError>
         requires { P.can_search pattern }
-        ensures parts { OnceAnswers Self.handle rsplit_once (P.ends pattern) (Self.handle self.now) result };
+        ensures parts { OnceAnswers Self.handle rsplit_once (P.ends pattern)
+            (Self.handle self.now) result };
 
     /// [`TextCuts::rsplit_once`], counted.
     fn rsplit_once_metered<P: ReversePattern>(
@@ -322,8 +356,10 @@ pub trait TextCuts<B: Backend>: Source {
         meter: &mut Meter,
     ) -> Result<Option<(Self, Self)>, AllocError>
         requires { P.can_search pattern }
-        ensures parts { OnceAnswers Self.handle rsplit_once (P.ends pattern) (Self.handle self.now) result }
-        ensures counted { OnceCosts B.SHARES rsplit_once (P.ends pattern) (Self.handle self.now) meter.old meter.new };
+        ensures parts { OnceAnswers Self.handle rsplit_once (P.ends pattern)
+            (Self.handle self.now) result }
+        ensures counted { OnceCosts B.SHARES rsplit_once (P.ends pattern)
+            (Self.handle self.now) meter.old meter.new };
 }
 
 impl<'b, B: Backend> TextCuts<B> for HipStr<'b, B> {
@@ -662,7 +698,8 @@ fn parts_at<'b, B: Backend>(
     ranges: Option<((usize, usize), (usize, usize))>,
     meter: &mut Meter,
 ) -> Result<Option<(HipStr<'b, B>, HipStr<'b, B>)>, AllocError>
-    requires { IfSome ranges (λ ranges. IsCut text.now.items ranges.0 × IsCut text.now.items ranges.1) }
+    requires { IfSome ranges
+        (λ ranges. IsCut text.now.items ranges.0 × IsCut text.now.items ranges.1) }
     ensures parts { PartsIfAny (λ part. part) ranges text.now result }
     ensures counted { PartsIfAnyCosts B.SHARES ranges text.now meter.old meter.new }
 {
