@@ -11,7 +11,7 @@ use Rattle.hip_text.specs.Meter.{RisesAtMost}
 use Rattle.hip_bytes.specs.declared.kind.Kind.{Kind}
 use Rattle.hip_match.specs.Characters.{char_ends}
 use Rattle.hip_match.specs.Pieces.{split}
-use Rattle.hip_fields.specs.Records.{AreFields, AreRecords, FirstRecord, FirstRecordCosts, fields_cost, records_cost}
+use Rattle.hip_fields.specs.Records.{AreFields, AreRecords, FirstRecord, FirstRecordCosts, RecordsLeft, fields_cost, records_cost}
 
 pub length-part : (text : List ℕ) (start end : ℕ) → start ≤ end → end ≤ length text → length (slice_range text start end) ≡ end - start
 length-part text start end ordered within = length-take-le (end - start) (drop start text) (omega (arith, length-drop start text))
@@ -37,22 +37,22 @@ field-cost shares kind old new text len before after first long rises =
     let is : fields_cost shares kind old ≡ cut_cost shares kind (length text) + fields_cost shares kind new = ap (fields_cost shares kind) first in
     (rises.never_falls, omega (arith, is, cost, rises.at_most))
 
-pub record-next : {E : Type 0} (source at : Handle) (all old new : List (List (List ℕ))) (done items : List (Vec Handle Global)) (result : Result (Vec Handle Global) E) (fields : Vec Handle Global)
-    → at ≡ source → FirstRecord at old new (Some result) → result ≡ Ok fields → items ≡ done ++ fields ∷ []
-    → ((more : List (Vec Handle Global)) → AreRecords source old more → AreRecords source all (done ++ more))
-    → (more : List (Vec Handle Global)) → AreRecords source new more → AreRecords source all (items ++ more)
-record-next {E} source at all old new done items result fields same first made pushed so_far more are =
-    let of : AreFields at first.0 fields.items = subst (λ (result : Result (Vec Handle Global) E). IfOk result (λ fields. AreFields at first.0 fields.items)) made first.2 in
+pub record-next : {E : Type 0} (source : Handle) (all : List (List (List ℕ))) (old new : RecordsLeft) (done items : List (Vec Handle Global)) (result : Result (Vec Handle Global) E) (fields : Vec Handle Global)
+    → old.source ≡ source → FirstRecord old (Some result) new → result ≡ Ok fields → items ≡ done ++ fields ∷ []
+    → ((more : List (Vec Handle Global)) → AreRecords source old.rest more → AreRecords source all (done ++ more))
+    → (more : List (Vec Handle Global)) → AreRecords source new.rest more → AreRecords source all (items ++ more)
+record-next {E} source all old new done items result fields same first made pushed so_far more are =
+    let of : AreFields old.source first.0 fields.items = subst (λ (result : Result (Vec Handle Global) E). IfOk result (λ fields. AreFields old.source first.0 fields.items)) made first.2 in
     let is : AreFields source first.0 fields.items = subst (λ (handle : Handle). AreFields handle first.0 fields.items) same of in
     subst (λ (rows : List (Vec Handle Global)). AreRecords source all rows) (sym (ap (λ (rows : List (Vec Handle Global)). rows ++ more) pushed ∙ append_assoc done (fields ∷ []) more))
     (so_far (fields ∷ more) (subst (λ (left : List (List (List ℕ))). AreRecords source left (fields ∷ more)) (sym first.1) (is, are)))
 
-pub record-cost : {T : Type 0} (shares : Bool) (kind at : Kind) (old new : List (List (List ℕ))) (drawn : T) (before after : ℕ)
-    → at ≡ kind → FirstRecordCosts shares at old new (Some drawn) before after
-    → (before ≤ after) × (after + records_cost shares kind new ≤ before + records_cost shares kind old)
-record-cost shares kind at old new drawn before after same costs =
-    let is : records_cost shares kind old ≡ fields_cost shares kind costs.0 + records_cost shares kind new = ap (records_cost shares kind) costs.1 in
-    let fields : fields_cost shares at costs.0 ≡ fields_cost shares kind costs.0 = ap (λ (kind : Kind). fields_cost shares kind costs.0) same in
+pub record-cost : {T : Type 0} (shares : Bool) (kind : Kind) (old new : RecordsLeft) (drawn : T) (before after : ℕ)
+    → old.source.kind ≡ kind → FirstRecordCosts shares old (Some drawn) new before after
+    → (before ≤ after) × (after + records_cost shares kind new.rest ≤ before + records_cost shares kind old.rest)
+record-cost shares kind old new drawn before after same costs =
+    let is : records_cost shares kind old.rest ≡ fields_cost shares kind costs.0 + records_cost shares kind new.rest = ap (records_cost shares kind) costs.1 in
+    let fields : fields_cost shares old.source.kind costs.0 ≡ fields_cost shares kind costs.0 = ap (λ (kind : Kind). fields_cost shares kind costs.0) same in
     (costs.2.never_falls, omega (arith, is, fields, costs.2.at_most))
 
 -- where there were none at all, there are none left

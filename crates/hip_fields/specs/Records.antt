@@ -45,14 +45,19 @@ abbrev pub records_cost : Bool → Kind → List Texts → ℕ
 records_cost shares kind [] = 0
 records_cost shares kind (texts ∷ more) = fields_cost shares kind texts + records_cost shares kind more
 
+-- what a reader of records has still to give: the records of a text, as the bytes of their fields
+pub record RecordsLeft : Type 0 where
+  pub source : Handle
+  pub rest : List Texts
+
 -- the first of the records that were left, or nothing where none was. A record that is refused for memory has been passed
-abbrev pub FirstRecord : {E : Type 0} → Handle → List Texts → List Texts → Option (Result (Vec Handle Global) E) → Type 0
-FirstRecord source old new None = (old ≡ []) × (new ≡ [])
-FirstRecord source old new (Some drawn) =
-    (texts : Texts) × (old ≡ texts ∷ new) × IfOk drawn (λ fields. AreFields source texts fields.items)
+abbrev pub FirstRecord : {E : Type 0} → RecordsLeft → Option (Result (Vec Handle Global) E) → RecordsLeft → Type 0
+FirstRecord old None new = (old.rest ≡ []) × (new.rest ≡ [])
+FirstRecord old (Some drawn) new =
+    (texts : Texts) × (old.rest ≡ texts ∷ new.rest) × IfOk drawn (λ fields. AreFields old.source texts fields.items)
 
 -- how far a meter rises by drawing it: by no more than its fields cost
-abbrev pub FirstRecordCosts : {T : Type 0} → Bool → Kind → List Texts → List Texts → Option T → ℕ → ℕ → Type 0
-FirstRecordCosts shares kind old new None before after = after ≡ before
-FirstRecordCosts shares kind old new (Some drawn) before after =
-    (texts : Texts) × (old ≡ texts ∷ new) × RisesAtMost before after (fields_cost shares kind texts)
+abbrev pub FirstRecordCosts : {T : Type 0} → Bool → RecordsLeft → Option T → RecordsLeft → ℕ → ℕ → Type 0
+FirstRecordCosts shares old None new before after = after ≡ before
+FirstRecordCosts shares old (Some drawn) new before after =
+    (texts : Texts) × (old.rest ≡ texts ∷ new.rest) × RisesAtMost before after (fields_cost shares old.source.kind texts)

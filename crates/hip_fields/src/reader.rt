@@ -1,6 +1,5 @@
 //! Records, drawn one after another.
-ghost use Rattle.std.specs.Prelude.{◌≡◌, ℕ, List, [], map, IfOk, IsOk};
-ghost use Rattle.hip_text.specs.Handle.{Handle};
+ghost use Rattle.std.specs.Prelude.{◌≡◌, [], map, IfOk, IsOk};
 ghost use Rattle.hip_text.specs.Meter.{RisesAtMost};
 ghost use Rattle.hip_match.specs.Joined.{parts};
 ghost use Rattle.hip_fields.specs.Records.{AreRecords, FirstRecord, FirstRecordCosts};
@@ -12,22 +11,12 @@ use hip_cuts::hip_match::ranges::Ranges;
 use hip_cuts::hip_match::split::Split;
 use hip_cuts::{Backend, HipStr, Meter, Source};
 use std::alloc::{AllocError, Global};
+use std::marker::Model;
 
-/// What a reader of records is.
-pub trait Reading {
-    /// Holds of what [`Records::new`] made, and stays so.
-    ghost ready: { Self → Type 0 };
-
-    /// The text whose records they are.
-    ghost source: { Self → Handle };
-
-    /// The records that are still to come, as the bytes of their fields.
-    ghost rest: { Self → List (List (List ℕ)) };
-}
-
-/// The records of a text that are still to come, one for each of the lines that `I` gives.
+/// The records of a text that are still to come, one for each of the lines that `I` gives. Seen as the text and the bytes of these
+/// records' fields.
 #[derive(Drop)]
-pub struct Records<'h, S, I> {
+pub struct Records<'h, S: Source, I: Ranges> {
     source: &'h S,
     lines: I,
     separator: char,
@@ -35,14 +24,21 @@ pub struct Records<'h, S, I> {
     room: usize,
 }
 
-impl<'h, S: Source, I: Ranges> Reading for Records<'h, S, I> {
-    ghost ready = { λ records. I.ready records.lines
+impl<'h, S: Source, I: Ranges> Model for Records<'h, S, I> {
+    ghost use Rattle.std.specs.Prelude.{◌≡◌, map};
+    ghost use Rattle.hip_match.specs.Joined.{parts};
+    ghost use Rattle.hip_fields.specs.Records.{RecordsLeft, fields_of};
+
+    ghost Value = { RecordsLeft };
+
+    ghost view = { λ records. record {
+      source = S.handle records.source.now;
+      rest = map (fields_of records.separator)
+          (parts (S.handle records.source.now).items (I.rest records.lines));
+    } };
+
+    ghost invariant = { λ records. I.ready records.lines
         × (I.text records.lines ≡ (S.handle records.source.now).items) };
-
-    ghost source = { λ records. S.handle records.source.now };
-
-    ghost rest = { λ records. map (fields_of records.separator)
-        (parts (S.handle records.source.now).items (I.rest records.lines)) };
 }
 
 impl<'h, S: Source, I: Ranges> Records<'h, S, I> {
@@ -51,9 +47,8 @@ impl<'h, S: Source, I: Ranges> Records<'h, S, I> {
     pub(crate) fn over(source: &'h S, lines: I, separator: char) -> Self
         requires ready { I.ready lines }
         requires text { I.text lines ≡ (S.handle source.now).items }
-        ensures ready { ⟦<Self as Reading>⟧.ready result }
-        ensures source { ⟦<Self as Reading>⟧.source result ≡ S.handle source.now }
-        ensures rest { ⟦<Self as Reading>⟧.rest result
+        ensures source { result.source ≡ S.handle source.now }
+        ensures rest { result.rest
             ≡ map (fields_of separator) (parts (S.handle source.now).items (I.rest lines)) }
     {
         Records {
@@ -69,9 +64,8 @@ impl<'h, 'b, B: Backend> Records<'h, HipStr<'b, B>, Lines<'h>> {
     /// The records of `source`, a line each, with a field on either side of each `separator`.
     #[inline]
     pub fn new(source: &'h HipStr<'b, B>, separator: char) -> Self
-        ensures ready { ⟦<Self as Reading>⟧.ready result }
-        ensures source { ⟦<Self as Reading>⟧.source result ≡ source.now }
-        ensures rest { ⟦<Self as Reading>⟧.rest result ≡ records_of separator source.now.items }
+        ensures source { result.source ≡ source.now }
+        ensures rest { result.rest ≡ records_of separator source.now.items }
     {
         Records::over(source, Lines::new(source.as_str()), separator)
     }
@@ -80,11 +74,8 @@ impl<'h, 'b, B: Backend> Records<'h, HipStr<'b, B>, Lines<'h>> {
 impl<'h, 'b, B: Backend, I: Ranges + Drop> Records<'h, HipStr<'b, B>, I> {
     /// The first record that is left. One that is refused for memory has been passed.
     pub fn next_record(&mut self, alloc: Global) -> Option<Result<Vec<HipStr<'b, B>>, AllocError>>
-        requires { ⟦<Self as Reading>⟧.ready self.old }
-        ensures first { FirstRecord (⟦<Self as Reading>⟧.source self.old)
-            (⟦<Self as Reading>⟧.rest self.old) (⟦<Self as Reading>⟧.rest self.new) result }
-        ensures source { ⟦<Self as Reading>⟧.source self.new ≡ ⟦<Self as Reading>⟧.source self.old }
-        ensures ready { ⟦<Self as Reading>⟧.ready self.new }
+        ensures first { FirstRecord self.old result self.new }
+        ensures source { self.new.source ≡ self.old.source }
     {
         self.next_record_metered(alloc, &mut Meter::new())
     }
@@ -95,13 +86,9 @@ impl<'h, 'b, B: Backend, I: Ranges + Drop> Records<'h, HipStr<'b, B>, I> {
         alloc: Global,
         meter: &mut Meter,
     ) -> Option<Result<Vec<HipStr<'b, B>>, AllocError>>
-        requires { ⟦<Self as Reading>⟧.ready self.old }
-        ensures first { FirstRecord (⟦<Self as Reading>⟧.source self.old)
-            (⟦<Self as Reading>⟧.rest self.old) (⟦<Self as Reading>⟧.rest self.new) result }
-        ensures counted { FirstRecordCosts B.SHARES (⟦<Self as Reading>⟧.source self.old).kind
-            (⟦<Self as Reading>⟧.rest self.old) (⟦<Self as Reading>⟧.rest self.new) result meter.old meter.new }
-        ensures source { ⟦<Self as Reading>⟧.source self.new ≡ ⟦<Self as Reading>⟧.source self.old }
-        ensures ready { ⟦<Self as Reading>⟧.ready self.new }
+        ensures first { FirstRecord self.old result self.new }
+        ensures counted { FirstRecordCosts B.SHARES self.old result self.new meter.old meter.new }
+        ensures source { self.new.source ≡ self.old.source }
     {
         let (start, end) = self.lines.next()?;
         let fields = Split::new(&self.source.as_str()[start..end], self.separator);
@@ -112,10 +99,9 @@ impl<'h, 'b, B: Backend, I: Ranges + Drop> Records<'h, HipStr<'b, B>, I> {
 
     /// All records that are left, in a vector.
     pub fn collect(self, alloc: Global) -> Result<Vec<Vec<HipStr<'b, B>>>, AllocError>
-        requires { ⟦<Self as Reading>⟧.ready self }
-        ensures records { IfOk result (λ records.
-            AreRecords (⟦<Self as Reading>⟧.source self.entry) (⟦<Self as Reading>⟧.rest self.entry) records.items) }
-        ensures none_left { ⟦<Self as Reading>⟧.rest self.entry ≡ [] → IsOk result }
+        ensures records { IfOk result
+            (λ records. AreRecords self.entry.source self.entry.rest records.items) }
+        ensures none_left { self.entry.rest ≡ [] → IsOk result }
     {
         self.collect_metered(alloc, &mut Meter::new())
     }
@@ -126,12 +112,11 @@ impl<'h, 'b, B: Backend, I: Ranges + Drop> Records<'h, HipStr<'b, B>, I> {
         alloc: Global,
         meter: &mut Meter,
     ) -> Result<Vec<Vec<HipStr<'b, B>>>, AllocError>
-        requires { ⟦<Self as Reading>⟧.ready self }
-        ensures records { IfOk result (λ records.
-            AreRecords (⟦<Self as Reading>⟧.source self.entry) (⟦<Self as Reading>⟧.rest self.entry) records.items) }
-        ensures none_left { ⟦<Self as Reading>⟧.rest self.entry ≡ [] → IsOk result }
+        ensures records { IfOk result
+            (λ records. AreRecords self.entry.source self.entry.rest records.items) }
+        ensures none_left { self.entry.rest ≡ [] → IsOk result }
         ensures counted { RisesAtMost meter.old meter.new
-            (records_cost B.SHARES (⟦<Self as Reading>⟧.source self.entry).kind (⟦<Self as Reading>⟧.rest self.entry)) }
+            (records_cost B.SHARES self.entry.source.kind self.entry.rest) }
     {
         let mut records = Vec::new(alloc);
         while let Some(fields) = self.next_record_metered(alloc, meter) {
