@@ -11,5 +11,6 @@ use crate::command::Command;
 /// where the source is borrowed. With the contract of [`run`](crate::run), whose meter rises by no more than these costs, that is what a
 /// list of commands copies.
 pub fn parts_copy_little(command: Command<'_>)
-    ensures { (slots : List SlotState) (cost : ℕ) → Costs true slots command.entry cost → CopiesLittle slots command.entry cost }
+    ensures { (slots : List SlotState) (cost : ℕ) → Costs true slots command.entry cost
+        → CopiesLittle slots command.entry cost }
 {}

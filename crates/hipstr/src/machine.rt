@@ -29,7 +29,8 @@ impl<'b, B: Backend> Pool<'b, B> {
         meter: &mut Meter,
     ) -> Result<Answer, Reason>
         ensures step { Step B.SHARES self.old command.entry (answer_of result) self.new }
-        ensures counted { (cost : ℕ) × Costs B.SHARES self.old command.entry cost × RisesAtMost meter.old meter.new cost }
+        ensures counted { (cost : ℕ) × Costs B.SHARES self.old command.entry cost
+            × RisesAtMost meter.old meter.new cost }
         ensures paid { PushesArePaid B.SHARES self.old command.entry self.new meter.old meter.new }
     {
         match command {
@@ -86,8 +87,13 @@ pub fn run<'b, B: Backend>(
     commands: &[Command<'b>],
     meter: &mut Meter,
 ) -> Result<Vec<Answer>, AllocError>
-    ensures run { IfOk result (λ answers. (total : ℕ) × Run B.SHARES pool.old commands.now answers.items pool.new total × RisesAtMost meter.old meter.new total) }
-    ensures amortised { B.SHARES ≡ false → IfOk result (λ answers. (total : ℕ) × RunAmortised B.SHARES pool.old commands.now answers.items pool.new total × RisesAtMost meter.old meter.new (pots pool.old + total)) }
+    ensures run { IfOk result
+        (λ answers. (total : ℕ) × Run B.SHARES pool.old commands.now answers.items pool.new total
+        × RisesAtMost meter.old meter.new total) }
+    ensures amortised { B.SHARES ≡ false
+        → IfOk result (λ answers. (total : ℕ)
+        × RunAmortised B.SHARES pool.old commands.now answers.items pool.new total
+        × RisesAtMost meter.old meter.new (pots pool.old + total)) }
     ensures err { OnErr result (pool.new ≡ pool.old) }
     ensures nothing_counted { OnErr result (meter.new ≡ meter.old) }
 {

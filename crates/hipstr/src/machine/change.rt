@@ -20,9 +20,12 @@ impl<'b, B: Backend> Pool<'b, B> {
         addition: &'b [u8],
         meter: &mut Meter,
     ) -> Result<Answer, Reason>
-        ensures step { Step B.SHARES self.old (Command.Push t addition.entry) (answer_of result) self.new }
-        ensures counted { RisesAtMost meter.old meter.new (cost_of B.SHARES self.old (Command.Push t addition.entry)) }
-        ensures paid { PushesArePaid B.SHARES self.old (Command.Push t addition.entry) self.new meter.old meter.new }
+        ensures step { Step B.SHARES self.old (Command.Push t addition.entry)
+            (answer_of result) self.new }
+        ensures counted { RisesAtMost meter.old meter.new
+            (cost_of B.SHARES self.old (Command.Push t addition.entry)) }
+        ensures paid { PushesArePaid B.SHARES self.old
+            (Command.Push t addition.entry) self.new meter.old meter.new }
     {
         if t >= self.len() {
             return Err(Reason::NoSlot);
@@ -50,7 +53,8 @@ impl<'b, B: Backend> Pool<'b, B> {
     #[tactic(auto, using(crate::proofs::Places::put_back))]
     pub(super) fn pop(&mut self, t: usize, meter: &mut Meter) -> Result<Answer, Reason>
         ensures step { Step B.SHARES self.old (Command.Pop t) (answer_of result) self.new }
-        ensures counted { RisesAtMost meter.old meter.new (cost_of B.SHARES self.old (Command.Pop t)) }
+        ensures counted { RisesAtMost meter.old meter.new
+            (cost_of B.SHARES self.old (Command.Pop t)) }
     {
         if t >= self.len() {
             return Err(Reason::NoSlot);
@@ -72,7 +76,8 @@ impl<'b, B: Backend> Pool<'b, B> {
         meter: &mut Meter,
     ) -> Result<Answer, Reason>
         ensures step { Step B.SHARES self.old (Command.Truncate t n) (answer_of result) self.new }
-        ensures counted { RisesAtMost meter.old meter.new (cost_of B.SHARES self.old (Command.Truncate t n)) }
+        ensures counted { RisesAtMost meter.old meter.new
+            (cost_of B.SHARES self.old (Command.Truncate t n)) }
     {
         if t >= self.len() {
             return Err(Reason::NoSlot);
@@ -98,7 +103,8 @@ impl<'b, B: Backend> Pool<'b, B> {
     #[tactic(auto, using(crate::proofs::Places::put_back))]
     pub(super) fn clear(&mut self, t: usize, meter: &mut Meter) -> Result<Answer, Reason>
         ensures step { Step B.SHARES self.old (Command.Clear t) (answer_of result) self.new }
-        ensures counted { RisesAtMost meter.old meter.new (cost_of B.SHARES self.old (Command.Clear t)) }
+        ensures counted { RisesAtMost meter.old meter.new
+            (cost_of B.SHARES self.old (Command.Clear t)) }
     {
         if t >= self.len() {
             return Err(Reason::NoSlot);
@@ -121,7 +127,8 @@ impl<'b, B: Backend> Pool<'b, B> {
         meter: &mut Meter,
     ) -> Result<Answer, Reason>
         ensures step { Step B.SHARES self.old (Command.Shrink t least) (answer_of result) self.new }
-        ensures counted { RisesAtMost meter.old meter.new (cost_of B.SHARES self.old (Command.Shrink t least)) }
+        ensures counted { RisesAtMost meter.old meter.new
+            (cost_of B.SHARES self.old (Command.Shrink t least)) }
     {
         if t >= self.len() {
             return Err(Reason::NoSlot);

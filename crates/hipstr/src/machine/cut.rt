@@ -26,7 +26,8 @@ impl<'b, B: Backend> Pool<'b, B> {
         meter: &mut Meter,
     ) -> Result<Answer, Reason>
         ensures step { Step B.SHARES self.old (Command.Trim s t side) (answer_of result) self.new }
-        ensures counted { (cost : ℕ) × Costs B.SHARES self.old (Command.Trim s t side) cost × RisesAtMost meter.old meter.new cost }
+        ensures counted { (cost : ℕ) × Costs B.SHARES self.old (Command.Trim s t side) cost
+            × RisesAtMost meter.old meter.new cost }
     {
         if s >= self.len() || t >= self.len() {
             return Err(Reason::NoSlot);
@@ -46,8 +47,11 @@ impl<'b, B: Backend> Pool<'b, B> {
         pattern: Pat<'b>,
         meter: &mut Meter,
     ) -> Result<Answer, Reason>
-        ensures step { Step B.SHARES self.old (Command.TrimMatches s t side pattern.entry) (answer_of result) self.new }
-        ensures counted { (cost : ℕ) × Costs B.SHARES self.old (Command.TrimMatches s t side pattern.entry) cost × RisesAtMost meter.old meter.new cost }
+        ensures step { Step B.SHARES self.old (Command.TrimMatches s t side pattern.entry)
+            (answer_of result) self.new }
+        ensures counted { (cost : ℕ)
+            × Costs B.SHARES self.old (Command.TrimMatches s t side pattern.entry) cost
+            × RisesAtMost meter.old meter.new cost }
     {
         if s >= self.len() || t >= self.len() {
             return Err(Reason::NoSlot);
@@ -70,8 +74,10 @@ impl<'b, B: Backend> Pool<'b, B> {
         pattern: Pat<'b>,
         meter: &mut Meter,
     ) -> Result<Answer, Reason>
-        ensures step { Step B.SHARES self.old (Command.Strip s t end pattern.entry) (answer_of result) self.new }
-        ensures counted { RisesAtMost meter.old meter.new (cost_of B.SHARES self.old (Command.Strip s t end pattern.entry)) }
+        ensures step { Step B.SHARES self.old (Command.Strip s t end pattern.entry)
+            (answer_of result) self.new }
+        ensures counted { RisesAtMost meter.old meter.new
+            (cost_of B.SHARES self.old (Command.Strip s t end pattern.entry)) }
     {
         if s >= self.len() || t >= self.len() {
             return Err(Reason::NoSlot);
@@ -94,8 +100,10 @@ impl<'b, B: Backend> Pool<'b, B> {
         pattern: Pat<'b>,
         meter: &mut Meter,
     ) -> Result<Answer, Reason>
-        ensures step { Step B.SHARES self.old (Command.Once s t u end pattern.entry) (answer_of result) self.new }
-        ensures counted { RisesAtMost meter.old meter.new (cost_of B.SHARES self.old (Command.Once s t u end pattern.entry)) }
+        ensures step { Step B.SHARES self.old (Command.Once s t u end pattern.entry)
+            (answer_of result) self.new }
+        ensures counted { RisesAtMost meter.old meter.new
+            (cost_of B.SHARES self.old (Command.Once s t u end pattern.entry)) }
     {
         if s >= self.len() || t >= self.len() || u >= self.len() {
             return Err(Reason::NoSlot);
@@ -152,8 +160,10 @@ fn trimmed_of<'b, B: Backend>(
     meter: &mut Meter,
 ) -> Result<HipStr<'b, B>, AllocError>
     requires { trims_one_end side pattern ≡ false }
-    ensures trimmed { TrimAnswers (λ part. part) (Leaves side) (occurrences pattern.entry) text.now result }
-    ensures counted { TrimCosts B.SHARES (Leaves side) (occurrences pattern.entry) text.now meter.old meter.new }
+    ensures trimmed { TrimAnswers (λ part. part) (Leaves side)
+        (occurrences pattern.entry) text.now result }
+    ensures counted { TrimCosts B.SHARES (Leaves side)
+        (occurrences pattern.entry) text.now meter.old meter.new }
 {
     match pattern {
         Pat::Text(pattern) => match side {
@@ -175,7 +185,8 @@ fn trimmed_matches<'b, B: Backend, P: DoubleEndedPattern>(
 ) -> Result<HipStr<'b, B>, AllocError>
     requires { P.can_search pattern }
     ensures trimmed { TrimAnswers (λ part. part) (Leaves side) (P.ends pattern) text.now result }
-    ensures counted { TrimCosts B.SHARES (Leaves side) (P.ends pattern) text.now meter.old meter.new }
+    ensures counted { TrimCosts B.SHARES (Leaves side)
+        (P.ends pattern) text.now meter.old meter.new }
 {
     match side {
         Side::Start => text.trim_start_matches_metered(alloc, pattern, meter),
@@ -192,8 +203,10 @@ fn stripped<'b, B: Backend>(
     pattern: Pat<'b>,
     meter: &mut Meter,
 ) -> Result<Option<HipStr<'b, B>>, AllocError>
-    ensures stripped { StripAnswers (λ part. part) (stripped end) (occurrences pattern.entry) text.now result }
-    ensures counted { StripCosts B.SHARES (stripped end) (occurrences pattern.entry) text.now meter.old meter.new }
+    ensures stripped { StripAnswers (λ part. part) (stripped end)
+        (occurrences pattern.entry) text.now result }
+    ensures counted { StripCosts B.SHARES (stripped end)
+        (occurrences pattern.entry) text.now meter.old meter.new }
 {
     match pattern {
         Pat::Text(pattern) => text_without(alloc, text, end, pattern, meter),
@@ -212,7 +225,8 @@ fn text_without<'b, B: Backend, P: ReversePattern>(
 ) -> Result<Option<HipStr<'b, B>>, AllocError>
     requires { P.can_search pattern }
     ensures stripped { StripAnswers (λ part. part) (stripped end) (P.ends pattern) text.now result }
-    ensures counted { StripCosts B.SHARES (stripped end) (P.ends pattern) text.now meter.old meter.new }
+    ensures counted { StripCosts B.SHARES (stripped end)
+        (P.ends pattern) text.now meter.old meter.new }
 {
     match end {
         End::Front => text.strip_prefix_metered(alloc, pattern, meter),
@@ -228,8 +242,10 @@ fn parted<'b, B: Backend>(
     pattern: Pat<'b>,
     meter: &mut Meter,
 ) -> Result<Option<(HipStr<'b, B>, HipStr<'b, B>)>, AllocError>
-    ensures parts { OnceAnswers (λ part. part) (parted end) (occurrences pattern.entry) text.now result }
-    ensures counted { OnceCosts B.SHARES (parted end) (occurrences pattern.entry) text.now meter.old meter.new }
+    ensures parts { OnceAnswers (λ part. part) (parted end)
+        (occurrences pattern.entry) text.now result }
+    ensures counted { OnceCosts B.SHARES (parted end)
+        (occurrences pattern.entry) text.now meter.old meter.new }
 {
     match pattern {
         Pat::Text(pattern) => two_parts(alloc, text, end, pattern, meter),
@@ -248,7 +264,8 @@ fn two_parts<'b, B: Backend, P: ReversePattern>(
 ) -> Result<Option<(HipStr<'b, B>, HipStr<'b, B>)>, AllocError>
     requires { P.can_search pattern }
     ensures parts { OnceAnswers (λ part. part) (parted end) (P.ends pattern) text.now result }
-    ensures counted { OnceCosts B.SHARES (parted end) (P.ends pattern) text.now meter.old meter.new }
+    ensures counted { OnceCosts B.SHARES (parted end)
+        (P.ends pattern) text.now meter.old meter.new }
 {
     match end {
         End::Front => text.split_once_metered(alloc, pattern, meter),

@@ -23,8 +23,10 @@ impl<'b, B: Backend> Pool<'b, B> {
         t: usize,
         meter: &mut Meter,
     ) -> Result<Answer, Reason>
-        ensures step { Step B.SHARES self.old (Command.Join first count sep.entry t) (answer_of result) self.new }
-        ensures counted { RisesAtMost meter.old meter.new (cost_of B.SHARES self.old (Command.Join first count sep.entry t)) }
+        ensures step { Step B.SHARES self.old (Command.Join first count sep.entry t)
+            (answer_of result) self.new }
+        ensures counted { RisesAtMost meter.old meter.new
+            (cost_of B.SHARES self.old (Command.Join first count sep.entry t)) }
     {
         if !self.has_slots(first, count) || t >= self.len() {
             return Err(Reason::NoSlot);
@@ -52,9 +54,12 @@ impl<'b, B: Backend> Pool<'b, B> {
     ) -> Result<HipByt<'b, B>, GrowFault>
         requires within { first + count ≤ length self.now }
         requires fits { first + count < 2 ^ 64 }
-        ensures holds { IfOk result (λ handle. HoldsByLength handle (joined_slots self.now first count sep.now)) }
-        ensures too_long { (result ≡ Err GrowFault.TooLong) ↔ (2 ^ 64 ≤ length (joined_slots self.now first count sep.now)) }
-        ensures counted { RisesAtMost meter.old meter.new (join_cost B.SHARES (length (joined_slots self.now first count sep.now))) }
+        ensures holds { IfOk result
+            (λ handle. HoldsByLength handle (joined_slots self.now first count sep.now)) }
+        ensures too_long { (result ≡ Err GrowFault.TooLong)
+            ↔ (2 ^ 64 ≤ length (joined_slots self.now first count sep.now)) }
+        ensures counted { RisesAtMost meter.old meter.new
+            (join_cost B.SHARES (length (joined_slots self.now first count sep.now))) }
         ensures refused_counts_none { result ≡ Err GrowFault.TooLong → meter.new ≡ meter.old }
     {
         if self.joined_len(first, count, sep).is_none() {
@@ -68,7 +73,8 @@ impl<'b, B: Backend> Pool<'b, B> {
     fn joined_len(&self, first: usize, count: usize, sep: &[u8]) -> Option<usize>
         requires within { first + count ≤ length self.now }
         requires fits { first + count < 2 ^ 64 }
-        ensures { SomeIff result (length (joined_slots self.now first count sep.now) < 2 ^ 64) (length (joined_slots self.now first count sep.now)) }
+        ensures { SomeIff result (length (joined_slots self.now first count sep.now) < 2 ^ 64)
+            (length (joined_slots self.now first count sep.now)) }
     {
         let mut len = 0usize;
         for i in 0..count {
@@ -83,7 +89,9 @@ impl<'b, B: Backend> Pool<'b, B> {
     fn pieces(&self, alloc: Global, first: usize, count: usize) -> Result<Vec<&[u8]>, AllocError>
         requires within { first + count ≤ length self.now }
         requires fits { first + count < 2 ^ 64 }
-        ensures { IfOk result (λ pieces. map (λ piece. piece.now) pieces.items ≡ map items_of (take count (drop first self.now))) }
+        ensures { IfOk result
+            (λ pieces. map (λ piece. piece.now) pieces.items
+            ≡ map items_of (take count (drop first self.now))) }
     {
         let mut pieces = Vec::with_capacity(alloc, count)?;
         for i in 0..count {

@@ -27,8 +27,10 @@ impl<'b, B: Backend> Pool<'b, B> {
         bytes: &'b [u8],
         meter: &mut Meter,
     ) -> Result<Answer, Reason>
-        ensures step { Step B.SHARES self.old (Command.Inline t bytes.entry) (answer_of result) self.new }
-        ensures counted { RisesAtMost meter.old meter.new (cost_of B.SHARES self.old (Command.Inline t bytes.entry)) }
+        ensures step { Step B.SHARES self.old (Command.Inline t bytes.entry)
+            (answer_of result) self.new }
+        ensures counted { RisesAtMost meter.old meter.new
+            (cost_of B.SHARES self.old (Command.Inline t bytes.entry)) }
     {
         if t >= self.len() {
             return Err(Reason::NoSlot);
@@ -41,7 +43,8 @@ impl<'b, B: Backend> Pool<'b, B> {
     }
 
     pub(super) fn make_borrowed(&mut self, t: usize, bytes: &'b [u8]) -> Result<Answer, Reason>
-        ensures step { Step B.SHARES self.old (Command.Borrow t bytes.entry) (answer_of result) self.new }
+        ensures step { Step B.SHARES self.old (Command.Borrow t bytes.entry)
+            (answer_of result) self.new }
     {
         if t >= self.len() {
             return Err(Reason::NoSlot);
@@ -57,8 +60,10 @@ impl<'b, B: Backend> Pool<'b, B> {
         bytes: &'b [u8],
         meter: &mut Meter,
     ) -> Result<Answer, Reason>
-        ensures step { Step B.SHARES self.old (Command.Copy t bytes.entry) (answer_of result) self.new }
-        ensures counted { RisesAtMost meter.old meter.new (cost_of B.SHARES self.old (Command.Copy t bytes.entry)) }
+        ensures step { Step B.SHARES self.old (Command.Copy t bytes.entry)
+            (answer_of result) self.new }
+        ensures counted { RisesAtMost meter.old meter.new
+            (cost_of B.SHARES self.old (Command.Copy t bytes.entry)) }
     {
         if t >= self.len() {
             return Err(Reason::NoSlot);
@@ -74,7 +79,8 @@ impl<'b, B: Backend> Pool<'b, B> {
         t: usize,
         capacity: usize,
     ) -> Result<Answer, Reason>
-        ensures step { Step B.SHARES self.old (Command.Room t capacity) (answer_of result) self.new }
+        ensures step { Step B.SHARES self.old (Command.Room t capacity)
+            (answer_of result) self.new }
     {
         if t >= self.len() {
             return Err(Reason::NoSlot);
@@ -92,7 +98,8 @@ impl<'b, B: Backend> Pool<'b, B> {
         meter: &mut Meter,
     ) -> Result<Answer, Reason>
         ensures step { Step B.SHARES self.old (Command.Clone s t) (answer_of result) self.new }
-        ensures counted { RisesAtMost meter.old meter.new (cost_of B.SHARES self.old (Command.Clone s t)) }
+        ensures counted { RisesAtMost meter.old meter.new
+            (cost_of B.SHARES self.old (Command.Clone s t)) }
     {
         if s >= self.len() || t >= self.len() {
             return Err(Reason::NoSlot);
@@ -114,8 +121,10 @@ impl<'b, B: Backend> Pool<'b, B> {
         high: Bound<usize>,
         meter: &mut Meter,
     ) -> Result<Answer, Reason>
-        ensures step { Step B.SHARES self.old (Command.Slice s t low high) (answer_of result) self.new }
-        ensures counted { RisesAtMost meter.old meter.new (cost_of B.SHARES self.old (Command.Slice s t low high)) }
+        ensures step { Step B.SHARES self.old (Command.Slice s t low high)
+            (answer_of result) self.new }
+        ensures counted { RisesAtMost meter.old meter.new
+            (cost_of B.SHARES self.old (Command.Slice s t low high)) }
     {
         if s >= self.len() || t >= self.len() {
             return Err(Reason::NoSlot);
@@ -139,7 +148,8 @@ impl<'b, B: Backend> Pool<'b, B> {
         meter: &mut Meter,
     ) -> Result<Answer, Reason>
         ensures step { Step B.SHARES self.old (Command.Repeat s t n) (answer_of result) self.new }
-        ensures counted { RisesAtMost meter.old meter.new (cost_of B.SHARES self.old (Command.Repeat s t n)) }
+        ensures counted { RisesAtMost meter.old meter.new
+            (cost_of B.SHARES self.old (Command.Repeat s t n)) }
     {
         if s >= self.len() || t >= self.len() {
             return Err(Reason::NoSlot);

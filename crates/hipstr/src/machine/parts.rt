@@ -1,5 +1,5 @@
 //! Pieces that a script draws, made in slots that are empty.
-ghost use Rattle.std.specs.Prelude.{◌≡◌, ◌<◌, ◌&&◌, true, false, length, map, replicate, slice_set};
+ghost use Rattle.std.specs.Prelude.{◌≡◌, ◌<◌, ◌&&◌, Bool, true, false, length, map, replicate, slice_set};
 ghost use Rattle.hip_match.specs.Draw.{draw};
 ghost use Rattle.hip_match.specs.declared.draw.End.{End};
 ghost use Rattle.hipstr.specs.Cut.{has_back, has_one_end, occurrences, pieces_of};
@@ -28,7 +28,8 @@ pub(super) fn make_parts<'b, B: Backend>(
 ) -> Result<usize, AllocError>
     requires ends { (has_one_end how && has_back script.now) ≡ false }
     requires room { HasRoom script.now (map state_of spare.old) }
-    ensures { MakesParts B.SHARES text.now (draw (pieces_of how.entry text.now.items) script.now) (map state_of spare.old) result (map state_of spare.new) meter.old meter.new }
+    ensures { MakesParts B.SHARES text.now (draw (pieces_of how.entry text.now.items) script.now)
+        (map state_of spare.old) result (map state_of spare.new) meter.old meter.new }
 {
     make_walked(alloc, text, walked_of(how), script, spare, meter)
 }
@@ -73,7 +74,9 @@ fn make_walked<'b, B: Backend>(
 ) -> Result<usize, AllocError>
     requires ends { (walks_one_way walked && has_back script.now) ≡ false }
     requires room { HasRoom script.now (map state_of spare.old) }
-    ensures { MakesParts B.SHARES text.now (draw (pieces_walked walked.entry text.now.items) script.now) (map state_of spare.old) result (map state_of spare.new) meter.old meter.new }
+    ensures { MakesParts B.SHARES text.now
+        (draw (pieces_walked walked.entry text.now.items) script.now)
+        (map state_of spare.old) result (map state_of spare.new) meter.old meter.new }
 {
     match walked {
         Walked::By(way, pattern) => make_by(alloc, text, way, pattern, script, spare, meter),
@@ -109,7 +112,9 @@ fn make_by<'b, B: Backend>(
 ) -> Result<usize, AllocError>
     requires ends { (goes_one_way way pattern && has_back script.now) ≡ false }
     requires room { HasRoom script.now (map state_of spare.old) }
-    ensures { MakesParts B.SHARES text.now (draw (pieces_by way (occurrences pattern.entry text.now.items) (length text.now.items)) script.now) (map state_of spare.old) result (map state_of spare.new) meter.old meter.new }
+    ensures { MakesParts B.SHARES text.now
+        (draw (pieces_by way (occurrences pattern.entry text.now.items) (length text.now.items))
+        script.now) (map state_of spare.old) result (map state_of spare.new) meter.old meter.new }
 {
     match pattern {
         Pat::Text(pattern) => make_by_front(alloc, text, way, pattern, script, spare, meter),
@@ -131,7 +136,9 @@ fn make_by_front<'b, B: Backend, P: ReversePattern>(
     requires search { P.can_search pattern }
     requires front { has_back script.now ≡ false }
     requires room { HasRoom script.now (map state_of spare.old) }
-    ensures { MakesParts B.SHARES text.now (draw (pieces_by way (P.ends pattern text.now.items) (length text.now.items)) script.now) (map state_of spare.old) result (map state_of spare.new) meter.old meter.new }
+    ensures { MakesParts B.SHARES text.now
+        (draw (pieces_by way (P.ends pattern text.now.items) (length text.now.items)) script.now)
+        (map state_of spare.old) result (map state_of spare.new) meter.old meter.new }
 {
     match way {
         Way::Split => make_front(text.split(alloc, pattern), script, spare, meter),
@@ -163,7 +170,9 @@ fn make_by_both<'b, B: Backend, P: OneChar>(
     requires search { P.can_search pattern }
     requires ends { (is_counted way && has_back script.now) ≡ false }
     requires room { HasRoom script.now (map state_of spare.old) }
-    ensures { MakesParts B.SHARES text.now (draw (pieces_by way (P.ends pattern text.now.items) (length text.now.items)) script.now) (map state_of spare.old) result (map state_of spare.new) meter.old meter.new }
+    ensures { MakesParts B.SHARES text.now
+        (draw (pieces_by way (P.ends pattern text.now.items) (length text.now.items)) script.now)
+        (map state_of spare.old) result (map state_of spare.new) meter.old meter.new }
 {
     match way {
         Way::Split => make_both(text.split(alloc, pattern), script, spare, meter),
@@ -181,40 +190,94 @@ fn make_by_both<'b, B: Backend, P: OneChar>(
 
 /// The same of a walk that goes from both ends.
 fn make_both<'h, 'b, B: Backend, I: Unnumbered + RangesBack + Drop>(
-    mut walk: IterWrapper<'h, 'b, B, I>,
+    walk: IterWrapper<'h, 'b, B, I>,
     script: &[End],
     spare: &mut [Slot<'b, B>],
     meter: &mut Meter,
 ) -> Result<usize, AllocError>
     requires room { HasRoom script.now (map state_of spare.old) }
-    ensures { MakesParts B.SHARES walk.entry.source (draw walk.entry.rest script.now) (map state_of spare.old) result (map state_of spare.new) meter.old meter.new }
+    ensures { MakesParts B.SHARES walk.entry.source (draw walk.entry.rest script.now)
+        (map state_of spare.old) result (map state_of spare.new) meter.old meter.new }
 {
-    for i in 0..script.len() {
-        match end_part(&mut walk, script[i], meter) {
-            Some(Ok(part)) => put_text(spare, i, part),
-            Some(Err(AllocError)) => {
-                empty_all(spare);
-                return Err(AllocError);
-            }
-            None => return Ok(i),
-        }
-    }
-    Ok(script.len())
+    make_drawn::<_, _, Both>(walk, script, spare, meter)
 }
 
 /// The same of a walk that goes from the front alone.
 fn make_front<'h, 'b, B: Backend, I: Unnumbered + Drop>(
-    mut walk: IterWrapper<'h, 'b, B, I>,
+    walk: IterWrapper<'h, 'b, B, I>,
     script: &[End],
     spare: &mut [Slot<'b, B>],
     meter: &mut Meter,
 ) -> Result<usize, AllocError>
     requires front { has_back script.now ≡ false }
     requires room { HasRoom script.now (map state_of spare.old) }
-    ensures { MakesParts B.SHARES walk.entry.source (draw walk.entry.rest script.now) (map state_of spare.old) result (map state_of spare.new) meter.old meter.new }
+    ensures { MakesParts B.SHARES walk.entry.source (draw walk.entry.rest script.now)
+        (map state_of spare.old) result (map state_of spare.new) meter.old meter.new }
+{
+    make_drawn::<_, _, FrontAlone>(walk, script, spare, meter)
+}
+
+/// The ends of a walk over `I` that a script may draw from.
+trait Ends<I: Unnumbered> {
+    /// Whether that is the front alone.
+    ghost one_way: { Bool };
+
+    /// The piece at that end.
+    fn draw_at<'h, 'b, B: Backend>(
+        walk: &mut IterWrapper<'h, 'b, B, I>,
+        end: End,
+        meter: &mut Meter,
+    ) -> Option<Result<HipStr<'b, B>, AllocError>>
+        requires { one_way ≡ true → end ≡ End.Front }
+        ensures drawn { DrawsPart B.SHARES end walk.old result walk.new meter.old meter.new }
+        ensures source { walk.new.source ≡ walk.old.source };
+}
+
+struct FrontAlone;
+
+struct Both;
+
+impl<I: Unnumbered> Ends<I> for FrontAlone {
+    ghost one_way = { true };
+
+    fn draw_at<'h, 'b, B: Backend>(
+        walk: &mut IterWrapper<'h, 'b, B, I>,
+        _end: End,
+        meter: &mut Meter,
+    ) -> Option<Result<HipStr<'b, B>, AllocError>> {
+        walk.next_metered(meter)
+    }
+}
+
+impl<I: Unnumbered + RangesBack> Ends<I> for Both {
+    ghost one_way = { false };
+
+    fn draw_at<'h, 'b, B: Backend>(
+        walk: &mut IterWrapper<'h, 'b, B, I>,
+        end: End,
+        meter: &mut Meter,
+    ) -> Option<Result<HipStr<'b, B>, AllocError>> {
+        match end {
+            End::Front => walk.next_metered(meter),
+            End::Back => walk.next_back_metered(meter),
+        }
+    }
+}
+
+/// The same of a walk with these ends.
+fn make_drawn<'h, 'b, B: Backend, I: Unnumbered + Drop, E: Ends<I>>(
+    mut walk: IterWrapper<'h, 'b, B, I>,
+    script: &[End],
+    spare: &mut [Slot<'b, B>],
+    meter: &mut Meter,
+) -> Result<usize, AllocError>
+    requires ends { (E.one_way && has_back script.now) ≡ false }
+    requires room { HasRoom script.now (map state_of spare.old) }
+    ensures { MakesParts B.SHARES walk.entry.source (draw walk.entry.rest script.now)
+        (map state_of spare.old) result (map state_of spare.new) meter.old meter.new }
 {
     for i in 0..script.len() {
-        match front_part(&mut walk, script[i], meter) {
+        match E::draw_at(&mut walk, script[i], meter) {
             Some(Ok(part)) => put_text(spare, i, part),
             Some(Err(AllocError)) => {
                 empty_all(spare);
@@ -226,39 +289,11 @@ fn make_front<'h, 'b, B: Backend, I: Unnumbered + Drop>(
     Ok(script.len())
 }
 
-/// The piece at that end.
-fn end_part<'h, 'b, B: Backend, I: Unnumbered + RangesBack>(
-    walk: &mut IterWrapper<'h, 'b, B, I>,
-    end: End,
-    meter: &mut Meter,
-) -> Option<Result<HipStr<'b, B>, AllocError>>
-    ensures drawn { DrawsPart B.SHARES end walk.old result walk.new meter.old meter.new }
-    ensures source { walk.new.source ≡ walk.old.source }
-{
-    match end {
-        End::Front => walk.next_metered(meter),
-        End::Back => walk.next_back_metered(meter),
-    }
-}
-
-/// The piece at the front, which is the end.
-fn front_part<'h, 'b, B: Backend, I: Unnumbered>(
-    walk: &mut IterWrapper<'h, 'b, B, I>,
-    end: End,
-    meter: &mut Meter,
-) -> Option<Result<HipStr<'b, B>, AllocError>>
-    requires front { end ≡ End.Front }
-    ensures drawn { DrawsPart B.SHARES end walk.old result walk.new meter.old meter.new }
-    ensures source { walk.new.source ≡ walk.old.source }
-{
-    let _ = end;
-    walk.next_metered(meter)
-}
-
 /// Puts a text into a slot.
 fn put_text<'b, B: Backend>(slots: &mut [Slot<'b, B>], i: usize, text: HipStr<'b, B>)
     requires { i < length slots.old }
-    ensures { map state_of slots.new ≡ slice_set (map state_of slots.old) i (record { is_text = true; handle = text.entry }) }
+    ensures { map state_of slots.new
+        ≡ slice_set (map state_of slots.old) i (record { is_text = true; handle = text.entry }) }
 {
     slots[i] = Slot::Text(text);
 }

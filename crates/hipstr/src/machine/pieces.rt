@@ -29,8 +29,10 @@ impl<'b, B: Backend> Pool<'b, B> {
         first: usize,
         meter: &mut Meter,
     ) -> Result<Answer, Reason>
-        ensures step { Step B.SHARES self.old (Command.Pieces s how.entry script.entry first) (answer_of result) self.new }
-        ensures counted { RisesAtMost meter.old meter.new (cost_of B.SHARES self.old (Command.Pieces s how.entry script.entry first)) }
+        ensures step { Step B.SHARES self.old (Command.Pieces s how.entry script.entry first)
+            (answer_of result) self.new }
+        ensures counted { RisesAtMost meter.old meter.new
+            (cost_of B.SHARES self.old (Command.Pieces s how.entry script.entry first)) }
     {
         if s >= self.len() || !self.has_slots(first, script.len()) {
             return Err(Reason::NoSlot);
@@ -126,8 +128,10 @@ fn put_parts<'b, B: Backend>(
 )
     requires made { count ≤ length spare.old }
     requires room { first + count ≤ length slots.old }
-    ensures put { map state_of slots.new ≡ put_all (map state_of slots.old) first (take count (map state_of spare.old)) }
-    ensures emptied { map state_of spare.new ≡ replicate count empty_slot ++ drop count (map state_of spare.old) }
+    ensures put { map state_of slots.new
+        ≡ put_all (map state_of slots.old) first (take count (map state_of spare.old)) }
+    ensures emptied { map state_of spare.new
+        ≡ replicate count empty_slot ++ drop count (map state_of spare.old) }
 {
     for i in 0..count {
         slots[first + i] = mem::replace(&mut spare[i], Slot::empty());

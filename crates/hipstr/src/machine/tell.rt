@@ -46,7 +46,8 @@ impl<'b, B: Backend> Pool<'b, B> {
     }
 
     pub(super) fn compare_path(&self, s: usize, t: usize) -> Result<Answer, Reason>
-        ensures step { Step B.SHARES self.now (Command.ComparePath s t) (answer_of result) self.now }
+        ensures step { Step B.SHARES self.now (Command.ComparePath s t)
+            (answer_of result) self.now }
     {
         if s >= self.len() || t >= self.len() {
             return Err(Reason::NoSlot);

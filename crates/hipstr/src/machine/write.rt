@@ -20,9 +20,13 @@ use std::alloc::{AllocError, Global};
 // The letters of bytes or of a text moved to one case.
 impl<'b, B: Backend> Slot<'b, B> {
     fn make_upper(&mut self, alloc: Global, meter: &mut Meter) -> Result<(), AllocError>
-        ensures write { WriteAnswers B.SHARES (state_of self.old).handle (map to_ascii_uppercase (state_of self.old).handle.items) result (state_of self.new).handle }
+        ensures write { WriteAnswers B.SHARES (state_of self.old).handle
+            (map to_ascii_uppercase (state_of self.old).handle.items) result
+            (state_of self.new).handle }
         ensures flag { (state_of self.new).is_text ≡ (state_of self.old).is_text }
-        ensures counted { RisesAtMost meter.old meter.new (write_cost B.SHARES (state_of self.old).handle.kind (length (state_of self.old).handle.items)) }
+        ensures counted { RisesAtMost meter.old meter.new
+            (write_cost B.SHARES (state_of self.old).handle.kind
+            (length (state_of self.old).handle.items)) }
     {
         match self {
             Slot::Bytes(bytes) => bytes.make_ascii_uppercase_metered(alloc, meter),
@@ -31,9 +35,13 @@ impl<'b, B: Backend> Slot<'b, B> {
     }
 
     fn make_lower(&mut self, alloc: Global, meter: &mut Meter) -> Result<(), AllocError>
-        ensures write { WriteAnswers B.SHARES (state_of self.old).handle (map to_ascii_lowercase (state_of self.old).handle.items) result (state_of self.new).handle }
+        ensures write { WriteAnswers B.SHARES (state_of self.old).handle
+            (map to_ascii_lowercase (state_of self.old).handle.items) result
+            (state_of self.new).handle }
         ensures flag { (state_of self.new).is_text ≡ (state_of self.old).is_text }
-        ensures counted { RisesAtMost meter.old meter.new (write_cost B.SHARES (state_of self.old).handle.kind (length (state_of self.old).handle.items)) }
+        ensures counted { RisesAtMost meter.old meter.new
+            (write_cost B.SHARES (state_of self.old).handle.kind
+            (length (state_of self.old).handle.items)) }
     {
         match self {
             Slot::Bytes(bytes) => bytes.make_ascii_lowercase_metered(alloc, meter),
@@ -51,7 +59,8 @@ impl<'b, B: Backend> Pool<'b, B> {
         meter: &mut Meter,
     ) -> Result<Answer, Reason>
         ensures step { Step B.SHARES self.old (Command.Upper t) (answer_of result) self.new }
-        ensures counted { RisesAtMost meter.old meter.new (cost_of B.SHARES self.old (Command.Upper t)) }
+        ensures counted { RisesAtMost meter.old meter.new
+            (cost_of B.SHARES self.old (Command.Upper t)) }
     {
         if t >= self.len() {
             return Err(Reason::NoSlot);
@@ -71,7 +80,8 @@ impl<'b, B: Backend> Pool<'b, B> {
         meter: &mut Meter,
     ) -> Result<Answer, Reason>
         ensures step { Step B.SHARES self.old (Command.Lower t) (answer_of result) self.new }
-        ensures counted { RisesAtMost meter.old meter.new (cost_of B.SHARES self.old (Command.Lower t)) }
+        ensures counted { RisesAtMost meter.old meter.new
+            (cost_of B.SHARES self.old (Command.Lower t)) }
     {
         if t >= self.len() {
             return Err(Reason::NoSlot);
@@ -93,7 +103,8 @@ impl<'b, B: Backend> Pool<'b, B> {
         meter: &mut Meter,
     ) -> Result<Answer, Reason>
         ensures step { Step B.SHARES self.old (Command.Set t i byte) (answer_of result) self.new }
-        ensures counted { RisesAtMost meter.old meter.new (cost_of B.SHARES self.old (Command.Set t i byte)) }
+        ensures counted { RisesAtMost meter.old meter.new
+            (cost_of B.SHARES self.old (Command.Set t i byte)) }
     {
         if t >= self.len() {
             return Err(Reason::NoSlot);
@@ -128,7 +139,8 @@ impl<'b, B: Backend> Pool<'b, B> {
         meter: &mut Meter,
     ) -> Result<Answer, Reason>
         ensures step { Step B.SHARES self.old (Command.Owned t) (answer_of result) self.new }
-        ensures counted { RisesAtMost meter.old meter.new (cost_of B.SHARES self.old (Command.Owned t)) }
+        ensures counted { RisesAtMost meter.old meter.new
+            (cost_of B.SHARES self.old (Command.Owned t)) }
     {
         if t >= self.len() {
             return Err(Reason::NoSlot);
@@ -165,8 +177,10 @@ impl<'b, B: Backend> Pool<'b, B> {
         addition: &'b [u8],
         meter: &mut Meter,
     ) -> Result<Answer, Reason>
-        ensures step { Step B.SHARES self.old (Command.Mutate t addition.entry) (answer_of result) self.new }
-        ensures counted { RisesAtMost meter.old meter.new (cost_of B.SHARES self.old (Command.Mutate t addition.entry)) }
+        ensures step { Step B.SHARES self.old (Command.Mutate t addition.entry)
+            (answer_of result) self.new }
+        ensures counted { RisesAtMost meter.old meter.new
+            (cost_of B.SHARES self.old (Command.Mutate t addition.entry)) }
     {
         if t >= self.len() {
             return Err(Reason::NoSlot);
@@ -204,8 +218,13 @@ fn extend_lent<S: Source>(
     meter: &mut Meter,
 ) -> Result<(), AllocError>
     ensures put { OnOk result (S.has_put source.new (S.items source.old ++ addition.now)) }
-    ensures err { OnErr result ((source.new ≡ source.old) ⊎ (S.has_put source.new (S.items source.old) ⊎ S.is_emptied source.new)) }
-    ensures counted { RisesAtMost meter.old meter.new (length (S.items source.old) + max (S.put_cost (length (S.items source.old))) (S.put_cost (length (S.items source.old) + length addition.now))) }
+    ensures err { OnErr result
+        ((source.new ≡ source.old)
+        ⊎ (S.has_put source.new (S.items source.old) ⊎ S.is_emptied source.new)) }
+    ensures counted { RisesAtMost meter.old meter.new
+        (length (S.items source.old)
+        + max (S.put_cost (length (S.items source.old)))
+        (S.put_cost (length (S.items source.old) + length addition.now))) }
 {
     let (vec, block) = source.lend_vec_metered(alloc, meter)?;
     let mut guard = RefMut::new(source, vec, block);
@@ -223,8 +242,13 @@ fn extend_lent_text<S: TextSource>(
     meter: &mut Meter,
 ) -> Result<(), AllocError>
     ensures put { OnOk result (S.has_put source.new (S.items source.old ++ addition.now)) }
-    ensures err { OnErr result ((source.new ≡ source.old) ⊎ (S.has_put source.new (S.items source.old) ⊎ S.is_emptied source.new)) }
-    ensures counted { RisesAtMost meter.old meter.new (length (S.items source.old) + max (S.put_cost (length (S.items source.old))) (S.put_cost (length (S.items source.old) + length addition.now))) }
+    ensures err { OnErr result
+        ((source.new ≡ source.old)
+        ⊎ (S.has_put source.new (S.items source.old) ⊎ S.is_emptied source.new)) }
+    ensures counted { RisesAtMost meter.old meter.new
+        (length (S.items source.old)
+        + max (S.put_cost (length (S.items source.old)))
+        (S.put_cost (length (S.items source.old) + length addition.now))) }
 {
     let (string, block) = source.lend_string_metered(alloc, meter)?;
     let mut guard = hip_text::RefMut::new(source, string, block);

@@ -1,10 +1,12 @@
-use Rattle.std.proofs.Common.{◌≡◌, ◌≤◌, ◌∙◌, length, map, replicate, refl, ap, sym, arith}
+use Rattle.std.proofs.Common.{◌≡◌, ◌≤◌, ◌∙◌, Bool, false, subst, length, map, replicate, refl, ap, sym, arith}
 use Rattle.std.proofs.lemmas.Grind.{common_steps}
 use Rattle.std.proofs.lemmas.List.{length-map}
 use Rattle.hip_match.specs.Draw.{draw}
+use Rattle.std.specs.Prelude.{◌&&◌}
+use Rattle.hipstr.specs.Cut.{has_back}
 use Rattle.hipstr.specs.Slot.{empty_slot, state_of}
 use Rattle.hipstr.proofs.Parts.{all-front, goes-on, has-ended, is-refused, so-far-none}
-use Rattle.hipstr.proofs.machine.parts.make_front.Goals as goal
+use Rattle.hipstr.proofs.machine.parts.make_drawn.Goals as goal
 
 pub loop-i-init : goal.loop-i-init
 loop-i-init g c =
@@ -20,28 +22,29 @@ loop-i-preserved g c =
     let state = state_of {B = g.row.B.Denot} {S = g.row.B-Sole.Denot} {P = g.row.B-Start.Denot} in
     let room : length c.args.script.now ≤ length (map state c.loop-i.spare) = omega (arith, c.requires.room.within, c.loop-i.auto.spare, length-map c.args.spare.now state, length-map c.loop-i.spare state) in
     record {
-      so_far = goes-on c.in-Some-Ok.field-0 g.B.Backend.SHARES c.args.walk.source c.loop-i.walk.source (draw c.args.walk.rest c.args.script.now) c.loop-i.walk.rest c.front_part.new.walk.rest
-          c.args.script.now c.loop-i.i _ (map state c.loop-i.spare) (map state c.put_text.new.slots) c.in-Some-Ok.part c.args.meter.now c.loop-i.meter c.front_part.new.meter
+      so_far = goes-on c.in-Some-Ok.field-0 g.B.Backend.SHARES c.args.walk.source c.loop-i.walk.source (draw c.args.walk.rest c.args.script.now) c.loop-i.walk.rest c.draw_at.new.walk.rest
+          c.args.script.now c.loop-i.i _ (map state c.loop-i.spare) (map state c.put_text.new.slots) c.in-Some-Ok.part c.args.meter.now c.loop-i.meter c.draw_at.new.meter
           c.loop-i.invariant.so_far c.loop-i.invariant.source c.loop-i-test.true room c.in-Some-Ok.ensures.drawn c.in-Some-Ok.field-0-is c.put_text.ensures;
-      source = c.front_part.ensures.source ∙ c.loop-i.invariant.source;
+      source = c.draw_at.ensures.source ∙ c.loop-i.invariant.source;
     }
 
 pub returns-in-Some-Err : goal.returns-in-Some-Err
 returns-in-Some-Err g c =
     let state = state_of {B = g.row.B.Denot} {S = g.row.B-Sole.Denot} {P = g.row.B-Start.Denot} in
-    let refused = is-refused c.in-Some-Err.field-0 _ g.B.Backend.SHARES c.args.walk.source c.loop-i.walk.source (draw c.args.walk.rest c.args.script.now) c.loop-i.walk.rest c.front_part.new.walk.rest
-    c.args.script.now c.loop-i.i _ (map state c.loop-i.spare) c.args.meter.now c.loop-i.meter c.front_part.new.meter
+    let refused = is-refused c.in-Some-Err.field-0 _ g.B.Backend.SHARES c.args.walk.source c.loop-i.walk.source (draw c.args.walk.rest c.args.script.now) c.loop-i.walk.rest c.draw_at.new.walk.rest
+    c.args.script.now c.loop-i.i _ (map state c.loop-i.spare) c.args.meter.now c.loop-i.meter c.draw_at.new.meter
     c.loop-i.invariant.so_far c.loop-i.invariant.source c.loop-i-test.true c.in-Some-Err.ensures.drawn c.in-Some-Err.field-0-is in
     record { made = (refused.needs, c.empty_all.ensures ∙ ap (λ n. replicate n empty_slot) (let same : length c.loop-i.spare ≡ length (map state c.args.spare.now) = omega (arith, c.loop-i.auto.spare, length-map c.args.spare.now state) in same) ∙ sym c.requires.room.empty); counted = refused.rises }
 
 pub returns-in-None : goal.returns-in-None
 returns-in-None g c =
     let all = has-ended g.B.Backend.SHARES c.args.walk.source (draw c.args.walk.rest c.args.script.now) c.loop-i.walk.rest c.args.script.now c.loop-i.i
-    (map (state_of {B = g.row.B.Denot} {S = g.row.B-Sole.Denot} {P = g.row.B-Start.Denot}) c.loop-i.spare) c.args.meter.now c.loop-i.meter c.front_part.new.meter c.loop-i.invariant.so_far c.in-None.ensures.drawn.0 c.in-None.ensures.drawn.1 in
+    (map (state_of {B = g.row.B.Denot} {S = g.row.B-Sole.Denot} {P = g.row.B-Start.Denot}) c.loop-i.spare) c.args.meter.now c.loop-i.meter c.draw_at.new.meter c.loop-i.invariant.so_far c.in-None.ensures.drawn.0 c.in-None.ensures.drawn.1 in
     record { made = all.made; counted = all.rises }
 
-pub front_part-requires : goal.front_part-requires
-front_part-requires g c = record { front = all-front c.args.script.now c.loop-i.i _ c.requires.front c.loop-i-test.true }
+pub draw_at-requires : goal.draw_at-requires
+draw_at-requires g c one_way =
+    all-front c.args.script.now c.loop-i.i _ (subst (λ (alone : Bool). (alone && has_back c.args.script.now) ≡ false) one_way c.requires.ends) c.loop-i-test.true
 
 pub returns : goal.returns
 returns g c = grind (arith, common_steps)

@@ -2,7 +2,7 @@ use Rattle.std.proofs.Common.{◌≡◌, map, drop}
 use Rattle.hip_match.specs.Draw.{draw}
 use Rattle.hipstr.specs.Slot.{state_of}
 use Rattle.hipstr.proofs.Parts.{SoFar}
-use Rattle.hipstr.proofs.machine.parts.make_front.Given as goal
+use Rattle.hipstr.proofs.machine.parts.make_drawn.Given as goal
 
 -- the parts so far stand in the first slots, and the walk and the rest of the script give the others
 abbrev pub invariant-loop-i : goal.invariant-loop-i

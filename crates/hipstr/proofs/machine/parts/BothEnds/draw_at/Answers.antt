@@ -1,5 +1,5 @@
 use Rattle.hipstr.proofs.Parts.{draws-back}
-use Rattle.hipstr.proofs.machine.parts.end_part.Goals as goal
+use Rattle.hipstr.proofs.machine.parts.BothEnds.draw_at.Goals as goal
 
 pub returns-in-Back-clause-drawn : goal.returns-in-Back-clause-drawn
 returns-in-Back-clause-drawn g c =
