@@ -1,7 +1,7 @@
 //! Records of fields. The input is a mebibyte of lines, each of eight fields between commas. Where it isn't a text, the answer is 0.
 use crate::pieces::{lent, owned};
 use crate::ring::{look, mix};
-use hip_fields::reader::{Reading, Records};
+use hip_fields::reader::Records;
 use hipstr::pattern::Ranges;
 use hipstr::string::HipStr;
 use hipstr::{Backend, Rc};
@@ -14,9 +14,7 @@ fn draw_records<'h, 'b, B: Backend, I: Ranges + Drop>(
     mut records: Records<'h, HipStr<'b, B>, I>,
     kept: &mut Vec<HipStr<'b, B>>,
     before: u64,
-) -> Option<u64>
-    requires { ⟦<Records<'h, HipStr<'b, B>, I> as Reading>⟧.ready records }
-{
+) -> Option<u64> {
     let mut sum = before;
     while let Some(fields) = records.next_record(alloc) {
         *kept = fields.ok()?;

@@ -2,7 +2,7 @@
 use crate::refusing::{each, must, refuse, was_refused};
 use hip_cuts::hip_match::ranges::Ranges;
 use hip_cuts::{Backend, HipStr, Kind, Meter, Rc, Unique};
-use hip_fields::reader::{Reading, Records};
+use hip_fields::reader::Records;
 use hip_fields::records;
 use std::alloc::Global;
 use std::process::Abort;
@@ -91,10 +91,7 @@ fn records_gathered(rt: HostRuntime) {
 fn draw<'h, 'b, B: Backend, I: Ranges + Drop>(
     alloc: Global,
     records: &mut Records<'h, HipStr<'b, B>, I>,
-) -> Option<bool>
-    requires { ⟦<Records<'h, HipStr<'b, B>, I> as Reading>⟧.ready records.old }
-    ensures { ⟦<Records<'h, HipStr<'b, B>, I> as Reading>⟧.ready records.new }
-{
+) -> Option<bool> {
     let fields = records.next_record_metered(alloc, &mut Meter::new())?;
     Some(fields.is_ok())
 }

@@ -2,7 +2,7 @@
 use super::support::{must, tell};
 use hip_cuts::hip_match::ranges::Ranges;
 use hip_cuts::{Backend, HipStr, Meter, Rc, Unique};
-use hip_fields::reader::{Reading, Records};
+use hip_fields::reader::Records;
 use std::alloc::Global;
 use std::process::Abort;
 
@@ -12,10 +12,7 @@ fn draws<'h, 'b, B: Backend, I: Ranges + Drop>(
     alloc: Global,
     records: &mut Records<'h, HipStr<'b, B>, I>,
     wanted: (&str, u128),
-)
-    requires { ⟦<Records<'h, HipStr<'b, B>, I> as Reading>⟧.ready records.old }
-    ensures { ⟦<Records<'h, HipStr<'b, B>, I> as Reading>⟧.ready records.new }
-{
+) {
     let mut meter = Meter::new();
     let mut told = String::new(alloc);
     if let Some(fields) = records.next_record_metered(alloc, &mut meter) {
