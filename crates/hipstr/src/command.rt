@@ -104,7 +104,7 @@ pub enum Command<'b> {
     Bytes(usize),
     /// The second slot becomes the text of the first, without white space at these ends.
     Trim(usize, usize, Side),
-    /// The same without what occurs there again and again.
+    /// The second slot becomes the text of the first, without what occurs again and again at these ends.
     TrimMatches(usize, usize, Side, Pat<'b>),
     /// The second slot becomes the text of the first without one occurrence at that end, if there is one.
     Strip(usize, usize, End, Pat<'b>),

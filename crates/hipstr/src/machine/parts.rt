@@ -100,7 +100,7 @@ enum Way {
     RMatches,
 }
 
-/// The same of a way and the pattern.
+/// Makes the pieces by a pattern, in one of its ways.
 fn make_by<'b, B: Backend>(
     alloc: Global,
     text: &HipStr<'b, B>,
@@ -123,7 +123,7 @@ fn make_by<'b, B: Backend>(
     }
 }
 
-/// The same by any pattern, from the front alone.
+/// Makes pieces by any pattern, drawn from the front alone.
 fn make_by_front<'b, B: Backend, P: ReversePattern>(
     alloc: Global,
     text: &HipStr<'b, B>,
@@ -157,7 +157,7 @@ fn make_by_front<'b, B: Backend, P: ReversePattern>(
     }
 }
 
-/// The same by characters, from both ends where the way has two.
+/// Makes pieces by characters, drawn from both ends where the way has two.
 fn make_by_both<'b, B: Backend, P: OneChar>(
     alloc: Global,
     text: &HipStr<'b, B>,
@@ -188,7 +188,7 @@ fn make_by_both<'b, B: Backend, P: OneChar>(
     }
 }
 
-/// The same of a walk that goes from both ends.
+/// Makes the pieces of a walk that goes from both ends.
 fn make_both<'h, 'b, B: Backend, I: Unnumbered + RangesBack + Drop>(
     walk: IterWrapper<'h, 'b, B, I>,
     script: &[End],
@@ -202,7 +202,7 @@ fn make_both<'h, 'b, B: Backend, I: Unnumbered + RangesBack + Drop>(
     make_drawn::<_, _, Both>(walk, script, spare, meter)
 }
 
-/// The same of a walk that goes from the front alone.
+/// Makes the pieces of a walk that goes from the front alone.
 fn make_front<'h, 'b, B: Backend, I: Unnumbered + Drop>(
     walk: IterWrapper<'h, 'b, B, I>,
     script: &[End],
@@ -264,7 +264,7 @@ impl<I: Unnumbered + RangesBack> Ends<I> for Both {
     }
 }
 
-/// The same of a walk with these ends.
+/// Makes the pieces that a script draws of a walk, from the ends that it has.
 fn make_drawn<'h, 'b, B: Backend, I: Unnumbered + Drop, E: Ends<I>>(
     mut walk: IterWrapper<'h, 'b, B, I>,
     script: &[End],
