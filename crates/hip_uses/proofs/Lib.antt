@@ -1,0 +1,4 @@
+pub mod Interned
+pub mod Little
+pub mod Published
+pub mod Runs

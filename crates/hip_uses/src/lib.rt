@@ -1,0 +1,10 @@
+//! Five uses of `hipstr`, each written as its user would write it, over `hipstr` alone (`table` over `hip_fields` too).
+//!
+//! - [`tokens`]: a source is cut into runs of one class.
+//! - [`queue`]: a message goes to many subscribers as clones of one handle.
+//! - [`intern`]: each different text is kept once, and has a number.
+#![tactic(auto)]
+
+pub mod intern;
+pub mod queue;
+pub mod tokens;
