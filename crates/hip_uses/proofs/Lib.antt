@@ -2,3 +2,5 @@ pub mod Interned
 pub mod Little
 pub mod Published
 pub mod Runs
+pub mod Tables
+pub mod Templates
