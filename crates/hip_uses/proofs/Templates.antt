@@ -1,5 +1,5 @@
 -- One hole more of a template.
-use Rattle.std.proofs.Common.{◌≡◌, ◌∙◌, ℕ, ◌+◌, ◌<◌, ◌≤◌, List, [], ◌++◌, Option, None, Some, Result, Ok, Err, length, take, get_or, ap, sym, refl, subst, append_assoc, arith, ⊎_elim}
+use Rattle.std.proofs.Common.{◌≡◌, ◌∙◌, ℕ, ◌+◌, ◌<◌, ◌≤◌, List, [], ◌++◌, None, Some, Result, Ok, Err, length, take, get_or, ap, sym, refl, subst, append_assoc, arith, ⊎_elim}
 use Rattle.std.specs.Prelude.{IfErr, IsErrAnd, IsSome}
 use Rattle.std.proofs.lemmas.Bool.{cases_lt}
 use Rattle.std.specs.Option.{option_map_or}

@@ -1,5 +1,5 @@
 -- What a table is: the bytes of its header and of its rows.
-use Rattle.std.specs.Prelude.{◌≡◌, ◌≢◌, ◌⊎◌, ℕ, ◌+◌, ◌<◌, ◌≤◌, List, [], ◌∷◌, All, length, map, slice_get, Some, None}
+use Rattle.std.specs.Prelude.{◌≡◌, ◌≢◌, ◌⊎◌, ℕ, ◌+◌, ◌<◌, ◌≤◌, List, [], ◌∷◌, length, map, slice_get, Some}
 use Rattle.hipstr.specs.Handle.{Handle}
 use Rattle.hip_uses.specs.declared.table.TableFault.{TableFault}
 use Rattle.hip_uses.specs.declared.table.TableFault.TheVariants.{Empty, Ragged, Memory}

@@ -1,5 +1,5 @@
 -- What a queue is seen as: the bytes of the messages that wait, and how many may.
-use Rattle.std.specs.Prelude.{◌≡◌, ℕ, ◌<◌, ◌≤◌, List, [], ◌∷◌, ◌++◌, length, map}
+use Rattle.std.specs.Prelude.{◌≡◌, ℕ, ◌<◌, List, [], ◌∷◌, ◌++◌, length, map}
 use Rattle.hipstr.specs.Handle.{Handle}
 
 pub record Waiting : Type 0 where

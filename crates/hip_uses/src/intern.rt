@@ -1,5 +1,6 @@
 //! Texts that have numbers: each different text is kept once, and the first has number 0.
-ghost use Rattle.std.specs.Prelude.{◌≡◌, ◌==◌, ◌≤◌, [], length, slice_get, true, Some, IfOk, MatchOption, OnErr, OnOk};
+ghost use Rattle.std.specs.Prelude.{◌≡◌, ◌==◌, ◌≤◌, [], length, slice_get, true, Some};
+ghost use Rattle.std.specs.Prelude.{IfOk, MatchOption, OnErr, OnOk};
 ghost use Rattle.hipstr.specs.Meter.{RisesAtMost};
 ghost use Rattle.hip_uses.specs.Number.{interned, number_of};
 ghost use Rattle.hip_uses.specs.declared.intern.InternFault.TheVariants.{Memory};
@@ -53,7 +54,8 @@ impl<'b, B: Backend> Model for Interner<'b, B> {
 
     ghost view = { λ interner. map bytes_of interner.texts.items };
 
-    ghost invariant = { λ interner. (key : Handle) → get same_text interner.numbers key ≡ number_of key.items (map bytes_of interner.texts.items) };
+    ghost invariant = { λ interner. (key : Handle) →
+        get same_text interner.numbers key ≡ number_of key.items (map bytes_of interner.texts.items) };
 }
 
 impl<'b, B: Backend> Interner<'b, B> {
@@ -88,20 +90,22 @@ impl<'b, B: Backend> Interner<'b, B> {
 
     /// The text of a number, if there is one.
     pub fn text(&self, number: u32) -> Option<&HipStr<'b, B>>
-        ensures { MatchOption result (length self.now ≤ number) (λ text. slice_get self.now number ≡ Some text.now.items) }
+        ensures { MatchOption result (length self.now ≤ number)
+            (λ text. slice_get self.now number ≡ Some text.now.items) }
     {
         self.texts.get(number as usize)
     }
 
-    /// The number of a text, which gets the next one where it has none. Where owners are shared, at most the 23 bytes are copied that a
-    /// handle holds in itself.
+    /// The number of a text, which gets the next one where it has none.
+    /// Where owners are shared, at most the 23 bytes are copied that a handle holds in itself.
     pub fn intern(
         &mut self,
         alloc: Global,
         text: HipStr<'b, B>,
         meter: &mut Meter,
     ) -> Result<u32, InternFault>
-        ensures number { IfOk result (λ number. number_of text.entry.items self.new ≡ Some number) }
+        ensures number { IfOk result (λ number.
+            number_of text.entry.items self.new ≡ Some number) }
         ensures texts { OnOk result (self.new ≡ interned self.old text.entry.items) }
         ensures refused { OnErr result (self.new ≡ self.old) }
         ensures shared { B.SHARES ≡ true → RisesAtMost meter.old meter.new 23 }

@@ -1,5 +1,6 @@
 //! Queues of messages: what is published goes to each subscriber as a clone of one handle.
-ghost use Rattle.std.specs.Prelude.{◌≡◌, ◌↔◌, ◌*◌, [], ◌∷◌, length, true, All, Any, IfOk, IsErrOf, IsTrue, MatchBool, MatchOption, OnErr, OnOk, vec_len};
+ghost use Rattle.std.specs.Prelude.{◌≡◌, ◌↔◌, ◌*◌, [], ◌∷◌, length, true, vec_len, All, Any};
+ghost use Rattle.std.specs.Prelude.{IfOk, IsErrOf, IsTrue, MatchBool, MatchOption, OnErr, OnOk};
 ghost use Rattle.std.specs.Bool.{OnFalse};
 ghost use Rattle.hipstr.specs.Meter.{RisesAtMost};
 ghost use Rattle.hip_uses.specs.Waiting.{HasRoom, IsFull, all_with, with_message};
@@ -37,7 +38,7 @@ impl fmt::Display for PublishFault {
     }
 }
 
-/// What one subscriber has still to receive: at most so many messages, for which the room is there from the first.
+/// What one subscriber has still to receive: at most so many messages, with room for all of them.
 #[derive(Drop)]
 pub struct Queue<'b, B: Backend> {
     messages: VecDeque<HipByt<'b, B>>,
@@ -51,9 +52,11 @@ impl<'b, B: Backend> Model for Queue<'b, B> {
 
     ghost Value = { Waiting };
 
-    ghost view = { λ queue. record { messages = map bytes_of queue.messages.items; limit = queue.limit } };
+    ghost view = { λ queue.
+        record { messages = map bytes_of queue.messages.items; limit = queue.limit } };
 
-    ghost invariant = { λ queue. (length queue.messages.items ≤ queue.limit) × (queue.limit ≤ deque_capacity queue.messages) };
+    ghost invariant = { λ queue. (length queue.messages.items ≤ queue.limit)
+        × (queue.limit ≤ deque_capacity queue.messages) };
 }
 
 impl<'b, B: Backend> Queue<'b, B> {
@@ -81,7 +84,8 @@ impl<'b, B: Backend> Queue<'b, B> {
 
     /// Takes the first message, if there is one.
     pub fn receive(&mut self) -> Option<HipByt<'b, B>>
-        ensures first { MatchOption result (self.old.messages ≡ []) (λ message. self.old.messages ≡ message.items ∷ self.new.messages) }
+        ensures first { MatchOption result (self.old.messages ≡ [])
+            (λ message. self.old.messages ≡ message.items ∷ self.new.messages) }
         ensures limit { self.new.limit ≡ self.old.limit }
     {
         self.messages.pop_front()
@@ -108,7 +112,8 @@ fn clones_of<'b, B: Backend>(
     meter: &mut Meter,
 ) -> Result<Vec<HipByt<'b, B>>, AllocError>
     ensures count { IfOk result (λ clones. vec_len clones ≡ count) }
-    ensures equal { IfOk result (λ clones. All (λ clone. clone.items ≡ message.now.items) clones.items) }
+    ensures equal { IfOk result (λ clones.
+        All (λ clone. clone.items ≡ message.now.items) clones.items) }
     ensures shared { B.SHARES ≡ true → RisesAtMost meter.old meter.new (23 * count) }
 {
     let mut clones = Vec::new(alloc);
@@ -118,8 +123,8 @@ fn clones_of<'b, B: Backend>(
     Ok(clones)
 }
 
-/// Publishes a message to each subscriber, or to none. Where owners are shared each clone copies at most the 23 bytes that a handle
-/// holds in itself.
+/// Publishes a message to each subscriber, or to none. Where owners are shared, each clone copies
+/// at most the 23 bytes that a handle holds in itself.
 pub fn publish<'b, B: Backend>(
     alloc: Global,
     queues: &mut [Queue<'b, B>],
@@ -129,7 +134,8 @@ pub fn publish<'b, B: Backend>(
     ensures published { OnOk result (queues.new ≡ all_with message.now.items queues.old) }
     ensures refused { OnErr result (queues.new ≡ queues.old) }
     ensures full { IsErrOf result Full ↔ Any IsFull queues.old }
-    ensures shared { B.SHARES ≡ true → RisesAtMost meter.old meter.new (23 * length queues.old) }
+    ensures shared { B.SHARES ≡ true →
+        RisesAtMost meter.old meter.new (23 * length queues.old) }
 {
     if any_full(queues) {
         return Err(PublishFault::Full);

@@ -55,16 +55,22 @@ impl<'b, B: Backend> Model for Table<'b, B> {
 
     ghost Value = { Cells };
 
-    ghost view = { λ table. record { header = texts_of table.header.items; rows = map (λ row. texts_of row.items) table.rows.items } };
+    ghost view = { λ table. record {
+      header = texts_of table.header.items;
+      rows = map (λ row. texts_of row.items) table.rows.items;
+    } };
 
-    ghost invariant = { λ table. All (λ row. vec_len row ≡ vec_len table.header) table.rows.items };
+    ghost invariant = { λ table.
+        All (λ row. vec_len row ≡ vec_len table.header) table.rows.items };
 }
 
 impl<'b, B: Backend> Table<'b, B> {
     /// Reads a table. The first line is the header.
     pub fn read(alloc: Global, source: &HipStr<'b, B>, separator: char) -> Result<Self, TableFault>
-        ensures read { IfOk result (λ table. table.header ∷ table.rows ≡ records_of separator source.now.items) }
-        ensures even { IfOk result (λ table. All (λ row. length row ≡ length table.header) table.rows) }
+        ensures read { IfOk result (λ table.
+            table.header ∷ table.rows ≡ records_of separator source.now.items) }
+        ensures even { IfOk result (λ table.
+            All (λ row. length row ≡ length table.header) table.rows) }
         ensures fault { IfErr result (ReadFails (records_of separator source.now.items)) }
     {
         let mut rows = records(alloc, source, separator)?;
@@ -89,7 +95,8 @@ impl<'b, B: Backend> Table<'b, B> {
 
     /// Which column has this name, the first where several have it.
     pub fn column(&self, name: &str) -> Option<usize>
-        ensures { MatchOption result (IsNoColumn self.now.header name.now) (IsFirstAt self.now.header name.now) }
+        ensures { MatchOption result (IsNoColumn self.now.header name.now)
+            (IsFirstAt self.now.header name.now) }
     {
         for (place, column) in self.header.iter().enumerate() {
             if column.str_eq(name) {
@@ -101,7 +108,8 @@ impl<'b, B: Backend> Table<'b, B> {
 
     /// The cell of a row in the column of this name.
     pub fn cell(&self, row: usize, name: &str) -> Option<&HipStr<'b, B>>
-        ensures { MatchOption result (HasNoCell self.now row name.now) (λ cell. HasCell self.now row name.now cell.now.items) }
+        ensures { MatchOption result (HasNoCell self.now row name.now)
+            (λ cell. HasCell self.now row name.now cell.now.items) }
     {
         let place = self.column(name)?;
         let fields = self.rows.get(row)?;

@@ -1,7 +1,8 @@
 //! Templates: `{{name}}` in a text stands for what goes under that name.
 ghost use Rattle.std.specs.Prelude.{◌≡◌, ◌++◌, IfErr, IfOk, OnOk};
 ghost use Rattle.hipstr.specs.Parted.{PartedAs};
-ghost use Rattle.hip_uses.specs.Template.{AllKnown, FillFails, FirstHole, IsParsed, IsUnknown, ParseFails, filled, written};
+ghost use Rattle.hip_uses.specs.Template.{AllKnown, IsParsed, filled, written};
+ghost use Rattle.hip_uses.specs.Template.{FillFails, FirstHole, IsUnknown, ParseFails};
 ghost use Rattle.hip_uses.specs.declared.template.TemplateFault.TheVariants.{Memory};
 
 use hipstr::Backend;
@@ -131,7 +132,8 @@ fn push_filled<'b, B: Backend>(
     values: &Values<'b, B>,
 ) -> Result<(), TemplateFault<'b, B>>
     ensures known { OnOk result (AllKnown values.now.entries holes.now) }
-    ensures filled { OnOk result (text.new.items ≡ text.old.items ++ filled values.now.entries holes.now) }
+    ensures filled { OnOk result
+        (text.new.items ≡ text.old.items ++ filled values.now.entries holes.now) }
     ensures fault { IfErr result (FillFails values.now.entries holes.now) }
 {
     for hole in holes {
@@ -151,7 +153,8 @@ pub fn fill<'b, B: Backend>(
     values: &Values<'b, B>,
 ) -> Result<HipStr<'b, B>, TemplateFault<'b, B>>
     ensures known { IfOk result (λ _. AllKnown values.now.entries template.now.holes.items) }
-    ensures filled { IfOk result (λ text. text.items ≡ filled values.now.entries template.now.holes.items ++ template.now.rest.items) }
+    ensures filled { IfOk result (λ text. text.items
+        ≡ filled values.now.entries template.now.holes.items ++ template.now.rest.items) }
     ensures fault { IfErr result (FillFails values.now.entries template.now.holes.items) }
 {
     let mut text = HipStr::new();

@@ -1,5 +1,6 @@
 //! Tokens: a source is cut into the longest runs of one class, each a part of the source at its place.
-ghost use Rattle.std.specs.Prelude.{◌≡◌, ◌↔◌, ◌*◌, ◌<◌, ◌≤◌, ℕ, length, slice_index, true, All, IfOk, IsTrue};
+ghost use Rattle.std.specs.Prelude.{◌≡◌, ◌↔◌, ◌*◌, ◌<◌, length, slice_index, true};
+ghost use Rattle.std.specs.Prelude.{All, IfOk, IsTrue};
 ghost use Rattle.std.specs.List.{flat_map};
 ghost use Rattle.std.specs.Str.{IsCharBoundary};
 ghost use Rattle.hipstr.specs.Meter.{RisesAtMost};
@@ -61,7 +62,8 @@ fn run_end(text: &str, start: usize, class: Class) -> usize
     end
 }
 
-/// The tokens of a source. Where owners are shared each copies at most the 23 bytes that a handle holds in itself.
+/// The tokens of a source. Where owners are shared, each copies at most the 23 bytes that a handle
+/// holds in itself.
 pub fn tokens<'b, B: Backend>(
     alloc: Global,
     source: &HipStr<'b, B>,
@@ -69,7 +71,8 @@ pub fn tokens<'b, B: Backend>(
 ) -> Result<Vec<Token<'b, B>>, AllocError>
     ensures joined { IfOk result (λ tokens. flat_map bytes_of tokens.items ≡ source.now.items) }
     ensures each { IfOk result (λ tokens. All (IsTokenOf source.now) tokens.items) }
-    ensures shared { B.SHARES ≡ true → IfOk result (λ tokens. RisesAtMost meter.old meter.new (23 * length tokens.items)) }
+    ensures shared { B.SHARES ≡ true → IfOk result (λ tokens.
+        RisesAtMost meter.old meter.new (23 * length tokens.items)) }
 {
     let whole = source.as_str();
     let mut tokens = Vec::new(alloc);

@@ -1,7 +1,6 @@
-use Rattle.std.proofs.Common.{◌≡◌, ◌∙◌, ◌+◌, ◌<◌, ◌≤◌, ℕ, List, Some, get_or, vec_len, length, ap, arith}
-use Rattle.std.specs.Prelude.{All, IfSome}
+use Rattle.std.proofs.Common.{◌≡◌, ◌∙◌, ◌<◌, ℕ, List, Some, get_or, length, ap, arith}
 use Rattle.std.proofs.lemmas.List.Elements.{All-pop}
-use Rattle.hip_uses.specs.Waiting.{Waiting, with_message}
+use Rattle.hip_uses.specs.Waiting.{with_message}
 use Rattle.hip_uses.proofs.Published.{AreChanged-all, AreChanged-more}
 use Rattle.hip_uses.proofs.queue.publish.Goals as goal
 

@@ -1,4 +1,4 @@
-use Rattle.std.proofs.Common.{◌≡◌, ◌++◌, ℕ, List, [], Option, None, Ok, subst, refl}
+use Rattle.std.proofs.Common.{List, [], Option, Ok, subst, refl}
 use Rattle.std.proofs.lemmas.List.{append-nil}
 use Rattle.hipstr.specs.Handle.{Handle}
 use Rattle.hipstr.specs.Parted.{Lacks}

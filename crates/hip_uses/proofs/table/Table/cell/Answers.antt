@@ -1,8 +1,8 @@
-use Rattle.std.proofs.Common.{◌≡◌, ◌∙◌, ◌<◌, ℕ, List, length, get_or, map, vec_len, ap, sym, arith}
+use Rattle.std.proofs.Common.{◌≡◌, ◌∙◌, ◌<◌, length, get_or, map, vec_len, ap, sym, arith}
 use Rattle.std.specs.Prelude.{slice_get}
 use Rattle.std.proofs.lemmas.List.{length-map}
 use Rattle.hipstr.specs.Handle.{Handle}
-use Rattle.hip_uses.specs.Cells.{Texts, texts_of}
+use Rattle.hip_uses.specs.Cells.{texts_of}
 use Rattle.hip_uses.proofs.Tables.{at-rows, at-texts, row_of, within-texts}
 use Rattle.hip_uses.proofs.table.Table.cell.Goals as goal
 
@@ -18,9 +18,10 @@ returns g c =
     let header : texts_of c.self.inside.header.items ≡ c.args.self.now.header = ap (λ t. t.header) c.self.view_is in
     let size : length c.args.self.now.header ≡ vec_len c.self.inside.header =
     ap length (sym header) ∙ length-map c.self.inside.header.items (λ (f : Handle). f.items) ∙ sym c.self.inside.header.ok.0 in
-    let width : vec_len row ≡ vec_len c.self.inside.header = ap vec_len at ∙ c.self.invariant c.args.row row within in
-    (
-      c.in_ok-place.place, row_of row, c.in_ok-place.ensures,
+    let width : vec_len row ≡ vec_len c.self.inside.header = ap vec_len at ∙ c.self.invariant c.args.row row within in (
+      c.in_ok-place.place,
+      row_of row,
+      c.in_ok-place.ensures,
       ap (λ l. slice_get l c.args.row) (sym rows) ∙ at-rows c.self.inside.rows.items c.args.row row within at,
       at-texts row.items c.in_ok-place.place c.index.result.now (omega (arith, place, size, width, row.ok.0)) c.index.ensures,
     )

@@ -1,4 +1,4 @@
-use Rattle.std.proofs.Common.{◌≡◌, ◌∙◌, ◌<◌, ℕ, List, Some, true, false, length, ap, arith}
+use Rattle.std.proofs.Common.{◌≡◌, ◌∙◌, true, false, ap, arith}
 use Rattle.std.specs.Prelude.{slice_get}
 use Rattle.hip_uses.specs.Cells.{Texts, texts_of}
 use Rattle.hip_uses.proofs.Tables.{not-at-all, not-before}
@@ -7,9 +7,9 @@ use Rattle.hip_uses.proofs.table.Table.column.Goals as goal
 pub loop-place-preserved : goal.loop-place-preserved
 loop-place-preserved g c =
     let other : c.column-item.result.items ≡ c.args.name.now → ⊥ = λ same.
-        let yes : c.str_eq.result ≡ true = c.str_eq.ensures.1 same in
-        let no : c.str_eq.result ≡ false = c.if-str_eq.false in
-        cc in
+    let yes : c.str_eq.result ≡ true = c.str_eq.ensures.1 same in
+    let no : c.str_eq.result ≡ false = c.if-str_eq.false in
+    cc in
     not-before c.deref-column-items.result.now c.args.name.now c.loop-place.place c.column-item.result (omega arith) c.column-item.is other c.loop-place.invariant
 
 pub returns : goal.returns

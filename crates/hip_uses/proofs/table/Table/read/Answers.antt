@@ -18,11 +18,12 @@ returns-then-len-clause-fault g c =
     let some : 0 < length rows.items = omega (arith, rows.ok.0, c.remove-header.ensures.len) in
     let read = header-rows _ rows.items left header (AreRecords-texts c.args.source.now _ rows.items c.in_ok-rows.ensures.records) some c.remove-header.ensures.value c.remove-header.ensures.items in
     let inside : c.deref-row-items.result.now ≡ left = c.deref-row-items.ensures.value in
-    let other : vec_len c.row-item.result ≡ vec_len header → ⊥ = λ same. c.if-len.true (c.len.ensures ∙ same ∙ sym c.len-in-loop-i.ensures) in
-    (
-      row_of header, map row_of left, sym read,
+    let other : vec_len c.row-item.result ≡ vec_len header → ⊥ = λ same. c.if-len.true (c.len.ensures ∙ same ∙ sym c.len-in-loop-i.ensures) in (
+      row_of header,
+      map row_of left,
+      sym read,
       ragged header left c.loop-i.i c.row-item.result (omega (arith, ap length inside)) (c.row-item.is ∙ ap (λ l. get_or l c.loop-i.i c.row-item.result) inside) other
-      (λ k row low. ap (λ l. vec_len (get_or l k row)) (sym inside) ∙ c.loop-i.invariant k row low),
+          (λ k row low. ap (λ l. vec_len (get_or l k row)) (sym inside) ∙ c.loop-i.invariant k row low),
     )
 
 pub loop-i-preserved : goal.loop-i-preserved
