@@ -1,6 +1,7 @@
 pub mod Amortised
 pub mod Cut
 pub mod Little
+pub mod Parted
 pub mod Parts
 pub mod Slot
 pub mod Step

@@ -1,0 +1,46 @@
+-- What an interned text changes of the numbers.
+use Rattle.std.proofs.Common.{◌≡◌, ◌∙◌, ℕ, ◌+◌, Bool, true, false, nat_eq, List, [], ◌∷◌, ◌++◌, Option, None, Some, length, ap, sym, refl, arith}
+use Rattle.std.specs.Prelude.{if◌then◌else◌, cond}
+use Rattle.std.specs.Cmp.Lexicographic.{pointwise}
+use Rattle.std.proofs.lemmas.Slice.Eq.{bytes_eq-Decides}
+use Rattle.hip_uses.specs.Number.{number_from, number_of}
+
+-- the first of two numbers that there is
+abbrev pub or_number : Option ℕ → Option ℕ → Option ℕ
+or_number None o = o
+or_number (Some n) o = Some n
+
+by_bool : {R : Type 0} (b : Bool) → (b ≡ true → R) → (b ≡ false → R) → R
+by_bool true f g = f refl
+by_bool false f g = g refl
+
+pub number_from-push : (from : ℕ) (t u : List ℕ) (ts : List (List ℕ))
+    → number_from from t (ts ++ u ∷ []) ≡ or_number (number_from from t ts) (if pointwise nat_eq t u then Some (from + length ts) else None)
+number_from-push from t u [] = grind arith
+number_from-push from t u (x ∷ ts) = by_bool (pointwise nat_eq t x) (λ holds. grind arith) (λ fails. grind (arith, number_from-push (from + 1) t u ts))
+
+-- a new text gets the next number, and the others keep theirs
+pub number_of-push : (key word copy : List ℕ) (ts : List (List ℕ)) (number : ℕ) → copy ≡ word → number ≡ length ts → number_of word ts ≡ None
+    → cond (pointwise nat_eq copy key) (Some number) (number_of key ts) ≡ number_of key (ts ++ word ∷ [])
+number_of-push key word copy ts number same is none =
+    let push = number_from-push 0 key word ts in
+    by_bool (pointwise nat_eq copy key)
+    (λ holds.
+    let equal : key ≡ word = sym ((bytes_eq-Decides copy key).0 holds) ∙ same in
+    let self_ : pointwise nat_eq key word ≡ true = (bytes_eq-Decides key word).1 equal in
+    let missing : number_of key ts ≡ None = ap (λ t. number_of t ts) equal ∙ none in
+    grind (arith, push, self_, missing, holds, is))
+    (λ fails.
+    by_bool (pointwise nat_eq key word)
+    (λ holds. let equal : copy ≡ key = same ∙ sym ((bytes_eq-Decides key word).0 holds) in let t = (bytes_eq-Decides copy key).1 equal in grind (arith, t, fails))
+    (λ other. by_option (number_of key ts) (λ n. grind (arith, push, other, fails, n)) (λ k n. grind (arith, push, other, fails, n))))
+  where
+    by_option : {R : Type 0} (o : Option ℕ) → (o ≡ None → R) → ((k : ℕ) → o ≡ Some k → R) → R
+    by_option None none some = none refl
+    by_option (Some k) none some = some k refl
+
+pub number_of-pushed : (word : List ℕ) (ts : List (List ℕ)) (number : ℕ) → number ≡ length ts → number_of word ts ≡ None → number_of word (ts ++ word ∷ []) ≡ Some number
+number_of-pushed word ts number is none =
+    let push = number_from-push 0 word word ts in
+    let self_ : pointwise nat_eq word word ≡ true = (bytes_eq-Decides word word).1 refl in
+    grind (arith, push, self_, none, is)

@@ -1,0 +1,6 @@
+pub mod Interned
+pub mod Little
+pub mod Published
+pub mod Runs
+pub mod Tables
+pub mod Templates

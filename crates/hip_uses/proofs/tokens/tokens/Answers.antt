@@ -1,0 +1,52 @@
+use Rattle.std.proofs.Common.{◌≡◌, ◌∙◌, ℕ, ◌+◌, ◌-◌, ◌*◌, ◌≤◌, List, [], ◌++◌, length, ap, sym, subst, rules, arith, length-append}
+use Rattle.std.specs.Prelude.{All, slice_range}
+use Rattle.std.specs.List.{flat_map}
+use Rattle.std.specs.Str.{IsCharBoundary}
+use Rattle.std.proofs.lemmas.Str.{IsCharBoundary-start}
+use Rattle.std.proofs.lemmas.List.{flat_map_more}
+use Rattle.std.proofs.lemmas.List.Elements.{All-push}
+use Rattle.hipstr.specs.Made.{IsPart}
+use Rattle.hipstr.specs.Cost.{cut_cost}
+use Rattle.hipstr.specs.Meter.{RisesAtMost}
+use Rattle.hip_uses.specs.Token.{IsRun, IsTokenOf, bytes_of}
+use Rattle.hip_uses.proofs.Little.{rises-more}
+use Rattle.hip_uses.proofs.Runs.{length-range, take-range}
+use Rattle.hip_uses.proofs.tokens.tokens.Goals as goal
+
+pub loop-start-init : goal.loop-start-init
+loop-start-init g c = record {
+  boundary = subst (λ (l : List ℕ). IsCharBoundary l 0) c.as_str-whole.ensures.items (IsCharBoundary-start _ c.as_str-whole.ensures.utf8);
+  joined = search rules;
+  each = search rules;
+  shared = λ shares. record { never_falls = omega arith; at_most = omega arith };
+}
+
+pub part_metered-requires-clause-end_at_boundary : goal.part_metered-requires-clause-end_at_boundary
+part_metered-requires-clause-end_at_boundary g c =
+    subst (λ (l : List ℕ). IsCharBoundary l c.run_end-end.result) c.as_str-whole.ensures.items c.run_end-end.ensures.boundary
+
+pub loop-start-preserved : goal.loop-start-preserved
+loop-start-preserved g c =
+    let items = c.args.source.now.items in
+    let start = c.loop-start.start in
+    let end = c.run_end-end.result in
+    let class = c.class_of-class.result in
+    let pushed = c.in_ok-push.ensures.items in
+    let part = c.in_ok-text.ensures.part in
+    let run : IsRun items class start end = subst (λ (l : List ℕ). IsRun l class start end) c.as_str-whole.ensures.items c.run_end-end.ensures.run in
+    let size : length c.in_ok-text.text.items ≡ end - start = ap length part.items_are ∙ length-range items start end (omega (arith, run.filled)) run.within in
+    let place : end ≡ start + length c.in_ok-text.text.items = omega (arith, size, run.filled) in
+    record {
+      boundary = subst (λ (l : List ℕ). IsCharBoundary l end) c.as_str-whole.ensures.items c.run_end-end.ensures.boundary;
+      joined =
+          ap (flat_map bytes_of) pushed ∙ sym (flat_map_more bytes_of [] c.loop-start.tokens.items _)
+          ∙ (λ i. c.loop-start.invariant.joined i ++ part.items_are i) ∙ take-range items start end (omega (arith, run.filled));
+      each =
+          subst (All (IsTokenOf c.args.source.now)) (sym pushed) (All-push (IsTokenOf c.args.source.now) c.loop-start.tokens.items _ c.loop-start.invariant.each (
+            subst (λ (k : ℕ). IsPart c.args.source.now c.in_ok-text.text (slice_range items start k)) place part,
+            subst (IsRun items class start) place run,
+          ));
+      shared = λ shares. let bound : cut_cost g.B.Backend.SHARES c.args.source.now.kind (end - start) ≤ 23 = grind (arith, shares) in
+          subst (λ (n : ℕ). RisesAtMost c.args.meter.now c.part_metered.new.meter (23 * n)) (sym (ap length pushed ∙ length-append c.loop-start.tokens.items _))
+          (rises-more _ c.args.meter.now c.loop-start.meter c.part_metered.new.meter (length c.loop-start.tokens.items) bound (c.loop-start.invariant.shared shares) c.in_ok-text.ensures.counted);
+    }

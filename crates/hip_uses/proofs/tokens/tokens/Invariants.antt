@@ -1,0 +1,18 @@
+use Rattle.std.proofs.Common.{◌≡◌, ◌-◌, ◌*◌, length, take, true}
+use Rattle.std.specs.Prelude.{All}
+use Rattle.std.specs.List.{flat_map}
+use Rattle.std.specs.Str.{IsCharBoundary}
+use Rattle.hipstr.specs.Meter.{RisesAtMost}
+use Rattle.hip_uses.specs.Token.{IsTokenOf, bytes_of}
+use Rattle.hip_uses.proofs.tokens.tokens.Given as goal
+
+abbrev pub invariant-loop-start : goal.invariant-loop-start
+invariant-loop-start g l = record {
+  boundary : IsCharBoundary l.source.items l.start;
+  joined : flat_map bytes_of l.tokens.items ≡ take l.start l.source.items;
+  each : All (IsTokenOf l.source) l.tokens.items;
+  shared : g.B.Backend.SHARES ≡ true → RisesAtMost l.fn.meter l.meter (23 * length l.tokens.items);
+}
+
+abbrev pub decreases-loop-start : goal.decreases-loop-start
+decreases-loop-start g l = length l.source.items - l.start

@@ -1,0 +1,5 @@
+pub mod Cells
+pub mod Number
+pub mod Template
+pub mod Token
+pub mod Waiting

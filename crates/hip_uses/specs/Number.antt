@@ -1,0 +1,27 @@
+-- The number of a text: its place among those that were interned.
+use Rattle.std.specs.Prelude.{ℕ, ◌+◌, Bool, nat_eq, List, [], ◌∷◌, ◌++◌, Option, None, Some, if◌then◌else◌}
+use Rattle.std.specs.Cmp.Lexicographic.{pointwise}
+use Rattle.hipstr.specs.Handle.{Handle}
+
+abbrev pub bytes_of : Handle → List ℕ
+bytes_of text = text.items
+
+-- whether two handles are the same text, of whichever kind
+abbrev pub same_text : Handle → Handle → Bool
+same_text a b = pointwise nat_eq a.items b.items
+
+-- the place of the text in the list, the first of which is `from`
+abbrev pub number_from : ℕ → List ℕ → List (List ℕ) → Option ℕ
+number_from from text [] = None
+number_from from text (t ∷ ts) = if pointwise nat_eq text t then Some from else number_from (from + 1) text ts
+
+abbrev pub number_of : List ℕ → List (List ℕ) → Option ℕ
+number_of text texts = number_from 0 text texts
+
+-- a text that has a number leaves all as it is; any other is put at the end
+abbrev pub interned_from : Option ℕ → List (List ℕ) → List ℕ → List (List ℕ)
+interned_from None texts text = texts ++ text ∷ []
+interned_from (Some number) texts text = texts
+
+abbrev pub interned : List (List ℕ) → List ℕ → List (List ℕ)
+interned texts text = interned_from (number_of text texts) texts text

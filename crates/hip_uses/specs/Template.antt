@@ -1,0 +1,72 @@
+-- What a template is, as it is written and as it is filled.
+use Rattle.std.specs.Prelude.{◌≡◌, ℕ, nat_eq, List, [], ◌∷◌, ◌++◌, Option, None, Some, Result, Ok, Err, IsSome, All, Any, codes}
+use Rattle.std.specs.List.{flat_map}
+use Rattle.std.specs.Map.{lookup}
+use Rattle.std.specs.Option.{option_map_or}
+use Rattle.std.specs.Cmp.Lexicographic.{pointwise}
+use Rattle.hipstr.specs.Handle.{Handle}
+use Rattle.hipstr.specs.Parted.{IsParted, Lacks}
+use Rattle.hip_uses.specs.declared.template.Hole.{Hole}
+use Rattle.hip_uses.specs.declared.template.TemplateFault.{TemplateFault}
+use Rattle.hip_uses.specs.declared.template.TemplateFault.TheVariants.{Unclosed, Unknown, Memory}
+
+abbrev pub opening : List ℕ
+opening = codes "{{"
+
+abbrev pub closing : List ℕ
+closing = codes "}}"
+
+-- the text is cut at its holes: at the first `{{`, at the first `}}` behind it, and so on in what follows, up to a rest without `{{`
+abbrev pub IsParsed : {B S P : Type 0} → List ℕ → List (Hole B S P) → List ℕ → Type 0
+IsParsed text [] rest = (rest ≡ text) × Lacks opening text
+IsParsed text (hole ∷ holes) rest =
+    (behind : List ℕ) × (after : List ℕ) × IsParted opening text hole.before.items behind
+    × IsParted closing behind hole.name.items after × IsParsed after holes rest
+
+-- a hole and what lies before it, as they are written
+abbrev pub hole_written : {B S P : Type 0} → Hole B S P → List ℕ
+hole_written hole = hole.before.items ++ (opening ++ (hole.name.items ++ closing))
+
+abbrev pub written : {B S P : Type 0} → List (Hole B S P) → List ℕ
+written holes = flat_map hole_written holes
+
+-- what goes under a name
+abbrev pub value_of : List (Handle × Handle) → List ℕ → Option Handle
+value_of values name = lookup (λ key. pointwise nat_eq name key.items) values
+
+-- a hole that is filled, with what lies before it
+abbrev pub hole_filled : {B S P : Type 0} → List (Handle × Handle) → Hole B S P → List ℕ
+hole_filled values hole = hole.before.items ++ option_map_or (λ value. value.items) (value_of values hole.name.items) []
+
+abbrev pub filled : {B S P : Type 0} → List (Handle × Handle) → List (Hole B S P) → List ℕ
+filled values holes = flat_map (hole_filled values) holes
+
+-- something goes under each name
+abbrev pub AllKnown : {B S P : Type 0} → List (Handle × Handle) → List (Hole B S P) → Type 0
+AllKnown values holes = All (λ hole. IsSome (value_of values hole.name.items)) holes
+
+-- behind a `{{` there is this text alone, without `}}`
+abbrev pub ParseFails : {B S P : Type 0} → List ℕ → TemplateFault B S P → Type 0
+ParseFails template (Unclosed text) =
+    (front : List ℕ) × (template ≡ front ++ (opening ++ text.items)) × Lacks closing text.items
+ParseFails template (Unknown name) = ⊥
+ParseFails template Memory = Unit {0}
+
+-- the first hole of a text and what follows it, nothing where it has none, or why that can't be told
+abbrev pub FirstHole : {B S P : Type 0} → List ℕ → Result (Option (Hole B S P × Handle)) (TemplateFault B S P) → Type 0
+FirstHole text (Ok None) = Lacks opening text
+FirstHole text (Ok (Some (hole, after))) =
+    (behind : List ℕ) × IsParted opening text hole.before.items behind × IsParted closing behind hole.name.items after.items
+FirstHole text (Err fault) = ParseFails text fault
+
+-- the name is told, or want of memory
+abbrev pub IsUnknown : {B S P : Type 0} → List ℕ → TemplateFault B S P → Type 0
+IsUnknown name (Unclosed text) = ⊥
+IsUnknown name (Unknown unknown) = unknown.items ≡ name
+IsUnknown name Memory = Unit {0}
+
+-- a hole has this name, under which nothing goes
+abbrev pub FillFails : {B S P : Type 0} → List (Handle × Handle) → List (Hole B S P) → TemplateFault B S P → Type 0
+FillFails values holes (Unclosed text) = ⊥
+FillFails values holes (Unknown name) = (value_of values name.items ≡ None) × Any (λ hole. hole.name.items ≡ name.items) holes
+FillFails values holes Memory = Unit {0}

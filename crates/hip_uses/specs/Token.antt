@@ -1,0 +1,33 @@
+-- What a token is of its source.
+use Rattle.std.specs.Prelude.{◌≡◌, ◌≢◌, ℕ, ◌+◌, ◌<◌, ◌≤◌, ◌==◌, ◌||◌, nat_le, List, length, slice_index, slice_range, if◌then◌else◌}
+use Rattle.std.specs.Char.{is_ascii_alphabetic, is_ascii_digit, is_ascii_whitespace}
+use Rattle.hipstr.specs.Handle.{Handle}
+use Rattle.hipstr.specs.Made.{IsPart}
+use Rattle.hip_uses.specs.declared.tokens.Class.{Class}
+use Rattle.hip_uses.specs.declared.tokens.Class.TheVariants.{Word, Digits, Space, Mark}
+use Rattle.hip_uses.specs.declared.tokens.Token.{Token}
+
+-- the class of a byte; 95 is `_`
+abbrev pub class_of : ℕ → Class
+class_of byte =
+    if nat_le 128 byte || (is_ascii_alphabetic byte || byte == 95) then Word
+    else (if is_ascii_digit byte then Digits else (if is_ascii_whitespace byte then Space else Mark))
+
+-- from `start` up to `end` the bytes are of one class, and the next is of another
+pub record IsRun (bytes : List ℕ) (class : Class) (start end : ℕ) : Type 0 where
+  pub filled : start < end
+  pub within : end ≤ length bytes
+  pub one_class : (k : ℕ) → start ≤ k → k < end → class_of (slice_index bytes k) ≡ class
+  pub longest : end < length bytes → class_of (slice_index bytes end) ≢ class
+
+abbrev pub bytes_of : {B S P : Type 0} → Token B S P → List ℕ
+bytes_of token = token.text.items
+
+abbrev pub end_of : {B S P : Type 0} → Token B S P → ℕ
+end_of token = token.start + length token.text.items
+
+-- the source's part at the token's place, which is a run of its class
+abbrev pub IsTokenOf : {B S P : Type 0} → Handle → Token B S P → Type 0
+IsTokenOf source token =
+    IsPart source token.text (slice_range source.items token.start (end_of token))
+    × IsRun source.items token.class token.start (end_of token)

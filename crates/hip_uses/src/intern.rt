@@ -1,0 +1,127 @@
+//! Texts that have numbers: each different text is kept once, and the first has number 0.
+ghost use Rattle.std.specs.Prelude.{◌≡◌, ◌==◌, ◌≤◌, [], length, slice_get, true, Some};
+ghost use Rattle.std.specs.Prelude.{IfOk, MatchOption, OnErr, OnOk};
+ghost use Rattle.hipstr.specs.Meter.{RisesAtMost};
+ghost use Rattle.hip_uses.specs.Number.{interned, number_of};
+ghost use Rattle.hip_uses.specs.declared.intern.InternFault.TheVariants.{Memory};
+
+use hipstr::string::HipStr;
+use hipstr::{Backend, Meter};
+use std::alloc::{AllocError, Global};
+use std::collections::HashMap;
+use std::fmt;
+use std::marker::Model;
+
+/// Why a text got no number.
+#[derive(Clone, Copy, Debug, PartialEq, Eq)]
+pub enum InternFault {
+    /// There are as many texts as numbers.
+    TooMany,
+    Memory,
+}
+
+impl From<AllocError> for InternFault {
+    ghost from_gives = { λ _ fault. fault ≡ Memory };
+
+    fn from(_: AllocError) -> Self {
+        InternFault::Memory
+    }
+}
+
+impl fmt::Display for InternFault {
+    fn fmt<W: fmt::Write>(&self, f: &mut fmt::Formatter<W>) -> fmt::Result {
+        f.write_str(match self {
+            InternFault::TooMany => "too many different texts",
+            InternFault::Memory => "out of memory",
+        })
+    }
+}
+
+/// The different texts, in the order in which they came.
+#[derive(Drop)]
+pub struct Interner<'b, B: Backend> {
+    numbers: HashMap<HipStr<'b, B>, u32>,
+    texts: Vec<HipStr<'b, B>>,
+}
+
+impl<'b, B: Backend> Model for Interner<'b, B> {
+    ghost use Rattle.std.specs.Prelude.{◌≡◌, ℕ, List, map};
+    ghost use Rattle.std.specs.HashMap.{get};
+    ghost use Rattle.hipstr.specs.Handle.{Handle};
+    ghost use Rattle.hip_uses.specs.Number.{bytes_of, number_of, same_text};
+
+    ghost Value = { List (List ℕ) };
+
+    ghost view = { λ interner. map bytes_of interner.texts.items };
+
+    ghost invariant = { λ interner. (key : Handle) →
+        get same_text interner.numbers key ≡ number_of key.items (map bytes_of interner.texts.items) };
+}
+
+impl<'b, B: Backend> Interner<'b, B> {
+    pub fn new(alloc: Global) -> Self
+        ensures { result ≡ [] }
+    {
+        Interner {
+            numbers: HashMap::new(alloc),
+            texts: Vec::new(alloc),
+        }
+    }
+
+    /// How many different texts there are.
+    pub fn len(&self) -> usize
+        ensures { result ≡ length self.now }
+    {
+        self.texts.len()
+    }
+
+    pub fn is_empty(&self) -> bool
+        ensures { result ≡ (length self.now == 0) }
+    {
+        self.texts.is_empty()
+    }
+
+    /// The number of a text, if it has one.
+    pub fn find(&self, text: &HipStr<'b, B>) -> Option<u32>
+        ensures { result ≡ number_of text.now.items self.now }
+    {
+        self.numbers.get(text).copied()
+    }
+
+    /// The text of a number, if there is one.
+    pub fn text(&self, number: u32) -> Option<&HipStr<'b, B>>
+        ensures { MatchOption result (length self.now ≤ number)
+            (λ text. slice_get self.now number ≡ Some text.now.items) }
+    {
+        self.texts.get(number as usize)
+    }
+
+    /// The number of a text, which gets the next one where it has none.
+    /// Where owners are shared, at most the 23 bytes are copied that a handle holds in itself.
+    pub fn intern(
+        &mut self,
+        alloc: Global,
+        text: HipStr<'b, B>,
+        meter: &mut Meter,
+    ) -> Result<u32, InternFault>
+        ensures number { IfOk result (λ number.
+            number_of text.entry.items self.new ≡ Some number) }
+        ensures texts { OnOk result (self.new ≡ interned self.old text.entry.items) }
+        ensures refused { OnErr result (self.new ≡ self.old) }
+        ensures shared { B.SHARES ≡ true → RisesAtMost meter.old meter.new 23 }
+    {
+        if let Some(number) = self.numbers.get(&text) {
+            return Ok(*number);
+        }
+        let Ok(number) = u32::try_from(self.texts.len()) else {
+            return Err(InternFault::TooMany);
+        };
+        let key = text.clone_metered(alloc, meter)?;
+        self.texts.reserve(1)?;
+        let Ok(_) = self.numbers.insert(key, number) else {
+            return Err(InternFault::Memory);
+        };
+        self.texts.push_reserved(text);
+        Ok(number)
+    }
+}

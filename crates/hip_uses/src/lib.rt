@@ -1,0 +1,14 @@
+//! Five uses of `hipstr`, each written as its user would write it, over `hipstr` alone (`table` over `hip_fields` too).
+//!
+//! - [`template`]: `{{name}}` in a text stands for what goes under that name.
+//! - [`tokens`]: a source is cut into runs of one class.
+//! - [`queue`]: a message goes to many subscribers as clones of one handle.
+//! - [`intern`]: each different text is kept once, and has a number.
+//! - [`table`]: a header names the columns of the rows below it.
+#![tactic(auto)]
+
+pub mod intern;
+pub mod queue;
+pub mod table;
+pub mod template;
+pub mod tokens;

@@ -1,0 +1,151 @@
+//! Queues of messages: what is published goes to each subscriber as a clone of one handle.
+ghost use Rattle.std.specs.Prelude.{◌≡◌, ◌↔◌, ◌*◌, [], ◌∷◌, length, true, vec_len, All, Any};
+ghost use Rattle.std.specs.Prelude.{IfOk, IsErrOf, IsTrue, MatchBool, MatchOption, OnErr, OnOk};
+ghost use Rattle.std.specs.Bool.{OnFalse};
+ghost use Rattle.hipstr.specs.Meter.{RisesAtMost};
+ghost use Rattle.hip_uses.specs.Waiting.{HasRoom, IsFull, all_with, with_message};
+ghost use Rattle.hip_uses.specs.declared.queue.PublishFault.TheVariants.{Full, Memory};
+
+use hipstr::bytes::HipByt;
+use hipstr::{Backend, Meter};
+use std::alloc::{AllocError, Global};
+use std::collections::VecDeque;
+use std::fmt;
+use std::marker::Model;
+
+/// Why a message was not taken.
+#[derive(Clone, Copy, Debug, PartialEq, Eq)]
+pub enum PublishFault {
+    /// A subscriber has as many messages waiting as it may.
+    Full,
+    Memory,
+}
+
+impl From<AllocError> for PublishFault {
+    ghost from_gives = { λ _ fault. fault ≡ Memory };
+
+    fn from(_: AllocError) -> Self {
+        PublishFault::Memory
+    }
+}
+
+impl fmt::Display for PublishFault {
+    fn fmt<W: fmt::Write>(&self, f: &mut fmt::Formatter<W>) -> fmt::Result {
+        f.write_str(match self {
+            PublishFault::Full => "a queue is full",
+            PublishFault::Memory => "out of memory",
+        })
+    }
+}
+
+/// What one subscriber has still to receive: at most so many messages, with room for all of them.
+#[derive(Drop)]
+pub struct Queue<'b, B: Backend> {
+    messages: VecDeque<HipByt<'b, B>>,
+    limit: usize,
+}
+
+impl<'b, B: Backend> Model for Queue<'b, B> {
+    ghost use Rattle.std.specs.Prelude.{◌≤◌, length, map};
+    ghost use Rattle.std.specs.VecDeque.{deque_capacity};
+    ghost use Rattle.hip_uses.specs.Waiting.{Waiting, bytes_of};
+
+    ghost Value = { Waiting };
+
+    ghost view = { λ queue.
+        record { messages = map bytes_of queue.messages.items; limit = queue.limit } };
+
+    ghost invariant = { λ queue. (length queue.messages.items ≤ queue.limit)
+        × (queue.limit ≤ deque_capacity queue.messages) };
+}
+
+impl<'b, B: Backend> Queue<'b, B> {
+    /// A queue of at most so many messages.
+    pub fn new(alloc: Global, limit: usize) -> Result<Self, AllocError>
+        ensures { IfOk result (λ queue. queue ≡ record { messages = []; limit = limit }) }
+    {
+        let messages = VecDeque::with_capacity(alloc, limit)?;
+        Ok(Queue { messages, limit })
+    }
+
+    pub fn is_full(&self) -> bool
+        ensures { MatchBool result (IsFull self.now) (HasRoom self.now) }
+    {
+        self.messages.len() >= self.limit
+    }
+
+    /// Puts a message at the end.
+    pub fn push(&mut self, message: HipByt<'b, B>)
+        requires { HasRoom self.old }
+        ensures { self.new ≡ with_message message.entry.items self.old }
+    {
+        self.messages.push_back_reserved(message);
+    }
+
+    /// Takes the first message, if there is one.
+    pub fn receive(&mut self) -> Option<HipByt<'b, B>>
+        ensures first { MatchOption result (self.old.messages ≡ [])
+            (λ message. self.old.messages ≡ message.items ∷ self.new.messages) }
+        ensures limit { self.new.limit ≡ self.old.limit }
+    {
+        self.messages.pop_front()
+    }
+}
+
+fn any_full<B: Backend>(queues: &[Queue<'_, B>]) -> bool
+    ensures full { IsTrue result ↔ Any IsFull queues.now }
+    ensures room { OnFalse result (All HasRoom queues.now) }
+{
+    for queue in queues {
+        if queue.is_full() {
+            return true;
+        }
+    }
+    false
+}
+
+/// So many clones of a message.
+fn clones_of<'b, B: Backend>(
+    alloc: Global,
+    message: &HipByt<'b, B>,
+    count: usize,
+    meter: &mut Meter,
+) -> Result<Vec<HipByt<'b, B>>, AllocError>
+    ensures count { IfOk result (λ clones. vec_len clones ≡ count) }
+    ensures equal { IfOk result (λ clones.
+        All (λ clone. clone.items ≡ message.now.items) clones.items) }
+    ensures shared { B.SHARES ≡ true → RisesAtMost meter.old meter.new (23 * count) }
+{
+    let mut clones = Vec::new(alloc);
+    while clones.len() < count {
+        clones.push(message.clone_metered(alloc, meter)?)?;
+    }
+    Ok(clones)
+}
+
+/// Publishes a message to each subscriber, or to none. Where owners are shared, each clone copies
+/// at most the 23 bytes that a handle holds in itself.
+pub fn publish<'b, B: Backend>(
+    alloc: Global,
+    queues: &mut [Queue<'b, B>],
+    message: &HipByt<'b, B>,
+    meter: &mut Meter,
+) -> Result<(), PublishFault>
+    ensures published { OnOk result (queues.new ≡ all_with message.now.items queues.old) }
+    ensures refused { OnErr result (queues.new ≡ queues.old) }
+    ensures full { IsErrOf result Full ↔ Any IsFull queues.old }
+    ensures shared { B.SHARES ≡ true →
+        RisesAtMost meter.old meter.new (23 * length queues.old) }
+{
+    if any_full(queues) {
+        return Err(PublishFault::Full);
+    }
+    let mut clones = clones_of(alloc, message, queues.len(), meter)?;
+    for queue in queues.iter_mut() {
+        let Some(clone) = clones.pop() else {
+            unreachable!();
+        };
+        queue.push(clone);
+    }
+    Ok(())
+}

@@ -1,0 +1,118 @@
+//! Tables: a header names the columns of the rows below it, a line each.
+ghost use Rattle.std.specs.Prelude.{◌≡◌, ◌∷◌, All, IfErr, IfOk, MatchOption, length};
+ghost use Rattle.hip_fields.specs.Records.{records_of};
+ghost use Rattle.hip_uses.specs.Cells.{HasCell, HasNoCell, IsFirstAt, IsNoColumn, ReadFails};
+ghost use Rattle.hip_uses.specs.declared.table.TableFault.TheVariants.{Memory};
+
+use hip_fields::records;
+use hipstr::Backend;
+use hipstr::string::HipStr;
+use std::alloc::{AllocError, Global};
+use std::fmt;
+use std::marker::Model;
+
+/// Why a text is no table.
+#[derive(Clone, Copy, Debug, PartialEq, Eq)]
+pub enum TableFault {
+    /// It has no line.
+    Empty,
+    /// This line, counted from 1, has another number of fields than the header.
+    Ragged(usize),
+    Memory,
+}
+
+impl From<AllocError> for TableFault {
+    ghost from_gives = { λ _ fault. fault ≡ Memory };
+
+    fn from(_: AllocError) -> Self {
+        TableFault::Memory
+    }
+}
+
+impl fmt::Display for TableFault {
+    fn fmt<W: fmt::Write>(&self, f: &mut fmt::Formatter<W>) -> fmt::Result {
+        match self {
+            TableFault::Empty => f.write_str("no header"),
+            TableFault::Ragged(line) => write!(
+                f,
+                "line {line}: another number of fields than the header"
+            ),
+            TableFault::Memory => f.write_str("out of memory"),
+        }
+    }
+}
+
+/// A header, and rows of as many fields.
+#[derive(Drop)]
+pub struct Table<'b, B: Backend> {
+    header: Vec<HipStr<'b, B>>,
+    rows: Vec<Vec<HipStr<'b, B>>>,
+}
+
+impl<'b, B: Backend> Model for Table<'b, B> {
+    ghost use Rattle.std.specs.Prelude.{◌≡◌, All, map, vec_len};
+    ghost use Rattle.hip_uses.specs.Cells.{Cells, texts_of};
+
+    ghost Value = { Cells };
+
+    ghost view = { λ table. record {
+      header = texts_of table.header.items;
+      rows = map (λ row. texts_of row.items) table.rows.items;
+    } };
+
+    ghost invariant = { λ table.
+        All (λ row. vec_len row ≡ vec_len table.header) table.rows.items };
+}
+
+impl<'b, B: Backend> Table<'b, B> {
+    /// Reads a table. The first line is the header.
+    pub fn read(alloc: Global, source: &HipStr<'b, B>, separator: char) -> Result<Self, TableFault>
+        ensures read { IfOk result (λ table.
+            table.header ∷ table.rows ≡ records_of separator source.now.items) }
+        ensures even { IfOk result (λ table.
+            All (λ row. length row ≡ length table.header) table.rows) }
+        ensures fault { IfErr result (ReadFails (records_of separator source.now.items)) }
+    {
+        let mut rows = records(alloc, source, separator)?;
+        if rows.is_empty() {
+            return Err(TableFault::Empty);
+        }
+        let header = rows.remove(0);
+        for (i, row) in rows.iter().enumerate() {
+            if row.len() != header.len() {
+                return Err(TableFault::Ragged(i + 2));
+            }
+        }
+        Ok(Table { header, rows })
+    }
+
+    /// How many rows there are below the header.
+    pub fn len(&self) -> usize
+        ensures { result ≡ length self.now.rows }
+    {
+        self.rows.len()
+    }
+
+    /// Which column has this name, the first where several have it.
+    pub fn column(&self, name: &str) -> Option<usize>
+        ensures { MatchOption result (IsNoColumn self.now.header name.now)
+            (IsFirstAt self.now.header name.now) }
+    {
+        for (place, column) in self.header.iter().enumerate() {
+            if column.str_eq(name) {
+                return Some(place);
+            }
+        }
+        None
+    }
+
+    /// The cell of a row in the column of this name.
+    pub fn cell(&self, row: usize, name: &str) -> Option<&HipStr<'b, B>>
+        ensures { MatchOption result (HasNoCell self.now row name.now)
+            (λ cell. HasCell self.now row name.now cell.now.items) }
+    {
+        let place = self.column(name)?;
+        let fields = self.rows.get(row)?;
+        Some(&fields[place])
+    }
+}

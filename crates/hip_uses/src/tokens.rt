@@ -1,0 +1,88 @@
+//! Tokens: a source is cut into the longest runs of one class, each a part of the source at its place.
+ghost use Rattle.std.specs.Prelude.{◌≡◌, ◌↔◌, ◌*◌, ◌<◌, length, slice_index, true};
+ghost use Rattle.std.specs.Prelude.{All, IfOk, IsTrue};
+ghost use Rattle.std.specs.List.{flat_map};
+ghost use Rattle.std.specs.Str.{IsCharBoundary};
+ghost use Rattle.hipstr.specs.Meter.{RisesAtMost};
+ghost use Rattle.hip_uses.specs.Token.{IsRun, IsTokenOf, bytes_of, class_of};
+
+use hipstr::string::HipStr;
+use hipstr::{Backend, Meter};
+use std::alloc::{AllocError, Global};
+
+/// What stands together. A character that isn't ASCII belongs to a word.
+#[derive(Clone, Copy, Debug, PartialEq, Eq)]
+pub enum Class {
+    Word,
+    Digits,
+    Space,
+    Mark,
+}
+
+#[derive(Drop)]
+pub struct Token<'b, B: Backend> {
+    pub class: Class,
+    /// Where it begins in the source.
+    pub start: usize,
+    pub text: HipStr<'b, B>,
+}
+
+fn class_of(byte: u8) -> Class
+    ensures { result ≡ class_of byte }
+{
+    if byte >= 0x80 || byte.is_ascii_alphabetic() || byte == b'_' {
+        Class::Word
+    } else if byte.is_ascii_digit() {
+        Class::Digits
+    } else if byte.is_ascii_whitespace() {
+        Class::Space
+    } else {
+        Class::Mark
+    }
+}
+
+fn is_of(byte: u8, class: Class) -> bool
+    ensures { IsTrue result ↔ (class_of byte ≡ class) }
+{
+    class_of(byte) == class
+}
+
+/// Where the run that begins at `start` ends.
+fn run_end(text: &str, start: usize, class: Class) -> usize
+    requires bound { start < length text.now }
+    requires class { class_of (slice_index text.now start) ≡ class }
+    ensures run { IsRun text.now class start result }
+    ensures boundary { IsCharBoundary text.now result }
+{
+    let bytes = text.as_bytes();
+    let mut end = start + 1;
+    while end < bytes.len() && is_of(bytes[end], class) {
+        end += 1;
+    }
+    end
+}
+
+/// The tokens of a source. Where owners are shared, each copies at most the 23 bytes that a handle
+/// holds in itself.
+pub fn tokens<'b, B: Backend>(
+    alloc: Global,
+    source: &HipStr<'b, B>,
+    meter: &mut Meter,
+) -> Result<Vec<Token<'b, B>>, AllocError>
+    ensures joined { IfOk result (λ tokens. flat_map bytes_of tokens.items ≡ source.now.items) }
+    ensures each { IfOk result (λ tokens. All (IsTokenOf source.now) tokens.items) }
+    ensures shared { B.SHARES ≡ true → IfOk result (λ tokens.
+        RisesAtMost meter.old meter.new (23 * length tokens.items)) }
+{
+    let whole = source.as_str();
+    let mut tokens = Vec::new(alloc);
+    let mut start = 0;
+    while start < whole.len() {
+        let class = class_of(whole.as_bytes()[start]);
+        let end = run_end(whole, start, class);
+        let text = source.part_metered(alloc, start, end, meter)?;
+        tokens.push(Token { class, start, text })?;
+        start = end;
+    }
+    Ok(tokens)
+}
