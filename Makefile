@@ -32,10 +32,15 @@ $(PLAY): $(call sources,hip_play) $(call below,hip_play)
 vendor:
 	@scripts/vendor.sh "$(INTO)"
 
-# The gate: every proof from nothing, every must-fail edit, every test, every program. Four checks at a time, each in one process: a check
+# The README's program, in a repository of its own, before anything is proved.
+.PHONY: check-readme
+check-readme:
+	@scripts/check-readme.sh
+
+# The gate: the README's program, and then every proof from nothing, every must-fail edit, every test, every program. Four checks at a time, each in one process: a check
 # in several takes up to a third more processor time.
 .PHONY: test
-test:
+test: check-readme
 	@bash -c 'TIMEFORMAT="The gate took %U processor seconds, %S more in the system, and %R of wall time."; time RT_JOBS=$${RT_JOBS:-4} rt ci'
 
 # The unit that the gate's processor time is told in (docs/BENCHMARKS.md), on this machine at this hour.
