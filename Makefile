@@ -37,10 +37,12 @@ vendor:
 check-readme:
 	@scripts/check-readme.sh
 
-# The gate: the README's program, and then every proof from nothing, every must-fail edit, every test, every program. Four checks at a time, each in one process: a check
+# The gate: the README's program, the contracts that CALLING.md quotes, and then every proof from nothing, every must-fail edit, every
+# test, every program. Four checks at a time, each in one process: a check
 # in several takes up to a third more processor time.
 .PHONY: test
 test: check-readme
+	@docs/check-calling
 	@bash -c 'TIMEFORMAT="The gate took %U processor seconds, %S more in the system, and %R of wall time."; time RT_JOBS=$${RT_JOBS:-4} rt ci'
 
 # The unit that the gate's processor time is told in (docs/BENCHMARKS.md), on this machine at this hour.
@@ -53,6 +55,17 @@ unit:
 bench:
 	@cd crates/hip_bench && rt lib
 	@bench/run.sh
+
+# Runs hip_tools on each example of examples/tools, on bad input of each kind, and with an output that takes nothing.
+.PHONY: tools
+tools:
+	@cd crates/hip_tools && rt run -- count < /dev/null > /dev/null
+	@scripts/tools.sh
+
+# Measures hip_tools count on 64 MiB, beside the same over hipstr in Rust where HIPSTR_RS names a checkout of it.
+.PHONY: count
+count:
+	@bench/count.sh
 
 # Measures the walks over the ranges of a text beside Rust's `str`.
 .PHONY: walks

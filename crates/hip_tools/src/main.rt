@@ -1,0 +1,36 @@
+//! `hip_tools TOOL ..` reads a text from standard input and writes what the tool makes of it; [`tool::USAGE`] lists the tools.
+//!
+//! What the tools do is in `hip_uses`: tokens, tables, templates and an interner of words.
+#![tactic(auto)]
+
+mod count;
+mod fault;
+mod perform;
+mod tool;
+
+use fault::ToolFault;
+use perform::perform;
+use std::process::ExitCode;
+use std::{env, io};
+use tool::Tool;
+
+fn main(rt: HostRuntime) -> ExitCode {
+    match run(&rt) {
+        Ok(()) => ExitCode::SUCCESS,
+        Err(fault) => {
+            // There is nowhere left to tell that this line could not be written.
+            let _ = eprintln!(rt; "{fault}");
+            ExitCode::from(fault.status())
+        }
+    }
+}
+
+/// Performs the tool that the arguments name.
+fn run(rt: &HostRuntime) -> Result<(), ToolFault> {
+    let mut words = Vec::new(rt.alloc());
+    for word in env::args(rt).map_err(|_| ToolFault::Usage)?.skip(1) {
+        words.push(word)?;
+    }
+    let tool = Tool::read(words.as_slice())?;
+    perform(rt.alloc(), tool, rt.reader(), io::writer(rt))
+}
