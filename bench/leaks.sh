@@ -1,7 +1,8 @@
 #!/bin/sh
 # leaks.sh [LINES] [SEED]   Runs hip_play over a random script under valgrind, on `Rc` and on `Unique`, and each test of the crates whose
-# tests `rt test` has built. It fails at an invalid access or a leak. `make leaks` runs it. The programs are built in a copy of the crates with
-# what was proved of the libraries; that on `Unique` differs in one word of main.rt.
+# tests `rt test` has built, two of those of hip_refused_tests once more with each request for memory refused in turn. It fails at an invalid
+# access or a leak. `make leaks` runs it. The programs are built in a copy of the crates with what was proved of the libraries; that on
+# `Unique` differs in one word of main.rt.
 set -eu
 cd "$(dirname "$0")/.."
 lines=${1:-20000} seed=${2:-1}
@@ -30,4 +31,11 @@ for program in crates/*/out/*_tests; do
         $watched "$program" "$test" > /dev/null || { echo "$program $test"; exit 1; }
     done
     echo "$program: $(echo "$tests" | wc -l) tests, no invalid access, no leak"
+done
+program=crates/hip_refused_tests/out/hip_refused_tests_tests
+[ -x "$program" ] || exit 0
+${CC:-cc} -O2 -shared -fPIC -ftls-model=initial-exec -o "$room/refuse.so" bench/refuse.c
+for test in lists::list_of_each_command types::calls_of_byte_strings; do
+    LD_PRELOAD="$room/refuse.so" $watched --soname-synonyms=somalloc=nouserintercepts "$program" "$test" > /dev/null 2> "$room/told" || { cat "$room/told"; exit 1; }
+    echo "$test: $(tail -n 1 "$room/told") on either backend, no invalid access, no leak"
 done

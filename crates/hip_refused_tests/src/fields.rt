@@ -1,26 +1,13 @@
 //! Records of fields: want of memory is told just where a request was refused, and the text is as it was.
+use crate::held::{EACH_HELD, Held};
 use crate::refusing::{each, must, refuse, was_refused};
-use hip_cuts::hip_match::ranges::Ranges;
-use hip_cuts::{Backend, HipStr, Kind, Meter, Rc, Unique};
 use hip_fields::reader::Records;
 use hip_fields::records;
+use hipstr::pattern::Ranges;
+use hipstr::string::HipStr;
+use hipstr::{Backend, Kind, Meter, Rc, Unique};
 use std::alloc::Global;
 use std::process::Abort;
-
-/// How a text is held.
-#[derive(Clone, Copy)]
-enum Held {
-    /// By an owner that no other handle has.
-    Sole,
-    /// By one that a clone has too.
-    Shared,
-    /// By what lends it.
-    Lent,
-    /// In the handle itself.
-    Inline,
-}
-
-const EACH_HELD: &[Held] = &[Held::Sole, Held::Shared, Held::Lent, Held::Inline];
 
 /// Two lines, with fields of 30 bytes and of few.
 const LONG: &str = "aaaaaaaaaaaaaaaaaaaaaaaaaaaaaa,b,c,d,e,f\nbbbbbbbbbbbbbbbbbbbbbbbbbbbbbb,,a\n";

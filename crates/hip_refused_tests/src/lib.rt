@@ -2,14 +2,37 @@
 //! `bench/refuse.c` before the C library, which carries out the orders of `refusing`, and so runs it once for each of its requests.
 //!
 //! - `refusing`: the orders, and the loop over them.
+//! - `lists`: lists of commands, and each command by itself.
+//! - `types`: the calls of each type, in tables.
+//! - `walks`: walks over the pieces of a text.
 //! - `fields`: records of fields, gathered and drawn.
+//! - `plays`: a script.
+//! - `rows`: calls that make no request, so that none can be refused.
+//!
+//! `calls` runs a call and compares what it left; `handle` is what it asks of each type, and `held` how values are held.
 //!
 //! A scenario is a function of the number of the request that is refused. It makes its values, gives the order, calls, asks whether the
 //! order was carried out, and compares what the call answered and left with what it has to be either way. So an answer of want of memory
-//! fails it where no request was refused.
+//! fails it where no request was refused. A test whose name ends in `take_none` or `takes_none` meets no request; each other meets some.
 #![tactic(auto)]
 
 #[cfg(test)]
+mod calls;
+#[cfg(test)]
 mod fields;
 #[cfg(test)]
+mod handle;
+#[cfg(test)]
+mod held;
+#[cfg(test)]
+mod lists;
+#[cfg(test)]
+mod plays;
+#[cfg(test)]
 mod refusing;
+#[cfg(test)]
+mod rows;
+#[cfg(test)]
+mod types;
+#[cfg(test)]
+mod walks;

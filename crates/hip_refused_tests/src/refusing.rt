@@ -19,15 +19,23 @@ pub(crate) fn was_refused(alloc: Global) -> bool {
     Vec::<u8>::with_capacity(alloc, 1).is_err()
 }
 
-/// Runs a scenario with its first request refused, then its second, and so on, until it says that none was.
-pub(crate) fn each<F: Fn(usize) -> bool>(scenario: F)
+/// Whether orders are carried out.
+pub(crate) fn is_refusing(alloc: Global) -> bool {
+    refuse(alloc, 1);
+    let is_refused = Vec::<u8>::with_capacity(alloc, 1).is_err();
+    is_refused & was_refused(alloc)
+}
+
+/// Runs a scenario with its first request refused, then its second, and so on, until it says that none was. Answers how many were.
+pub(crate) fn each<F: Fn(usize) -> bool>(scenario: F) -> usize
     requires { F.IsAlwaysCallable scenario }
 {
     for k in 1..MOST {
         if !scenario(k) {
-            return;
+            return k - 1;
         }
     }
+    MOST
 }
 
 /// The value, or the end of the test where it was refused.

@@ -1,0 +1,84 @@
+//! Long values that are shared, and room that is filled: no request is made, so none can be refused.
+use crate::refusing::{must, refuse, was_refused};
+use hipstr::bytes::HipByt;
+use hipstr::string::{HipStr, TextCuts};
+use hipstr::{Backend, Kind, Meter, Rc, Unique};
+use std::alloc::Global;
+use std::process::Abort;
+
+/// 30 letters and a comma.
+const FIELD: &str = "aaaaaaaaaaaaaaaaaaaaaaaaaaaaaa,";
+
+/// The text of a hundred such fields, in 3,100 bytes.
+fn many<B: Backend>(rt: &impl Abort, alloc: Global) -> HipStr<'static, B> {
+    let fields = HipStr::<B>::borrowed(FIELD).repeat(alloc, 100);
+    must(rt, fields)
+}
+
+/// How many pieces there are of 30 bytes, and of none, and how many of all that were drawn.
+fn drawn<B: Backend>(
+    text: &HipStr<'_, B>,
+    alloc: Global,
+    meter: &mut Meter,
+) -> (usize, usize, usize) {
+    let (mut long, mut empty, mut all) = (0usize, 0usize, 0usize);
+    let mut pieces = text.split(alloc, ',');
+    for _ in 0..200 {
+        match pieces.next_metered(meter) {
+            Some(Ok(piece)) => {
+                all = all.saturating_add(1);
+                if piece.len() == 30 {
+                    long = long.saturating_add(1);
+                } else if piece.is_empty() {
+                    empty = empty.saturating_add(1);
+                }
+            }
+            Some(Err(_)) => return (long, empty, 0),
+            None => return (long, empty, all),
+        }
+    }
+    (long, empty, all)
+}
+
+/// Its clone, its bytes from 100 to 3,000, and its fields, with how many bytes are copied for all of these.
+fn cut<B: Backend>(rt: &impl Abort, alloc: Global, text: &HipStr<'_, B>) -> u128 {
+    let mut meter = Meter::new();
+    let clone = must(rt, text.clone_metered(alloc, &mut meter));
+    let slice = must(
+        rt,
+        text.try_slice_metered(alloc, 100..3000, &mut meter)
+            .or(Err("no range")),
+    );
+    let pieces = drawn(text, alloc, &mut meter);
+    assert_eq!(rt;
+        (clone.len(), slice.len(), slice.kind(), pieces),
+        (3100, 2900, Kind::Allocated, (100, 1, 101))
+    );
+    meter.copied()
+}
+
+/// A body that copies past the counter, or keeps a vector for each handle, meets a refusal here.
+#[test]
+fn long_values_shared_take_none(rt: HostRuntime) {
+    let text = many::<Rc>(&rt, rt.alloc());
+    refuse(rt.alloc(), 1);
+    let copied = cut(&rt, rt.alloc(), &text);
+    assert_eq!(&rt; (was_refused(rt.alloc()), copied), (false, 0));
+    let text = many::<Unique>(&rt, rt.alloc());
+    assert!(&rt; cut(&rt, rt.alloc(), &text) <= 9_000);
+}
+
+/// Appends that fit, and a loan for writing.
+#[test]
+fn room_filled_takes_none(rt: HostRuntime) {
+    let mut handle = must(&rt, HipByt::<Unique>::with_capacity(rt.alloc(), 64));
+    let room = handle.capacity();
+    refuse(rt.alloc(), 1);
+    must(&rt, handle.push_slice(rt.alloc(), &[b'x'; 30]));
+    must(&rt, handle.push_slice(rt.alloc(), &[b'y'; 34]));
+    let lent = must(&rt, handle.to_mut_slice(rt.alloc())).len();
+    assert_eq!(&rt;
+        (was_refused(rt.alloc()), lent, handle.capacity()),
+        (false, 64, room)
+    );
+}

@@ -1,0 +1,235 @@
+//! Walks over the pieces of a text. One that is refused is an error, and has been passed: those behind it are given.
+use crate::held::{EACH_HELD, Held, PART, TEXT};
+use crate::refusing::{each, is_refusing, must, refuse, was_refused};
+use hipstr::pattern::{RangesBack, Split};
+use hipstr::string::{HipStr, IterWrapper, TextCuts, Unnumbered};
+use hipstr::{Backend, Rc, Unique};
+use std::alloc::{AllocError, Global};
+use std::process::Abort;
+
+/// A walk.
+#[derive(Clone, Copy, Debug)]
+enum Walk {
+    Split,
+    SplitInclusive,
+    SplitTerminator,
+    SplitN,
+    Matches,
+    MatchIndices,
+    RSplit,
+    RSplitTerminator,
+    RSplitN,
+    RMatches,
+    RMatchIndices,
+    Lines,
+    SplitWhitespace,
+    SplitAsciiWhitespace,
+    PiecesAt,
+    SplitFromBack,
+}
+
+const WALKS: &[Walk] = &[
+    Walk::Split,
+    Walk::SplitInclusive,
+    Walk::SplitTerminator,
+    Walk::SplitN,
+    Walk::Matches,
+    Walk::MatchIndices,
+    Walk::RSplit,
+    Walk::RSplitTerminator,
+    Walk::RSplitN,
+    Walk::RMatches,
+    Walk::RMatchIndices,
+    Walk::Lines,
+    Walk::SplitWhitespace,
+    Walk::SplitAsciiWhitespace,
+    Walk::PiecesAt,
+    Walk::SplitFromBack,
+];
+
+/// How many items a walk gave, and how many of them were errors.
+#[derive(Clone, Copy, Debug, PartialEq, Eq)]
+struct Tally {
+    items: usize,
+    errors: usize,
+}
+
+impl Tally {
+    fn none() -> Self {
+        Tally {
+            items: 0,
+            errors: 0,
+        }
+    }
+
+    /// Counts an item.
+    fn count<T: Drop>(&mut self, item: Result<T, AllocError>) {
+        self.items = self.items.saturating_add(1);
+        if item.is_err() {
+            self.errors = self.errors.saturating_add(1);
+        }
+    }
+}
+
+fn given<'h, 'b, B: Backend, I: Unnumbered + Drop>(pieces: IterWrapper<'h, 'b, B, I>) -> Tally {
+    let mut tally = Tally::none();
+    for piece in pieces {
+        tally.count(piece);
+    }
+    tally
+}
+
+fn given_from_back<'h, 'b, B: Backend, I: Unnumbered + RangesBack + Drop>(
+    pieces: IterWrapper<'h, 'b, B, I>,
+) -> Tally {
+    let mut tally = Tally::none();
+    for piece in pieces.rev() {
+        tally.count(piece);
+    }
+    tally
+}
+
+fn walked<B: Backend>(text: &HipStr<'_, B>, alloc: Global, walk: Walk) -> Tally {
+    match walk {
+        Walk::Split => given(text.split(alloc, ',')),
+        Walk::SplitInclusive => given(text.split_inclusive(alloc, ',')),
+        Walk::SplitTerminator => given(text.split_terminator(alloc, ",")),
+        Walk::SplitN => given(text.splitn(alloc, 2, ',')),
+        Walk::Matches => given(text.matches(alloc, PART)),
+        Walk::RSplit => given(text.rsplit(alloc, ',')),
+        Walk::RSplitTerminator => given(text.rsplit_terminator(alloc, ',')),
+        Walk::RSplitN => given(text.rsplitn(alloc, 2, ',')),
+        Walk::RMatches => given(text.rmatches(alloc, PART)),
+        Walk::Lines => given(text.lines(alloc)),
+        Walk::SplitWhitespace => given(text.split_whitespace(alloc)),
+        Walk::SplitAsciiWhitespace => given(text.split_ascii_whitespace(alloc)),
+        Walk::SplitFromBack => given_from_back(text.split(alloc, ',')),
+        _ => walked_with_places(text, alloc, walk),
+    }
+}
+
+fn walked_with_places<B: Backend>(text: &HipStr<'_, B>, alloc: Global, walk: Walk) -> Tally {
+    let mut tally = Tally::none();
+    match walk {
+        Walk::MatchIndices => {
+            for (_, found) in text.match_indices(alloc, PART) {
+                tally.count(found);
+            }
+        }
+        Walk::RMatchIndices => {
+            for (_, found) in text.rmatch_indices(alloc, PART) {
+                tally.count(found);
+            }
+        }
+        _ => {
+            for (_, piece) in text.pieces_at(alloc, Split::new(text.as_str(), ',')) {
+                tally.count(piece);
+            }
+        }
+    }
+    tally
+}
+
+/// A text that is held so, and its clone.
+fn made<B: Backend>(
+    rt: &impl Abort,
+    alloc: Global,
+    held: Held,
+) -> (HipStr<'static, B>, Option<HipStr<'static, B>>) {
+    let text = match held {
+        Held::Inline => HipStr::borrowed(" a,")
+            .into_owned(alloc)
+            .unwrap_or_default(),
+        Held::Lent => HipStr::borrowed(TEXT),
+        _ => must(rt, HipStr::from_str(alloc, TEXT)),
+    };
+    let clone = match held {
+        Held::Shared => Some(must(rt, text.clone(alloc))),
+        _ => None,
+    };
+    (text, clone)
+}
+
+/// As many items are given whatever is refused, and one of them is an error where a request was.
+fn is_walked<B: Backend>(rt: &impl Abort, alloc: Global, held: Held, walk: Walk, k: usize) -> bool {
+    let (text, _clone) = made::<B>(rt, alloc, held);
+    let wanted = walked(&text, alloc, walk);
+    refuse(alloc, k);
+    let given = walked(&text, alloc, walk);
+    let refused = was_refused(alloc);
+    assert_eq!(rt;
+        (wanted.errors, given.items, given.errors),
+        (0, wanted.items, refused as usize),
+        "{walk:?}"
+    );
+    refused
+}
+
+/// Pieces take memory where owners aren't shared, and there alone.
+fn are_walked<B: Backend>(rt: &impl Abort, alloc: Global, walk: Walk) {
+    let mut refusals = 0usize;
+    for held in EACH_HELD {
+        let met = each(|k| is_walked::<B>(rt, alloc, *held, walk, k));
+        refusals = refusals.saturating_add(met);
+    }
+    let takes_memory = !B::SHARES && is_refusing(alloc);
+    assert_eq!(rt; refusals > 0, takes_memory, "{walk:?}");
+}
+
+#[test]
+fn walks_where_nothing_is_shared(rt: HostRuntime) {
+    for walk in WALKS {
+        are_walked::<Unique>(&rt, rt.alloc(), *walk);
+    }
+}
+
+#[test]
+fn walks_where_owners_are_shared_take_none(rt: HostRuntime) {
+    for walk in WALKS {
+        are_walked::<Rc>(&rt, rt.alloc(), *walk);
+    }
+}
+
+/// The three parts between commas.
+const PIECES: [&str; 3] = [
+    "aaaaaaaaaaaaaaaaaaaaaaaaaaaaaa",
+    "bbbbbbbbbbbbbbbbbbbbbbbbbbbbbb",
+    "cccccccccccccccccccccccccccccc",
+];
+
+const LINE: &str =
+    "aaaaaaaaaaaaaaaaaaaaaaaaaaaaaa,bbbbbbbbbbbbbbbbbbbbbbbbbbbbbb,cccccccccccccccccccccccccccccc";
+
+/// Whether an item is the `i`-th piece, or, if that one was refused, an error.
+fn is_piece<B: Backend>(
+    item: Option<Result<HipStr<'_, B>, AllocError>>,
+    i: usize,
+    is_lost: bool,
+) -> bool {
+    match (item, PIECES.get(i)) {
+        (Some(Ok(piece)), Some(text)) => piece.str_eq(text) & !is_lost,
+        (Some(Err(_)), _) => is_lost,
+        _ => false,
+    }
+}
+
+/// The `k`-th request is for the `k`-th piece, and the piece after it is the next.
+fn is_passed(rt: &impl Abort, alloc: Global, k: usize) -> bool {
+    let text = must(rt, HipStr::<Unique>::from_str(alloc, LINE));
+    let mut pieces = text.split(alloc, ',');
+    refuse(alloc, k);
+    let (first, second, third) = (pieces.next(), pieces.next(), pieces.next());
+    let refused = was_refused(alloc);
+    let is_so = is_piece(first, 0, refused & (k == 1))
+        & is_piece(second, 1, refused & (k == 2))
+        & is_piece(third, 2, refused & (k == 3));
+    assert!(rt; is_so & pieces.next().is_none());
+    refused
+}
+
+#[test]
+fn refused_piece_is_passed(rt: HostRuntime) {
+    let met = each(|k| is_passed(&rt, rt.alloc(), k));
+    let wanted = if is_refusing(rt.alloc()) { 3 } else { 0 };
+    assert_eq!(&rt; met, wanted);
+}
