@@ -19,7 +19,9 @@ fn parts<'b, B: Backend, P: Pattern>(
     pattern: P,
 ) -> Result<Vec<HipStr<'b, B>>, AllocError>
     requires { P.can_search pattern }
-    ensures { IfOk result (λ parts. AreParts text.now (split (P.ends pattern text.now.items) (length text.now.items)) parts.items) }
+    ensures { IfOk result
+        (λ parts. AreParts text.now
+        (split (P.ends pattern text.now.items) (length text.now.items)) parts.items) }
 {
     text.split(alloc, pattern).collect()
 }
@@ -29,7 +31,9 @@ fn fields<'b, B: Backend>(
     alloc: Global,
     line: &HipStr<'b, B>,
 ) -> Result<Vec<HipStr<'b, B>>, AllocError>
-    ensures { IfOk result (λ fields. AreParts line.now (split (char_ends (λ c. c == 44) line.now.items) (length line.now.items)) fields.items) }
+    ensures { IfOk result
+        (λ fields. AreParts line.now
+        (split (char_ends (λ c. c == 44) line.now.items) (length line.now.items)) fields.items) }
 {
     parts(alloc, line, ',')
 }
@@ -52,7 +56,9 @@ fn between_digits<'b, B: Backend>(
 
 /// How many fields a line has.
 fn count_fields<'b, B: Backend>(alloc: Global, line: &HipStr<'b, B>) -> Result<usize, AllocError>
-    ensures { IfOk result (λ count. count ≡ length (split (char_ends (λ c. c == 44) line.now.items) (length line.now.items))) }
+    ensures { IfOk result
+        (λ count. count
+        ≡ length (split (char_ends (λ c. c == 44) line.now.items) (length line.now.items))) }
 {
     let fields = line.split(alloc, ',').collect()?;
     Ok(fields.len())

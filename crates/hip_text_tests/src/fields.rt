@@ -34,7 +34,10 @@ pub(crate) fn has_fields<'b, B: Backend>(
     count: usize,
     alloc: Global,
 ) -> Result<bool, AllocError>
-    ensures { IfOk result (λ has. IsTrue has ↔ (length (split (char_ends (λ c. c == 44) line.now.items) (length line.now.items)) ≡ count)) }
+    ensures { IfOk result
+        (λ has. IsTrue has
+        ↔ (length (split (char_ends (λ c. c == 44) line.now.items) (length line.now.items)) ≡
+        count)) }
 {
     let mut fields = line.split(alloc, ',');
     for _ in 0..count {
