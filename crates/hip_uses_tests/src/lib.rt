@@ -1,0 +1,19 @@
+//! Tests of hip_uses, from outside: the printed texts, that calls succeed where there is memory, and values that come from elsewhere.
+//! Each use has a table, whose rows one loop runs on either backend.
+//!
+//! - `support`: how a table is run.
+//! - `template`, `tokens`, `queue`, `intern`, `table`: one use each.
+#![tactic(auto)]
+
+#[cfg(test)]
+mod intern;
+#[cfg(test)]
+mod queue;
+#[cfg(test)]
+mod support;
+#[cfg(test)]
+mod table;
+#[cfg(test)]
+mod template;
+#[cfg(test)]
+mod tokens;

@@ -1,0 +1,74 @@
+//! Two queues of two messages each: at `0` and `1` that subscriber receives, any other character is published.
+use crate::support::is;
+use hip_uses::queue::{PublishFault, Queue, publish};
+use hipstr::bytes::HipByt;
+use hipstr::{Backend, Meter, Rc, Unique};
+use std::alloc::{AllocError, Global};
+
+const ROWS: [(&str, &str); 5] = [
+    ("", ""),
+    ("0", "none\n"),
+    ("ab010101", "published\npublished\na\na\nb\nb\nnone\nnone\n"),
+    (
+        "abc0c1d0",
+        "published\npublished\na queue is full\na\na queue is full\na\npublished\nb\n",
+    ),
+    ("a0b1", "published\na\npublished\na\n"),
+];
+
+fn received<B: Backend>(alloc: Global, queue: &mut Queue<'_, B>) -> Result<String, AllocError> {
+    match queue.receive() {
+        Some(message) => String::from_utf8_lossy(alloc, message.as_slice()),
+        None => String::from_str(alloc, "none"),
+    }
+}
+
+fn told(alloc: Global, published: Result<(), PublishFault>) -> Result<String, AllocError> {
+    match published {
+        Ok(()) => String::from_str(alloc, "published"),
+        Err(fault) => format!(in alloc; "{fault}"),
+    }
+}
+
+fn two_queues<B: Backend>(alloc: Global) -> Result<Vec<Queue<'static, B>>, AllocError> {
+    let mut queues = Vec::new(alloc);
+    for _ in 0..2 {
+        queues.push(Queue::new(alloc, 2)?)?;
+    }
+    Ok(queues)
+}
+
+fn message<B: Backend>(alloc: Global, byte: u8) -> Result<HipByt<'static, B>, AllocError> {
+    HipByt::from_slice(alloc, &[byte])
+}
+
+fn step<B: Backend>(
+    alloc: Global,
+    queues: &mut [Queue<'static, B>],
+    step: u8,
+) -> Result<String, AllocError> {
+    if let Some(queue) = queues.get_mut(usize::from(step.wrapping_sub(b'0'))) {
+        return received(alloc, queue);
+    }
+    let message = message::<B>(alloc, step)?;
+    told(alloc, publish(alloc, queues, &message, &mut Meter::new()))
+}
+
+fn shown<B: Backend>(alloc: Global, steps: &str) -> Result<String, AllocError> {
+    let mut printed = String::new(alloc);
+    let mut queues = two_queues::<B>(alloc)?;
+    for byte in steps.as_bytes() {
+        let line = step(alloc, &mut queues, *byte)?;
+        writeln!(printed, "{line}")?;
+    }
+    Ok(printed)
+}
+
+#[test]
+fn each_subscriber_receives_what_was_published(rt: HostRuntime) {
+    let alloc = rt.alloc();
+    for (steps, wanted) in ROWS {
+        assert!(rt; is(&shown::<Rc>(alloc, steps), wanted), "of {steps:?}");
+        assert!(rt; is(&shown::<Unique>(alloc, steps), wanted), "of {steps:?}");
+    }
+}

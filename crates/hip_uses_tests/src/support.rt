@@ -1,0 +1,10 @@
+//! What the tables are compared by.
+use std::alloc::AllocError;
+
+/// Whether this was printed.
+pub(crate) fn is(printed: &Result<String, AllocError>, wanted: &str) -> bool {
+    match printed {
+        Ok(printed) => printed.as_str() == wanted,
+        Err(AllocError) => false,
+    }
+}

@@ -1,0 +1,54 @@
+//! Templates, filled with `name` and `greeting`.
+use crate::support::is;
+use hip_uses::template::{TemplateFault, Values, fill, parse};
+use hipstr::string::HipStr;
+use hipstr::{Backend, Rc, Unique};
+use std::alloc::{AllocError, Global};
+use std::collections::HashMap;
+
+const ROWS: [(&str, &str); 9] = [
+    ("", ""),
+    ("no hole", "no hole"),
+    ("{{greeting}}, {{name}}!", "Good evening, Ada!"),
+    ("{{name}}{{name}}", "AdaAda"),
+    ("{ {name} } }}", "{ {name} } }}"),
+    ("{{{name}}", "nothing under `{name`"),
+    ("Dear {{nobody}}", "nothing under `nobody`"),
+    ("Dear {{name", "no `}}` in `name`"),
+    ("{{name}} {{ {{name}}", "nothing under ` {{name`"),
+];
+
+fn values<B: Backend>(alloc: Global) -> Result<Values<'static, B>, AllocError> {
+    let mut values = HashMap::new(alloc);
+    for (name, value) in [("name", "Ada"), ("greeting", "Good evening")] {
+        values.insert(HipStr::from_static(name), HipStr::from_static(value))?;
+    }
+    Ok(values)
+}
+
+fn filled<'b, B: Backend>(
+    alloc: Global,
+    text: &HipStr<'b, B>,
+    values: &Values<'b, B>,
+) -> Result<HipStr<'b, B>, TemplateFault<'b, B>> {
+    let template = parse(alloc, text)?;
+    fill(alloc, &template, values)
+}
+
+fn shown<B: Backend>(alloc: Global, text: &str) -> Result<String, AllocError> {
+    let values = values::<B>(alloc)?;
+    let text = HipStr::from_str(alloc, text)?;
+    match filled(alloc, &text, &values) {
+        Ok(text) => format!(in alloc; "{text}"),
+        Err(fault) => format!(in alloc; "{fault}"),
+    }
+}
+
+#[test]
+fn fills_holes(rt: HostRuntime) {
+    let alloc = rt.alloc();
+    for (text, wanted) in ROWS {
+        assert!(rt; is(&shown::<Rc>(alloc, text), wanted), "of {text:?}");
+        assert!(rt; is(&shown::<Unique>(alloc, text), wanted), "of {text:?}");
+    }
+}
