@@ -1,7 +1,7 @@
 //! What hipstr's own tests ask of texts, and the worked rows.
 use crate::groups::{self, Group};
 use crate::text::{Bytes, Text, is, must, reads};
-use hip_text::{Kind, Meter};
+use hip_text::{Backend, HipStr, Kind, Meter, Rc, Unique};
 use std::alloc::Global;
 use std::borrow::CowStr;
 use std::cmp::Ordering;
@@ -22,6 +22,7 @@ enum Way {
 /// A way, the text that it makes here, and where its bytes lie then.
 const WAYS: &[(Way, &str, Kind)] = &[
     (Way::Taken, LONG, Kind::Allocated),
+    (Way::Taken, LETTERS, Kind::Allocated),
     (Way::Copied, "abc", Kind::Inline),
     (Way::Lent, "abc", Kind::Borrowed),
 ];
@@ -47,9 +48,21 @@ fn into_strings<T: Text>(rt: &impl Abort, alloc: Global) {
     }
 }
 
+/// Asserts what bytes hold, and where.
+fn has<T: Text>(rt: &impl Abort, bytes: T::Bytes, text: &str, kind: Kind) {
+    assert_eq!(rt; (bytes.as_slice(), bytes.kind()), (text.as_bytes(), kind));
+}
+
+/// By the call of that name, and by `From`.
 fn into_bytes<T: Text>(rt: &impl Abort, alloc: Global) {
     for (way, text, kind) in WAYS {
-        let bytes = made::<T>(rt, alloc, *way, text).into_bytes();
+        has::<T>(
+            rt,
+            made::<T>(rt, alloc, *way, text).into_bytes(),
+            text,
+            *kind,
+        );
+        let bytes = made::<T>(rt, alloc, *way, text).bytes_from();
         assert_eq!(rt; bytes.kind(), *kind);
         let vec = must(rt, bytes.into_vec_copied(alloc));
         let wanted = text.as_bytes();
@@ -119,6 +132,19 @@ fn outlives<T: Text>(rt: &impl Abort, alloc: Global) {
     is(rt, name, "John", Kind::Inline);
 }
 
+/// The example of hipstr's own README.
+fn example<T: Text>(rt: &impl Abort, alloc: Global) {
+    let hello = T::from_static("Hello world");
+    let clone = must(rt, hello.clone(alloc));
+    is(rt, clone, "Hello world", Kind::Borrowed);
+    let string = must(rt, String::from_str(alloc, "Hello John"));
+    let source = must(rt, T::from_string(alloc, string));
+    let name = must(rt, source.part(alloc, 6, 10));
+    drop(source);
+    assert_eq!(rt; name.as_str().chars().count(), 4);
+    is(rt, name, "John", Kind::Inline);
+}
+
 /// What is pushed at the limit of the handle, how long the text is then, and where it lies.
 type Pushed = (usize, char, usize, Kind);
 
@@ -164,6 +190,7 @@ pub(crate) fn all<T: Text>(rt: &impl Abort, alloc: Global) {
     order::<T>(rt, alloc);
     equality::<T>(rt, alloc);
     outlives::<T>(rt, alloc);
+    example::<T>(rt, alloc);
     pushes::<T>(rt, alloc);
     shortens::<T>(rt, alloc);
 }
@@ -176,4 +203,24 @@ fn on_rc(rt: HostRuntime) {
 #[test]
 fn on_unique(rt: HostRuntime) {
     groups::on_unique(&rt, rt.alloc(), Group::Carried);
+}
+
+/// What borrows from a string stays borrowed, beside what borrows from elsewhere.
+fn stays_borrowed<B: Backend>(rt: &impl Abort, alloc: Global) {
+    let string = must(rt, String::from_str(alloc, "abc"));
+    let text = must(
+        rt,
+        HipStr::<B>::from_cow(alloc, CowStr::Borrowed(string.as_str())),
+    );
+    let both = (text, HipStr::<B>::borrowed("abc"));
+    assert_eq!(rt;
+        (both.0.is_borrowed(), both.1.is_borrowed(), both.0.as_str()),
+        (true, true, "abc")
+    );
+}
+
+#[test]
+fn borrowed_from_a_string(rt: HostRuntime) {
+    stays_borrowed::<Rc>(&rt, rt.alloc());
+    stays_borrowed::<Unique>(&rt, rt.alloc());
 }

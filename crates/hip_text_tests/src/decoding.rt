@@ -43,6 +43,7 @@ const REFUSED: &[Refused] = &[
     (b"\xFE", 0, Some(1)),
     (b"\xFF", 0, Some(1)),
     (b"\xC3\x28", 0, Some(1)),
+    (b"abc\x80", 3, Some(1)),
     // Cut short.
     (b"a\xC3", 1, None),
     (b"\xE2\x82", 0, None),
@@ -76,10 +77,22 @@ fn accepts<T: Text>(rt: &impl Abort, alloc: Global) {
     }
 }
 
-fn refuses<T: Text>(rt: &impl Abort) {
+/// The value is refused, and its clone, and the error's clone is the error.
+fn refuses<T: Text>(rt: &impl Abort, alloc: Global) {
     for (bytes, front, len) in REFUSED {
-        let error = must_refuse(rt, T::from_utf8(T::Bytes::borrowed(bytes)));
+        let value = T::Bytes::borrowed(bytes);
+        let clone = must_refuse(rt, T::from_utf8(must(rt, value.clone(alloc))));
+        let error = must_refuse(rt, T::from_utf8(value));
         assert_eq!(rt; (error.cause(), error.as_bytes()), ((*front, *len), *bytes));
+        let cloned = must(rt, error.clone(alloc));
+        assert_eq!(rt;
+            (clone.is_equal(&error), cloned.is_equal(&error)),
+            (true, true)
+        );
+        assert_eq!(rt;
+            (cloned.cause(), cloned.as_bytes()),
+            ((*front, *len), *bytes)
+        );
     }
 }
 
@@ -116,7 +129,7 @@ fn prints_itself<T: Text>(rt: &impl Abort, alloc: Global) {
 
 pub(crate) fn all<T: Text>(rt: &impl Abort, alloc: Global) {
     accepts::<T>(rt, alloc);
-    refuses::<T>(rt);
+    refuses::<T>(rt, alloc);
     repairs::<T>(rt, alloc);
     repairs_by_length::<T>(rt, alloc);
     prints_itself::<T>(rt, alloc);

@@ -1,55 +1,112 @@
 //! Ranges that are refused, and bytes that aren't a text.
 use crate::groups::{self, Group};
-use crate::text::{Bytes, Refusal, Text, is, must, must_refuse, reads};
+use crate::text::{Bytes, Refusal, Text, Told, is, must, must_refuse, reads};
 use hip_text::{BytesFault, Kind, SliceErrorKind};
 use std::alloc::Global;
 use std::ops::Bound;
 use std::process::Abort;
 
-/// Two bounds that are no range of `aéz` (the bytes 61 C3 A9 7A), and what the error tells of them.
+/// A text, two bounds that are no range of it, and what the error tells of them.
 #[derive(Clone, Copy)]
 struct Refused {
+    source: &'static str,
     bounds: (Bound<usize>, Bound<usize>),
     kind: SliceErrorKind,
+    range: (usize, usize),
     text: &'static str,
 }
 
+/// The bytes 61 C3 A9 7A.
+const THREE: &str = "aéz";
+
+/// The bytes C3 A9.
+const ONE: &str = "é";
+
 const REFUSED: &[Refused] = &[
     Refused {
+        source: THREE,
         bounds: (Bound::Included(5), Bound::Excluded(2)),
         kind: SliceErrorKind::StartOutOfBounds,
+        range: (5, 2),
         text: "range start index 5 is out of bounds of `aéz`",
     },
     Refused {
+        source: THREE,
         bounds: (Bound::Included(2), Bound::Included(usize::MAX)),
         kind: SliceErrorKind::EndOutOfBounds,
+        range: (2, usize::MAX),
         text: "range end index 18446744073709551615 is out of bounds of `aéz`",
     },
     Refused {
+        source: THREE,
         bounds: (Bound::Included(3), Bound::Excluded(2)),
         kind: SliceErrorKind::StartGreaterThanEnd,
+        range: (3, 2),
         text: "range starts at 3 but ends at 2 when slicing `aéz`",
     },
     Refused {
+        source: THREE,
         bounds: (Bound::Excluded(1), Bound::Unbounded),
         kind: SliceErrorKind::StartNotACharBoundary,
+        range: (2, 4),
         text: "range start index 2 is not a char boundary of `aéz`",
     },
     Refused {
+        source: THREE,
         bounds: (Bound::Unbounded, Bound::Included(1)),
         kind: SliceErrorKind::EndNotACharBoundary,
+        range: (0, 2),
         text: "range end index 2 is not a char boundary of `aéz`",
+    },
+    Refused {
+        source: ONE,
+        bounds: (Bound::Included(1), Bound::Unbounded),
+        kind: SliceErrorKind::StartNotACharBoundary,
+        range: (1, 2),
+        text: "range start index 1 is not a char boundary of `é`",
+    },
+    Refused {
+        source: ONE,
+        bounds: (Bound::Included(0), Bound::Excluded(1)),
+        kind: SliceErrorKind::EndNotACharBoundary,
+        range: (0, 1),
+        text: "range end index 1 is not a char boundary of `é`",
+    },
+    Refused {
+        source: ONE,
+        bounds: (Bound::Included(1), Bound::Excluded(3)),
+        kind: SliceErrorKind::EndOutOfBounds,
+        range: (1, 3),
+        text: "range end index 3 is out of bounds of `é`",
+    },
+    Refused {
+        source: ONE,
+        bounds: (Bound::Included(1), Bound::Excluded(1)),
+        kind: SliceErrorKind::StartNotACharBoundary,
+        range: (1, 1),
+        text: "range start index 1 is not a char boundary of `é`",
     },
 ];
 
 fn refuses<T: Text>(rt: &impl Abort, alloc: Global) {
-    let text = T::borrowed("aéz");
     for row in REFUSED {
         let (low, high) = row.bounds;
-        let refusal = must(rt, text.refusal(alloc, low, high));
-        let (kind, said) = must(rt, refusal.ok_or("it is a range"));
-        assert_eq!(rt; (kind, said.as_str()), (row.kind, row.text));
+        let told = must(rt, T::borrowed(row.source).told(alloc, low, high));
+        tells(rt, must(rt, told.ok_or("it is a range")), *row);
     }
+}
+
+/// Asserts what the error tells.
+fn tells(rt: &impl Abort, told: Told, row: Refused) {
+    let (start, end) = row.range;
+    assert_eq!(rt;
+        (told.kind, told.start, told.end, told.range),
+        (row.kind, start, end, start..end)
+    );
+    assert_eq!(rt;
+        (told.source.as_str(), told.text.as_str()),
+        (row.source, row.text)
+    );
 }
 
 /// Bytes that aren't a text come back from the error as they were.

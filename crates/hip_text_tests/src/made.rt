@@ -73,6 +73,7 @@ type Unpaired = (&'static [u16], usize, &'static str);
 
 const UNPAIRED: &[Unpaired] = &[
     (&[0xD83D, 0x61], 0, "\u{FFFD}a"),
+    (&[0xDC00], 0, "\u{FFFD}"),
     (&[0x61, 0xD83D], 1, "a\u{FFFD}"),
     (&[0x61, 0xDE00, 0xD83D], 1, "a\u{FFFD}\u{FFFD}"),
     (&[0xD83D, 0xDE00, 0xDFFF], 2, "😀\u{FFFD}"),

@@ -17,6 +17,44 @@ fn makers<T: Text>(rt: &impl Abort, alloc: Global) {
     is(rt, must(rt, T::from_str(alloc, "abc")), "abc", Kind::Inline);
 }
 
+/// Equal texts of three bytes, one of a hundred, and room that is asked for.
+fn rooms<T: Text>(rt: &impl Abort, alloc: Global) {
+    let (one, other) = (
+        must(rt, T::from_str(alloc, "abc")),
+        must(rt, T::from_str(alloc, "abc")),
+    );
+    assert_eq!(rt;
+        (one.is_equal(&other), one.capacity(), T::inline_capacity()),
+        (true, 23, 23)
+    );
+    let many = must(rt, T::borrowed("a").repeat(alloc, 100));
+    let copied = must(rt, T::from_str(alloc, many.as_str()));
+    assert_eq!(rt; (copied.str_eq(many.as_str()), copied.len()), (true, 100));
+    let room = must(rt, T::with_capacity(alloc, 42));
+    assert!(rt; room.capacity() >= 42);
+    is(rt, room, "", Kind::Allocated);
+}
+
+/// What is lent comes out again, and a copy is handed back.
+fn borrows<T: Text>(rt: &impl Abort, alloc: Global) {
+    let lent = T::borrowed(LETTERS);
+    assert_eq!(rt; lent.capacity(), 26);
+    reads(rt, must(rt, lent.into_borrowed()), LETTERS);
+    let copied = must(rt, T::from_str(alloc, LETTERS));
+    is(
+        rt,
+        must_refuse(rt, copied.into_borrowed()),
+        LETTERS,
+        Kind::Allocated,
+    );
+}
+
+fn keys<T: Text>(rt: &impl Abort, alloc: Global) {
+    let key = must(rt, T::from_str(alloc, "é"));
+    let found = key.found(alloc, &T::borrowed("é"), &T::borrowed("e"));
+    assert_eq!(rt; found, Some((Some(7), None)));
+}
+
 fn cuts<T: Text>(rt: &impl Abort, alloc: Global) {
     let long = must(rt, T::from_str(alloc, LETTERS));
     is(rt, must(rt, long.clone(alloc)), LETTERS, Kind::Allocated);
@@ -84,20 +122,30 @@ fn order<T: Text>(rt: &impl Abort) {
     let bb = T::borrowed("bb");
     for (other, order) in ORDERED {
         assert_eq!(rt;
-            (bb.cmp(&T::borrowed(other)), bb.str_cmp(other)),
-            (*order, *order)
+            (
+                bb.cmp(&T::borrowed(other)),
+                bb.str_cmp(other),
+                bb.cmp_with(other)
+            ),
+            (*order, *order, *order)
         );
     }
 }
 
 fn guards<T: Text>(rt: &impl Abort, alloc: Global) {
     let mut text = must(rt, T::from_str(alloc, "Hello, World!"));
-    assert_eq!(rt; must(rt, text.push_by_guard(alloc, "é")), 15);
+    let lent = must(rt, text.push_by_guard(alloc, "é"));
+    reads(rt, lent.as_str(), "Hello, World!é");
     holds(rt, &text, "Hello, World!é", Kind::Inline);
+    must(rt, text.push_and_let_go(alloc, "!"));
+    is(rt, text, "", Kind::Inline);
 }
 
 pub(crate) fn all<T: Text>(rt: &impl Abort, alloc: Global) {
     makers::<T>(rt, alloc);
+    rooms::<T>(rt, alloc);
+    borrows::<T>(rt, alloc);
+    keys::<T>(rt, alloc);
     cuts::<T>(rt, alloc);
     cows::<T>(rt, alloc);
     strings::<T>(rt, alloc);

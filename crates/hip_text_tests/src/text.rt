@@ -7,9 +7,22 @@ use hip_text::{
 use std::alloc::{AllocError, Global};
 use std::borrow::CowStr;
 use std::cmp::Ordering;
+use std::collections::HashMap;
 use std::fmt;
-use std::ops::Bound;
+use std::hash::Hash;
+use std::ops::{Bound, Range};
 use std::process::Abort;
+
+/// What the error of a refused range tells.
+#[derive(Drop)]
+pub struct Told {
+    pub kind: SliceErrorKind,
+    pub start: usize,
+    pub end: usize,
+    pub range: Range<usize>,
+    pub source: String,
+    pub text: String,
+}
 
 pub trait Text: Drop {
     type Bytes: Bytes;
@@ -17,6 +30,10 @@ pub trait Text: Drop {
     type Error: Refusal<Bytes = Self::Bytes>;
 
     fn new() -> Self;
+
+    fn with_capacity(alloc: Global, capacity: usize) -> Result<Self, AllocError>;
+
+    fn inline_capacity() -> usize;
 
     fn from_static(text: &'static str) -> Self;
 
@@ -63,13 +80,13 @@ pub trait Text: Drop {
     /// The part from a place on, by `slice_metered`.
     fn tail(&self, alloc: Global, start: usize, meter: &mut Meter) -> Result<Self, AllocError>;
 
-    /// Why two bounds are no range of the text, by its kind and in words, by `try_slice_bounds`; none where they are one.
-    fn refusal(
+    /// What the error tells of two bounds that are no range of the text, by `try_slice_bounds`; none where they are one.
+    fn told(
         &self,
         alloc: Global,
         low: Bound<usize>,
         high: Bound<usize>,
-    ) -> Result<Option<(SliceErrorKind, String)>, AllocError>;
+    ) -> Result<Option<Told>, AllocError>;
 
     fn as_str(&self) -> &str;
 
@@ -79,6 +96,10 @@ pub trait Text: Drop {
 
     fn kind(&self) -> Kind;
 
+    fn capacity(&self) -> usize;
+
+    fn into_borrowed(self) -> Result<&'static str, Self>;
+
     fn into_string(self, alloc: Global) -> Result<String, Self>;
 
     fn into_string_copied(self, alloc: Global) -> Result<String, Self>;
@@ -87,12 +108,18 @@ pub trait Text: Drop {
 
     fn into_bytes(self) -> Self::Bytes;
 
+    /// By `From`.
+    fn bytes_from(self) -> Self::Bytes;
+
     fn push_str(&mut self, alloc: Global, addition: &str) -> Result<(), AllocError>;
 
     fn push(&mut self, alloc: Global, c: char) -> Result<(), AllocError>;
 
-    /// Adds to the string that `mutate` lends, and answers its length then.
-    fn push_by_guard(&mut self, alloc: Global, addition: &str) -> Result<usize, &'static str>;
+    /// Adds to the string that `mutate` lends, and answers what it holds then.
+    fn push_by_guard(&mut self, alloc: Global, addition: &str) -> Result<String, &'static str>;
+
+    /// Adds to the string that `mutate` lends, and never writes it back.
+    fn push_and_let_go(&mut self, alloc: Global, addition: &str) -> Result<(), AllocError>;
 
     /// By `truncate`, where there is a boundary.
     fn shorten(&mut self, len: usize) -> Result<(), &'static str>;
@@ -115,8 +142,14 @@ pub trait Text: Drop {
 
     fn str_cmp(&self, other: &str) -> Ordering;
 
+    /// The order to a text of `Unique`, by `cmp_with`.
+    fn cmp_with(&self, other: &str) -> Ordering;
+
     /// How two texts that are lent are ordered, by `cmp`.
     fn cmp_borrowed(left: &str, right: &str) -> Ordering;
+
+    /// What a map says of two keys once it has 7 under this one.
+    fn found(self, alloc: Global, same: &Self, other: &Self) -> Option<(Option<i32>, Option<i32>)>;
 }
 
 pub trait Bytes: Drop {
@@ -203,6 +236,18 @@ fn shown_of<T: fmt::Display>(alloc: Global, value: &T) -> Result<String, AllocEr
     format!(in alloc; "{value}")
 }
 
+/// What a map says of two keys once it has 7 under another. It knows nothing of a key but its bounds.
+fn found_of<K: Hash + Eq + Drop>(
+    alloc: Global,
+    key: K,
+    same: &K,
+    other: &K,
+) -> Option<(Option<i32>, Option<i32>)> {
+    let mut ages = HashMap::new(alloc);
+    ages.insert(key, 7).ok()?;
+    Some((ages.get(same).copied(), ages.get(other).copied()))
+}
+
 /// A value as `Debug` shows it.
 fn debugged_of<T: fmt::Debug>(alloc: Global, value: &T) -> Result<String, AllocError> {
     format!(in alloc; "{value:?}")
@@ -215,6 +260,14 @@ impl<B: Backend> Text for HipStr<'static, B> {
 
     fn new() -> Self {
         HipStr::new()
+    }
+
+    fn with_capacity(alloc: Global, capacity: usize) -> Result<Self, AllocError> {
+        HipStr::with_capacity(alloc, capacity)
+    }
+
+    fn inline_capacity() -> usize {
+        HipStr::<B>::inline_capacity()
     }
 
     fn from_static(text: &'static str) -> Self {
@@ -306,16 +359,23 @@ impl<B: Backend> Text for HipStr<'static, B> {
         self.slice_metered(alloc, start.., meter)
     }
 
-    fn refusal(
+    fn told(
         &self,
         alloc: Global,
         low: Bound<usize>,
         high: Bound<usize>,
-    ) -> Result<Option<(SliceErrorKind, String)>, AllocError> {
+    ) -> Result<Option<Told>, AllocError> {
         let Err(SliceRefusal::Slice(error)) = self.try_slice_bounds(alloc, low, high) else {
             return Ok(None);
         };
-        Ok(Some((error.kind(), shown_of(alloc, &error)?)))
+        Ok(Some(Told {
+            kind: error.kind(),
+            start: error.start(),
+            end: error.end(),
+            range: error.range(),
+            source: String::from_str(alloc, error.source().as_str())?,
+            text: shown_of(alloc, &error)?,
+        }))
     }
 
     fn as_str(&self) -> &str {
@@ -334,6 +394,14 @@ impl<B: Backend> Text for HipStr<'static, B> {
         self.kind()
     }
 
+    fn capacity(&self) -> usize {
+        self.capacity()
+    }
+
+    fn into_borrowed(self) -> Result<&'static str, Self> {
+        self.into_borrowed()
+    }
+
     fn into_string(self, alloc: Global) -> Result<String, Self> {
         self.into_string(alloc)
     }
@@ -347,6 +415,10 @@ impl<B: Backend> Text for HipStr<'static, B> {
     }
 
     fn into_bytes(self) -> HipByt<'static, B> {
+        self.into_bytes()
+    }
+
+    fn bytes_from(self) -> HipByt<'static, B> {
         HipByt::from(self)
     }
 
@@ -358,15 +430,19 @@ impl<B: Backend> Text for HipStr<'static, B> {
         self.push(alloc, c)
     }
 
-    fn push_by_guard(&mut self, alloc: Global, addition: &str) -> Result<usize, &'static str> {
+    fn push_by_guard(&mut self, alloc: Global, addition: &str) -> Result<String, &'static str> {
         let mut guard = self.mutate(alloc).or(Err("no memory"))?;
         let added = guard.as_mut_string().push_str(addition).is_ok();
-        let len = guard.as_string().len();
+        let lent = String::from_str(alloc, guard.as_string().as_str());
         if guard.finish(alloc).is_ok() & added {
-            Ok(len)
+            lent.or(Err("no memory"))
         } else {
             Err("no memory")
         }
+    }
+
+    fn push_and_let_go(&mut self, alloc: Global, addition: &str) -> Result<(), AllocError> {
+        self.mutate(alloc)?.as_mut_string().push_str(addition)
     }
 
     fn shorten(&mut self, len: usize) -> Result<(), &'static str> {
@@ -409,8 +485,16 @@ impl<B: Backend> Text for HipStr<'static, B> {
         self.str_cmp(other)
     }
 
+    fn cmp_with(&self, other: &str) -> Ordering {
+        self.cmp_with(&HipStr::<Unique>::borrowed(other))
+    }
+
     fn cmp_borrowed(left: &str, right: &str) -> Ordering {
         Ord::cmp(&HipStr::<B>::borrowed(left), &HipStr::borrowed(right))
+    }
+
+    fn found(self, alloc: Global, same: &Self, other: &Self) -> Option<(Option<i32>, Option<i32>)> {
+        found_of(alloc, self, same, other)
     }
 }
 
