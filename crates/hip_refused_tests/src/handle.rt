@@ -4,7 +4,7 @@ use hipstr::bytes::{BorshFault, GrowFault, HipByt, JsonFault, MutateFault};
 use hipstr::os_string::HipOsStr;
 use hipstr::path::HipPath;
 use hipstr::string::{BytesFault, HipStr, TextCuts, Utf16Fault};
-use hipstr::{Allocated, Appended, Backend, ByteSink, Meter, SliceSource, VecSink, copy_counted};
+use hipstr::{Backend, ByteSink, SliceSource, VecSink};
 use serde_json::Value;
 use std::alloc::{AllocError, Global};
 use std::borrow::{CowSlice, CowStr};
@@ -148,7 +148,7 @@ pub trait Handle: Drop {
 
 const TEXTS: &[&[u8]] = &[BYTES];
 
-const LISTS: &[&[u8]] = &[BYTES, BROKEN];
+pub const LISTS: &[&[u8]] = &[BYTES, BROKEN];
 
 /// A form of 30 bytes.
 const FORM: &[u8] = b"\x1E\x00\x00\x00aaaaaaaaaaaaaaaaaaaaaaaaaaaaaa";
@@ -165,7 +165,7 @@ const PARTS: [&[u8]; 3] = [PART_BYTES, b"", PART_BYTES];
 const TEXT_PARTS: [&str; 3] = [PART, "", PART];
 
 /// What was made, or whether memory was wanting.
-fn of_memory<T>(outcome: Result<T, AllocError>) -> Result<T, bool> {
+pub fn of_memory<T>(outcome: Result<T, AllocError>) -> Result<T, bool> {
     match outcome {
         Ok(made) => Ok(made),
         Err(AllocError) => Err(true),
@@ -233,82 +233,6 @@ fn is_cow(cow: CowSlice<'_, u8>, bytes: &[u8]) -> bool {
     match cow {
         CowSlice::Borrowed(lent) => lent == bytes,
         CowSlice::Owned(vec) => vec.as_slice() == bytes,
-    }
-}
-
-impl<B: Backend> Handle for Allocated<B> {
-    fn texts() -> &'static [&'static [u8]] {
-        LISTS
-    }
-
-    fn each_held() -> &'static [Held] {
-        &[Held::Sole, Held::Shared]
-    }
-
-    fn of_vec(alloc: Global, vec: Vec<u8>) -> Result<Self, AllocError> {
-        Allocated::new(alloc, vec).or(Err(AllocError))
-    }
-
-    fn lent(_bytes: &'static [u8]) -> Result<Self, AllocError> {
-        Err(AllocError)
-    }
-
-    fn clone(&self, alloc: Global) -> Result<Self, AllocError> {
-        self.slice_unchecked(alloc, 0..self.len())
-    }
-
-    fn bytes(&self) -> &[u8] {
-        self.as_slice()
-    }
-
-    fn kinds(&self) -> (bool, bool, bool) {
-        (false, false, true)
-    }
-
-    fn capacity(&self) -> usize {
-        self.capacity()
-    }
-
-    fn change(&mut self, alloc: Global, change: Change) -> bool {
-        match change {
-            Change::PushMany => self.push_slice(alloc, &[b'!'; 200]) != Appended::Memory,
-            Change::Shrink => self.shrink_to(alloc, 24).is_ok(),
-            _ => true,
-        }
-    }
-
-    fn copy(&self, alloc: Global, _copying: Copying) -> Result<Self, AllocError> {
-        self.slice_unchecked(alloc, 0..self.len())
-    }
-
-    fn convert(self, alloc: Global, _conversion: Conversion, bytes: &[u8]) -> Result<bool, Self> {
-        Ok(self.try_into_vec(alloc)?.as_slice() == bytes)
-    }
-
-    fn take(alloc: Global, _taking: Taking, vec: Vec<u8>) -> Result<Self, Vec<u8>> {
-        Allocated::new(alloc, vec)
-    }
-
-    fn value(_alloc: Global) -> Result<Value, JsonFault> {
-        Ok(Value::Null)
-    }
-
-    fn make(alloc: Global, making: Making, _value: &Value) -> Result<Self, bool> {
-        match making {
-            Making::Vector => {
-                let vec = of_memory(copy_counted(alloc, BROKEN, &mut Meter::new()))?;
-                Allocated::new(alloc, vec).or(Err(true))
-            }
-            _ => of_memory(Allocated::from_slice(alloc, BROKEN)),
-        }
-    }
-
-    fn tell(&self, _alloc: Global, _telling: Telling) -> bool {
-        true
-    }
-
-    fn lend(&mut self, _alloc: Global, _lending: Lending) -> Result<(), Option<Vec<u8>>> {
-        Ok(())
     }
 }
 

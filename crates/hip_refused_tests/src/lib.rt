@@ -9,7 +9,8 @@
 //! - `plays`: a script.
 //! - `rows`: calls that make no request, so that none can be refused.
 //!
-//! `calls` runs a call and compares what it left; `handle` is what it asks of each type, and `held` how values are held.
+//! `calls` runs a call and compares what it left; `handle` is what it asks of each type (`owner` of owners), and `held` how values
+//! are held.
 //!
 //! A scenario is a function of the number of the request that is refused. It makes its values, gives the order, calls, asks whether the
 //! order was carried out, and compares what the call answered and left with what it has to be either way. So an answer of want of memory
@@ -26,6 +27,8 @@ mod handle;
 mod held;
 #[cfg(test)]
 mod lists;
+#[cfg(test)]
+mod owner;
 #[cfg(test)]
 mod plays;
 #[cfg(test)]
