@@ -148,7 +148,7 @@ pub trait Handle: Drop {
 
 const TEXTS: &[&[u8]] = &[BYTES];
 
-pub const LISTS: &[&[u8]] = &[BYTES, BROKEN];
+pub(crate) const LISTS: &[&[u8]] = &[BYTES, BROKEN];
 
 /// A form of 30 bytes.
 const FORM: &[u8] = b"\x1E\x00\x00\x00aaaaaaaaaaaaaaaaaaaaaaaaaaaaaa";
@@ -165,7 +165,7 @@ const PARTS: [&[u8]; 3] = [PART_BYTES, b"", PART_BYTES];
 const TEXT_PARTS: [&str; 3] = [PART, "", PART];
 
 /// What was made, or whether memory was wanting.
-pub fn of_memory<T>(outcome: Result<T, AllocError>) -> Result<T, bool> {
+pub(crate) fn of_memory<T>(outcome: Result<T, AllocError>) -> Result<T, bool> {
     match outcome {
         Ok(made) => Ok(made),
         Err(AllocError) => Err(true),
