@@ -222,6 +222,52 @@ fn pieces() -> Session {
     PIECES
 }
 
+/// Letters and what is near to them, in more bytes than a block has.
+const CASES: Session = Session {
+    slots: 2,
+    rows: &[
+        (Command::Copy(0, NEAR_LETTERS), Answer::Done),
+        (Command::Clone(0, 1), Answer::Done),
+        (Command::Upper(0), Answer::Done),
+        (Command::Lower(1), Answer::Done),
+    ],
+    left: &[(0, CAPITALS, false), (1, SMALL_LETTERS, false)],
+};
+
+const NEAR_LETTERS: &[u8] =
+    b"@AZ[`az{\xC1\xE1@AZ[`az{\xC1\xE1@AZ[`az{\xC1\xE1@AZ[`az{\xC1\xE1@AZ[`az{\xC1\xE1@AZ[`az{\xC1\xE1@AZ[`az{\xC1\xE1";
+
+const CAPITALS: &[u8] =
+    b"@AZ[`AZ{\xC1\xE1@AZ[`AZ{\xC1\xE1@AZ[`AZ{\xC1\xE1@AZ[`AZ{\xC1\xE1@AZ[`AZ{\xC1\xE1@AZ[`AZ{\xC1\xE1@AZ[`AZ{\xC1\xE1";
+
+const SMALL_LETTERS: &[u8] =
+    b"@az[`az{\xC1\xE1@az[`az{\xC1\xE1@az[`az{\xC1\xE1@az[`az{\xC1\xE1@az[`az{\xC1\xE1@az[`az{\xC1\xE1@az[`az{\xC1\xE1";
+
+fn cases() -> Session {
+    CASES
+}
+
+/// An empty handle, which is one piece.
+const EMPTY: Session = Session {
+    slots: 3,
+    rows: &[
+        (Command::New(0), Answer::Done),
+        (Command::Pop(0), Answer::Nothing),
+        (Command::Len(0), Answer::Number(0)),
+        (Command::Kind(0), Answer::Kind(Kind::Inline)),
+        (Command::Text(0), Answer::Done),
+        (
+            Command::Pieces(0, How::Split(Pat::Char(',')), &[End::Front, End::Back], 1),
+            Answer::Number(1),
+        ),
+    ],
+    left: &[(0, b"", false), (1, b"", false), (2, b"", false)],
+};
+
+fn empty() -> Session {
+    EMPTY
+}
+
 const TURNS: &[End] = &[End::Front, End::Back, End::Back, End::Front, End::Front];
 
 /// The value, or the end of the test where it was refused. A test with no way out but this is a straight line, and cheap to prove.
@@ -341,6 +387,70 @@ fn in_place<B: Backend>(rt: &impl Abort, alloc: Global) {
     assert!(rt; capacity_of(rt, alloc, &mut pool) < 200);
 }
 
+/// Room for 64 bytes, of which 60 are taken.
+const NEARLY_FULL: &[Row] = &[
+    (Command::Room(0, 64), Answer::Done),
+    (Command::Push(0, &[b'x'; 30]), Answer::Done),
+    (Command::Push(0, &[b'y'; 30]), Answer::Done),
+];
+
+fn nearly_full() -> &'static [Row] {
+    NEARLY_FULL
+}
+
+/// A push past the room that is there moves the bytes that are kept once, to twice the room that is needed.
+fn doubles(rt: &impl Abort, alloc: Global) {
+    let many = must(rt, vec![in alloc; b'z'; 1000]);
+    let mut pool = must(rt, Pool::<Unique>::new(alloc, 1));
+    let mut meter = Meter::new();
+    answers(rt, alloc, &mut pool, nearly_full(), &mut meter);
+    assert_eq!(rt; meter.copied(), 60);
+    let room = capacity_of(rt, alloc, &mut pool);
+    let beyond = must(rt, many.get(..room.saturating_sub(59)).ok_or("more room"));
+    let row = [(Command::Push(0, beyond), Answer::Done)];
+    answers(rt, alloc, &mut pool, &row, &mut meter);
+    let doubled = capacity_of(rt, alloc, &mut pool);
+    assert_eq!(rt;
+        (meter.copied(), doubled / 2 > room),
+        (room as u128 + 61, true)
+    );
+}
+
+const ROOM_FOR_24: &[Row] = &[(Command::Room(0, 24), Answer::Done)];
+
+fn room_for_24() -> &'static [Row] {
+    ROOM_FOR_24
+}
+
+const FOUR_PUSHES: &[Row] = &[
+    (Command::Push(0, b"x"), Answer::Done),
+    (Command::Push(0, b"x"), Answer::Done),
+    (Command::Push(0, b"x"), Answer::Done),
+    (Command::Push(0, b"x"), Answer::Done),
+];
+
+fn four_pushes() -> &'static [Row] {
+    FOUR_PUSHES
+}
+
+const MANY_BYTES: &[Row] = &[(Command::Len(0), Answer::Number(10_000))];
+
+fn many_bytes() -> &'static [Row] {
+    MANY_BYTES
+}
+
+/// Byte by byte, each is copied three times at most.
+fn grows_one_by_one(rt: &impl Abort, alloc: Global) {
+    let mut pool = must(rt, Pool::<Unique>::new(alloc, 1));
+    let mut meter = Meter::new();
+    answers(rt, alloc, &mut pool, room_for_24(), &mut meter);
+    for _ in 0..2_500 {
+        answers(rt, alloc, &mut pool, four_pushes(), &mut meter);
+    }
+    assert!(rt; meter.copied() <= 30_000);
+    answers(rt, alloc, &mut pool, many_bytes(), &mut meter);
+}
+
 fn pools<B: Backend>(rt: &impl Abort, alloc: Global) {
     let mut pool = must(rt, Pool::<B>::new(alloc, 3));
     assert_eq!(rt;
@@ -358,6 +468,8 @@ pub(crate) fn on<B: Backend>(rt: &impl Abort, alloc: Global) {
     plays::<B>(rt, alloc, writes());
     plays::<B>(rt, alloc, texts());
     plays::<B>(rt, alloc, pieces());
+    plays::<B>(rt, alloc, cases());
+    plays::<B>(rt, alloc, empty());
     cuts_all::<B>(rt, alloc);
     takes_all_apart::<B>(rt, alloc);
     costs::<B>(rt, alloc);
@@ -439,4 +551,11 @@ fn copies_past_counter(rt: HostRuntime) {
 fn rc_never_in_place(rt: HostRuntime) {
     in_place::<Rc>(&rt, rt.alloc());
     in_place::<Unique>(&rt, rt.alloc());
+}
+
+/// What an owner that no other shares copies as it grows.
+#[test]
+fn room_doubles(rt: HostRuntime) {
+    doubles(&rt, rt.alloc());
+    grows_one_by_one(&rt, rt.alloc());
 }

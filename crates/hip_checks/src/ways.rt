@@ -142,6 +142,7 @@ const NOTHING: Taken = (
         (How::Inclusive(Pat::Text("")), false, &[""]),
         (How::Terminator(Pat::Text("")), false, &[""]),
         (How::Matches(Pat::Text("")), false, &[""]),
+        (How::Split(Pat::Char(',')), true, &[""]),
         (How::SplitN(1, Pat::Char(',')), false, &[""]),
         (How::Inclusive(Pat::Char(',')), true, &[]),
         (How::Lines, true, &[]),
@@ -154,8 +155,12 @@ const DOTS: Taken = (
     &[
         (How::Terminator(Pat::Char('.')), true, &["A", "", "B", ""]),
         (How::RTerminator(Pat::Char('.')), true, &["", "B", "", "A"]),
+        (How::Terminator(Pat::Text(".")), false, &["A", "", "B", ""]),
+        (How::RTerminator(Pat::Text(".")), false, &["", "B", "", "A"]),
     ],
 );
+
+const DOTS_ALONE: Taken = ("..", &[(How::Terminator(Pat::Char('.')), true, &["", ""])]);
 
 const COUNTS: Taken = (
     "a,b,c",
@@ -201,8 +206,21 @@ const RUNS: Taken = (
     ],
 );
 
+/// 81 bytes, of which a vertical tab is one, a space, and 40 bytes.
+const LONG_RUNS: Taken = (
+    "aaaaaaaaaaaaaaaaaaaaaaaaaaaaaaaaaaaaaaaa\x0Bbbbbbbbbbbbbbbbbbbbbbbbbbbbbbbbbbbbbbbbb cccccccccccccccccccccccccccccccccccccccc",
+    &[(
+        How::AsciiWords,
+        true,
+        &[
+            "aaaaaaaaaaaaaaaaaaaaaaaaaaaaaaaaaaaaaaaa\x0Bbbbbbbbbbbbbbbbbbbbbbbbbbbbbbbbbbbbbbbbb",
+            "cccccccccccccccccccccccccccccccccccccccc",
+        ],
+    )],
+);
+
 /// How many parts there are.
-const PARTS: usize = 17;
+const PARTS: usize = 19;
 
 fn part(number: usize) -> Taken {
     match number {
@@ -222,7 +240,9 @@ fn part(number: usize) -> Taken {
         13 => COUNTS_TOO,
         14 => ENDED,
         15 => LINES,
-        _ => RUNS,
+        16 => RUNS,
+        17 => DOTS_ALONE,
+        _ => LONG_RUNS,
     }
 }
 
