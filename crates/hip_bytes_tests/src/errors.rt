@@ -90,6 +90,32 @@ const REFUSED: &[Refused] = &[
     },
 ];
 
+/// Two places that are no range of `abc`, and what the error of `try_slice` tells of them.
+const REFUSED_PLACES: &[(usize, usize, SliceErrorKind, &str)] = &[
+    (
+        4,
+        2,
+        START_OUT,
+        "range start index 4 out of bounds for slice of length 3",
+    ),
+    (2, 1, TURNED, "range starts at 2 but ends at 1"),
+];
+
+fn refused_places<H: Bytes>(rt: &impl Abort, alloc: Global) {
+    let handle = must(rt, H::inline(b"abc"));
+    for (start, end, kind, text) in REFUSED_PLACES {
+        let told = must(rt, handle.told_of_range(alloc, *start, *end));
+        let told = must(rt, told.ok_or("no range of three bytes"));
+        assert_eq!(rt;
+            (told.kind, told.range, told.text.as_str()),
+            (*kind, *start..*end, *text)
+        );
+    }
+    let told = must(rt, handle.told_through(alloc, MAX));
+    let told = must(rt, told.ok_or("no range of three bytes"));
+    assert_eq!(rt; (told.kind, told.end), (END_OUT, MAX));
+}
+
 fn is_refused<H: Bytes>(rt: &impl Abort, alloc: Global, row: Refused) {
     let handle = must(rt, H::from_slice(alloc, b"abc"));
     let (low, high) = row.bounds;
@@ -142,6 +168,7 @@ fn inclusive_range<H: Bytes>(rt: &impl Abort, alloc: Global) {
 
 pub(crate) fn all<H: Bytes>(rt: &impl Abort, alloc: Global) {
     refusals::<H>(rt, alloc);
+    refused_places::<H>(rt, alloc);
     equal_refusals::<H>(rt, alloc);
     inclusive_range::<H>(rt, alloc);
     refused_debug::<H>(rt, alloc);

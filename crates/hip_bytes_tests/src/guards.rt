@@ -39,9 +39,9 @@ fn adds<H: Bytes>(
 ) {
     let mut guard = must(rt, handle.mutate(alloc));
     must(rt, guard.as_mut_vec().push(byte));
-    let len = guard.as_vec().len();
+    let lent = must(rt, guard.as_vec().as_slice().to_vec(alloc));
     must(rt, guard.finish(alloc));
-    assert_eq!(rt; len, items.len());
+    assert_eq!(rt; lent.as_slice(), items);
     holds(rt, handle, items, kind);
 }
 

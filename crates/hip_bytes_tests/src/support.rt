@@ -89,6 +89,24 @@ fn found_in_order<K: Ord + Drop>(alloc: Global, key: K, sought: &K) -> Option<i3
     ages.get(sought).copied()
 }
 
+/// What the error tells, where a slice is refused.
+fn told_by<B: Backend>(
+    alloc: Global,
+    outcome: Result<HipByt<'static, B>, SliceRefusal<'_, 'static, B>>,
+) -> Result<Option<Told>, AllocError> {
+    let Err(SliceRefusal::Slice(error)) = outcome else {
+        return Ok(None);
+    };
+    Ok(Some(Told {
+        kind: error.kind(),
+        start: error.start(),
+        end: error.end(),
+        range: error.range(),
+        source: error.source().as_slice().to_vec(alloc)?,
+        text: format!(in alloc; "{error}")?,
+    }))
+}
+
 /// A byte string, by the calls of its own name where nothing else is said. The methods say nothing of their answers, so that a test knows
 /// nothing but what it compares.
 pub trait Bytes: Drop + Source {
@@ -316,6 +334,17 @@ pub trait Bytes: Drop + Source {
         low: Bound<usize>,
         high: Bound<usize>,
     ) -> Result<Option<Told>, AllocError>;
+
+    /// The same of the range between two places, by `try_slice`.
+    fn told_of_range(
+        &self,
+        alloc: Global,
+        start: usize,
+        end: usize,
+    ) -> Result<Option<Told>, AllocError>;
+
+    /// The same of the range up to a last place, by `try_slice`.
+    fn told_through(&self, alloc: Global, last: usize) -> Result<Option<Told>, AllocError>;
 
     /// The error of a range, as `Debug` shows it; none where it is one of the bytes.
     fn error_said(&self, alloc: Global, range: Range<usize>) -> Result<Option<String>, AllocError>;
@@ -730,17 +759,20 @@ impl<B: Backend> Bytes for HipByt<'static, B> {
         low: Bound<usize>,
         high: Bound<usize>,
     ) -> Result<Option<Told>, AllocError> {
-        let Err(SliceRefusal::Slice(error)) = self.try_slice_bounds(alloc, low, high) else {
-            return Ok(None);
-        };
-        Ok(Some(Told {
-            kind: error.kind(),
-            start: error.start(),
-            end: error.end(),
-            range: error.range(),
-            source: error.source().as_slice().to_vec(alloc)?,
-            text: format!(in alloc; "{error}")?,
-        }))
+        told_by(alloc, self.try_slice_bounds(alloc, low, high))
+    }
+
+    fn told_of_range(
+        &self,
+        alloc: Global,
+        start: usize,
+        end: usize,
+    ) -> Result<Option<Told>, AllocError> {
+        told_by(alloc, self.try_slice(alloc, start..end))
+    }
+
+    fn told_through(&self, alloc: Global, last: usize) -> Result<Option<Told>, AllocError> {
+        told_by(alloc, self.try_slice(alloc, ..=last))
     }
 
     fn error_said(&self, alloc: Global, range: Range<usize>) -> Result<Option<String>, AllocError> {

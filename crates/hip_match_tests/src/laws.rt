@@ -8,9 +8,9 @@ use hip_match::laws::{
 };
 use hip_match::pattern::{DoubleEndedPattern, OneChar};
 
+/// It asserts nothing while it runs, since the laws' functions do nothing: that it is proved shows that a caller can state them.
 #[test]
-fn laws(_rt: HostRuntime) {
-    // The laws' functions do nothing: such calls show that a caller can state them.
+fn proof_that_callers_can_state_the_laws(_rt: HostRuntime) {
     let text = "é,a";
     just_one_list_is_leftmost(&",", text);
     just_one_list_is_rightmost(&',', text);

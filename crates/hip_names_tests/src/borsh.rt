@@ -1,6 +1,9 @@
 //! Forms that are written and read, cut short, or that lie about their length.
+use crate::streams;
 use crate::support::{Handle, kind_of_copy, must, must_refuse};
-use hip_bytes::{BorshFault, FromRead, HipByt, SliceSource, ToWrite, VecSink};
+use hip_bytes::{
+    BorshFault, ByteSink, ByteSource, FromRead, Fuse, HipByt, SliceSource, ToWrite, VecSink,
+};
 use hip_text::{Backend, HipStr, Rc, Unique};
 use std::alloc::Global;
 use std::process::Abort;
@@ -10,6 +13,17 @@ pub trait Form: Handle {
     fn serialize(&self, sink: &mut VecSink) -> Result<(), BorshFault>;
 
     fn deserialize_reader(alloc: Global, source: &mut SliceSource<'_>) -> Result<Self, BorshFault>;
+
+    /// Writes to a writer that takes so many bytes a call at most and fails at its `k`-th call alone, and tells how many writes failed.
+    fn write_to(&self, taken: &mut Vec<u8>, most: usize, k: u64) -> (Result<(), BorshFault>, u64);
+
+    /// Reads from such a reader.
+    fn read_from(
+        alloc: Global,
+        rest: &mut &[u8],
+        most: usize,
+        k: u64,
+    ) -> (Result<Self, BorshFault>, u64);
 }
 
 impl<B: Backend> Form for HipByt<'static, B> {
@@ -20,6 +34,23 @@ impl<B: Backend> Form for HipByt<'static, B> {
     fn deserialize_reader(alloc: Global, source: &mut SliceSource<'_>) -> Result<Self, BorshFault> {
         HipByt::deserialize_reader(alloc, source)
     }
+
+    fn write_to(&self, taken: &mut Vec<u8>, most: usize, k: u64) -> (Result<(), BorshFault>, u64) {
+        let mut sink = ToWrite::new(Fuse::new(taken, most, k));
+        let written = self.serialize(&mut sink);
+        (written, sink.failures())
+    }
+
+    fn read_from(
+        alloc: Global,
+        rest: &mut &[u8],
+        most: usize,
+        k: u64,
+    ) -> (Result<Self, BorshFault>, u64) {
+        let mut source = FromRead::new(Fuse::new(rest, most, k));
+        let read = HipByt::deserialize_reader(alloc, &mut source);
+        (read, source.failures())
+    }
 }
 
 impl<B: Backend> Form for HipStr<'static, B> {
@@ -29,6 +60,23 @@ impl<B: Backend> Form for HipStr<'static, B> {
 
     fn deserialize_reader(alloc: Global, source: &mut SliceSource<'_>) -> Result<Self, BorshFault> {
         HipStr::deserialize_reader(alloc, source)
+    }
+
+    fn write_to(&self, taken: &mut Vec<u8>, most: usize, k: u64) -> (Result<(), BorshFault>, u64) {
+        let mut sink = ToWrite::new(Fuse::new(taken, most, k));
+        let written = self.serialize(&mut sink);
+        (written, sink.failures())
+    }
+
+    fn read_from(
+        alloc: Global,
+        rest: &mut &[u8],
+        most: usize,
+        k: u64,
+    ) -> (Result<Self, BorshFault>, u64) {
+        let mut source = FromRead::new(Fuse::new(rest, most, k));
+        let read = HipStr::deserialize_reader(alloc, &mut source);
+        (read, source.failures())
     }
 }
 
@@ -166,6 +214,7 @@ fn one_behind_another<F: Form, G: Form>(rt: &impl Abort, alloc: Global) {
 
 fn bytes<F: Form>(rt: &impl Abort, alloc: Global) {
     forms::<F>(rt, alloc);
+    streams::all::<F>(rt, alloc);
     too_short::<F>(rt, alloc);
     for (bytes, form) in BYTES {
         writes::<F>(rt, alloc, bytes, form);
@@ -179,6 +228,7 @@ fn bytes<F: Form>(rt: &impl Abort, alloc: Global) {
 
 fn texts<F: Form>(rt: &impl Abort, alloc: Global) {
     forms::<F>(rt, alloc);
+    streams::all::<F>(rt, alloc);
     too_short::<F>(rt, alloc);
     for (_, form) in NO_TEXTS {
         refuses::<F>(rt, alloc, form, BorshFault::NotUtf8);

@@ -67,15 +67,20 @@ fn owns<N: Name>(rt: &impl Abort, alloc: Global) {
 }
 
 fn no_room<N: Name>(rt: &impl Abort, alloc: Global) {
-    let name = must(rt, N::with_capacity(alloc, 0));
+    let name = must(rt, N::with_capacity(alloc, 0, ""));
     assert_eq!(rt; name.capacity(), 23);
     is(rt, name, "");
 }
 
-fn shrinks_to_fit<N: Name>(rt: &impl Abort, alloc: Global) {
-    let mut name = must(rt, N::with_capacity(alloc, 24));
+/// Room for 24 bytes is given back where there are fewer.
+fn shrinks<N: Name>(rt: &impl Abort, alloc: Global) {
+    let mut name = must(rt, N::with_capacity(alloc, 24, ""));
     must(rt, name.shrink_to_fit(alloc));
+    assert_eq!(rt; (name.capacity(), N::inline_capacity()), (23, 23));
+    let mut name = must(rt, N::with_capacity(alloc, 24, "a"));
+    must(rt, name.shrink_to(alloc, 0));
     assert_eq!(rt; name.capacity(), 23);
+    is(rt, name, "a");
 }
 
 /// Two texts, and how they are ordered, by their bytes and as paths.
@@ -137,13 +142,13 @@ pub(crate) fn of_either<N: Name>(rt: &impl Abort, alloc: Global) {
     there_and_back::<N>(rt, alloc);
     owns::<N>(rt, alloc);
     no_room::<N>(rt, alloc);
-    shrinks_to_fit::<N>(rt, alloc);
+    shrinks::<N>(rt, alloc);
     orders::<N>(rt, alloc);
     orders_by_name::<N>(rt, alloc);
 }
 
 fn rooms<N: OsStr>(rt: &impl Abort, alloc: Global) {
-    let mut name = must(rt, N::with_capacity(alloc, 42));
+    let mut name = must(rt, N::with_capacity(alloc, 42, ""));
     assert_eq!(rt; (name.is_empty(), name.capacity() >= 42), (true, true));
     for _ in 0..42 {
         must(rt, name.push(alloc, "A"));
@@ -151,19 +156,16 @@ fn rooms<N: OsStr>(rt: &impl Abort, alloc: Global) {
     assert_eq!(rt; (name.len(), name.bytes()), (42, [b'A'; 42].as_slice()));
 }
 
-/// Room for 24 bytes is given back where there are fewer.
-fn shrinks<N: OsStr>(rt: &impl Abort, alloc: Global) {
-    let mut name = must(rt, N::with_capacity(alloc, 24));
-    must(rt, name.push(alloc, "a"));
-    must(rt, name.shrink_to(alloc, 0));
-    assert_eq!(rt; name.capacity(), 23);
-    is(rt, name, "a");
+fn pushes<N: OsStr>(rt: &impl Abort, alloc: Global) {
+    let mut name = must(rt, N::from_str(alloc, "abc"));
+    must(rt, name.push(alloc, "def"));
+    is(rt, name, "abcdef");
 }
 
 /// And these, of an OS string.
 pub(crate) fn of_os_strings<N: OsStr>(rt: &impl Abort, alloc: Global) {
     rooms::<N>(rt, alloc);
-    shrinks::<N>(rt, alloc);
+    pushes::<N>(rt, alloc);
     orders_bytes::<N>(rt);
 }
 

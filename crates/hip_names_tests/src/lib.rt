@@ -11,9 +11,8 @@
 //! Of forms and values:
 //!
 //! - `support`: what the tests ask of all four types.
-//! - `trickle`: a source and a sink of a user's own, which move few bytes a call and fail at one call.
 //! - `borsh`: forms that are written and read, cut short, or that lie about their length.
-//! - `streams`: sources and sinks that are slow, that fail, or that take nothing.
+//! - `streams`: readers and writers that are slow, that fail at one call, or that take nothing.
 //! - `json`: values that are made, read and refused.
 #![tactic(auto)]
 
@@ -37,5 +36,3 @@ mod names;
 mod streams;
 #[cfg(test)]
 mod support;
-#[cfg(test)]
-mod trickle;

@@ -15,6 +15,12 @@ pub trait Name: Handle + Hash + Ord {
 
     fn new() -> Self;
 
+    fn default() -> Self;
+
+    fn inline_capacity() -> usize;
+
+    fn borrowed(text: &'static str) -> Self;
+
     fn from_static(text: &'static str) -> Self;
 
     fn from_str(alloc: Global, text: &str) -> Result<Self, AllocError>;
@@ -59,8 +65,8 @@ pub trait Name: Handle + Hash + Ord {
     /// By `into_owned` of a name that is lent for a shorter time.
     fn owned_from(alloc: Global, text: &str) -> Result<Self, AllocError>;
 
-    /// By `with_capacity` of an OS string.
-    fn with_capacity(alloc: Global, capacity: usize) -> Result<Self, AllocError>;
+    /// By `with_capacity` of an OS string, to which a text is pushed.
+    fn with_capacity(alloc: Global, capacity: usize, text: &str) -> Result<Self, AllocError>;
 
     /// By `into_cow` of the byte string.
     fn into_cow(self, alloc: Global) -> Result<CowSlice<'static, u8>, AllocError>;
@@ -114,6 +120,18 @@ impl<B: Backend> Name for HipOsStr<'static, B> {
 
     fn new() -> Self {
         HipOsStr::new()
+    }
+
+    fn default() -> Self {
+        Default::default()
+    }
+
+    fn inline_capacity() -> usize {
+        HipOsStr::<B>::inline_capacity()
+    }
+
+    fn borrowed(text: &'static str) -> Self {
+        HipOsStr::borrowed(text)
     }
 
     fn from_static(text: &'static str) -> Self {
@@ -195,8 +213,10 @@ impl<B: Backend> Name for HipOsStr<'static, B> {
             .or(Err(AllocError))
     }
 
-    fn with_capacity(alloc: Global, capacity: usize) -> Result<Self, AllocError> {
-        HipOsStr::with_capacity(alloc, capacity)
+    fn with_capacity(alloc: Global, capacity: usize, text: &str) -> Result<Self, AllocError> {
+        let mut name = HipOsStr::with_capacity(alloc, capacity)?;
+        name.push(alloc, text)?;
+        Ok(name)
     }
 
     fn into_cow(self, alloc: Global) -> Result<CowSlice<'static, u8>, AllocError> {
@@ -213,6 +233,18 @@ impl<B: Backend> Name for HipPath<'static, B> {
 
     fn new() -> Self {
         HipPath::new()
+    }
+
+    fn default() -> Self {
+        Default::default()
+    }
+
+    fn inline_capacity() -> usize {
+        HipPath::<B>::inline_capacity()
+    }
+
+    fn borrowed(text: &'static str) -> Self {
+        HipPath::borrowed(text)
     }
 
     fn from_static(text: &'static str) -> Self {
@@ -294,8 +326,10 @@ impl<B: Backend> Name for HipPath<'static, B> {
             .or(Err(AllocError))
     }
 
-    fn with_capacity(alloc: Global, capacity: usize) -> Result<Self, AllocError> {
-        Ok(HipPath::from(HipOsStr::with_capacity(alloc, capacity)?))
+    fn with_capacity(alloc: Global, capacity: usize, text: &str) -> Result<Self, AllocError> {
+        let mut name = HipOsStr::with_capacity(alloc, capacity)?;
+        name.push(alloc, text)?;
+        Ok(HipPath::from(name))
     }
 
     fn into_cow(self, alloc: Global) -> Result<CowSlice<'static, u8>, AllocError> {

@@ -42,7 +42,7 @@ fn taken<N: Name>(rt: &impl Abort, alloc: Global, text: &str) -> N {
 
 /// Asserts what a name holds, and where.
 fn is<N: Name>(rt: &impl Abort, name: N, text: &str, kind: Kind) {
-    assert_eq!(rt; (name.bytes(), name.kind()), (text.as_bytes(), kind));
+    assert_eq!(rt; (name.bytes(), name.kind()), (text.as_bytes(), Some(kind)));
 }
 
 fn is_vector(rt: &impl Abort, vec: Vec<u8>, text: &str) {
@@ -59,14 +59,12 @@ fn makers<N: Name>(rt: &impl Abort, alloc: Global) {
 }
 
 fn plain<N: Name>(rt: &impl Abort) {
-    is(rt, N::new(), "", Kind::Inline);
+    for empty in [N::new(), N::default()] {
+        assert_eq!(rt; empty.compared_with(b""), (true, true, Ordering::Equal));
+        is(rt, empty, "", Kind::Inline);
+    }
     is(rt, N::from_static(LETTERS), LETTERS, Kind::Borrowed);
-    is(
-        rt,
-        N::from_static("0123456789"),
-        "0123456789",
-        Kind::Borrowed,
-    );
+    is(rt, N::borrowed("0123456789"), "0123456789", Kind::Borrowed);
 }
 
 /// How many bytes are copied, and where they lie then.
@@ -130,8 +128,14 @@ fn borrows<N: Name>(rt: &impl Abort, alloc: Global) {
     assert!(rt; copied.as_borrowed().is_none());
     let back = must_refuse(rt, copied.into_borrowed());
     is(rt, back, "abc", Kind::Inline);
-    let back = must_refuse(rt, taken::<N>(rt, alloc, LONG).into_borrowed());
-    is(rt, back, LONG, Kind::Allocated);
+    let long = taken::<N>(rt, alloc, LONG);
+    assert!(rt; long.as_borrowed().is_none());
+    is(
+        rt,
+        must_refuse(rt, long.into_borrowed()),
+        LONG,
+        Kind::Allocated,
+    );
 }
 
 fn rooms<N: Name>(rt: &impl Abort, alloc: Global) {
@@ -148,11 +152,12 @@ fn rooms<N: Name>(rt: &impl Abort, alloc: Global) {
 }
 
 fn shrinks<N: Name>(rt: &impl Abort, alloc: Global) {
-    for (text, room) in [("abc", 23), (LONG, 42)] {
+    for (text, least, most) in [("abc", 23, 23), (LONG, 42, usize::MAX)] {
         let mut name = must(rt, N::from_str(alloc, text));
         must(rt, name.shrink_to(alloc, 4));
         must(rt, name.shrink_to_fit(alloc));
-        assert_eq!(rt; name.capacity() >= room, true);
+        let room = name.capacity();
+        assert_eq!(rt; (room >= least, room <= most), (true, true));
         is_vector(rt, must(rt, name.into_vec_copied(alloc)), text);
     }
 }
@@ -180,12 +185,15 @@ fn guards<N: Name>(rt: &impl Abort, alloc: Global) {
     }
 }
 
-/// A clone that was made before keeps what it had.
-fn guards_of_clones<N: Name>(rt: &impl Abort, alloc: Global) {
+/// The letters, with room for more.
+fn roomy<N: Name>(rt: &impl Abort, alloc: Global) -> N {
     let mut string = must(rt, String::with_capacity(alloc, 42));
     must(rt, string.push_str(LETTERS));
-    let mut name = must(rt, N::from_string(alloc, string));
-    let clone = must(rt, name.clone(alloc));
+    must(rt, N::from_string(alloc, string))
+}
+
+/// Asserts what a long name holds to which digits are added through a guard.
+fn adds_digits<N: Name>(rt: &impl Abort, alloc: Global, mut name: N) {
     drop(must(rt, name.push_by_guard(alloc, "/0123456789")));
     is(
         rt,
@@ -193,6 +201,14 @@ fn guards_of_clones<N: Name>(rt: &impl Abort, alloc: Global) {
         "abcdefghijklmnopqrstuvwxyz/0123456789",
         Kind::Allocated,
     );
+}
+
+/// An only handle, and one whose clone, which was made before, keeps what it had.
+fn guards_of_long_names<N: Name>(rt: &impl Abort, alloc: Global) {
+    adds_digits(rt, alloc, roomy::<N>(rt, alloc));
+    let name = roomy::<N>(rt, alloc);
+    let clone = must(rt, name.clone(alloc));
+    adds_digits(rt, alloc, name);
     is(rt, clone, LETTERS, Kind::Allocated);
 }
 
@@ -230,7 +246,7 @@ fn on_changes<N: Name>(rt: &impl Abort, alloc: Global) {
     shrinks::<N>(rt, alloc);
     shrinks_lent::<N>(rt, alloc);
     guards::<N>(rt, alloc);
-    guards_of_clones::<N>(rt, alloc);
+    guards_of_long_names::<N>(rt, alloc);
     debugs::<N>(rt, alloc);
 }
 

@@ -27,25 +27,26 @@ pub trait Handle: Drop {
 
     fn bytes(&self) -> &[u8];
 
-    /// What `kind` says, or `is_inline`, `is_borrowed` and `is_allocated`.
-    fn kind(&self) -> Kind;
+    /// What `is_inline`, `is_borrowed` and `is_allocated` say, of which just one is true.
+    fn kind(&self) -> Option<Kind>;
 }
 
 /// Where so many bytes lie that were copied.
-pub(crate) fn kind_of_copy(len: usize) -> Kind {
+pub(crate) fn kind_of_copy(len: usize) -> Option<Kind> {
     if len > 23 {
-        Kind::Allocated
+        Some(Kind::Allocated)
     } else {
-        Kind::Inline
+        Some(Kind::Inline)
     }
 }
 
-/// The kind that is told by three answers.
-fn kind_of(inline: bool, borrowed: bool, allocated: bool) -> Kind {
+/// The kind that is told by three answers, where just one is true.
+fn kind_of(inline: bool, borrowed: bool, allocated: bool) -> Option<Kind> {
     match (inline, borrowed, allocated) {
-        (true, false, false) => Kind::Inline,
-        (false, true, false) => Kind::Borrowed,
-        _ => Kind::Allocated,
+        (true, false, false) => Some(Kind::Inline),
+        (false, true, false) => Some(Kind::Borrowed),
+        (false, false, true) => Some(Kind::Allocated),
+        _ => None,
     }
 }
 
@@ -58,8 +59,8 @@ impl<B: Backend> Handle for HipByt<'static, B> {
         self.as_slice()
     }
 
-    fn kind(&self) -> Kind {
-        self.kind()
+    fn kind(&self) -> Option<Kind> {
+        kind_of(self.is_inline(), self.is_borrowed(), self.is_allocated())
     }
 }
 
@@ -72,8 +73,8 @@ impl<B: Backend> Handle for HipStr<'static, B> {
         self.as_bytes()
     }
 
-    fn kind(&self) -> Kind {
-        self.kind()
+    fn kind(&self) -> Option<Kind> {
+        kind_of(self.is_inline(), self.is_borrowed(), self.is_allocated())
     }
 }
 
@@ -86,7 +87,7 @@ impl<B: Backend> Handle for HipOsStr<'static, B> {
         self.as_os_str()
     }
 
-    fn kind(&self) -> Kind {
+    fn kind(&self) -> Option<Kind> {
         kind_of(self.is_inline(), self.is_borrowed(), self.is_allocated())
     }
 }
@@ -100,7 +101,7 @@ impl<B: Backend> Handle for HipPath<'static, B> {
         self.as_path()
     }
 
-    fn kind(&self) -> Kind {
+    fn kind(&self) -> Option<Kind> {
         kind_of(self.is_inline(), self.is_borrowed(), self.is_allocated())
     }
 }

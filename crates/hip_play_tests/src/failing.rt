@@ -1,85 +1,93 @@
-//! Failing and short readers and writers, and the texts of faults.
-use crate::support::{FIRST_ANSWERS, FIRST_RUN, Sink, Source, make_sink};
+//! Failing and slow readers and writers, and the texts of faults.
+use crate::support::{FIRST_ANSWERS, FIRST_RUN, WELL, played_by};
 use hip_script::PlayFault;
 use hip_script::play::play;
-use hipstr::Rc;
+use hipstr::{Backend, Rc, Unique};
 use std::alloc::Global;
+use std::io;
+use std::io::{ErrorKind, Read};
 use std::process::Abort;
 use std::test::Fail;
 
-/// Plays the first run from a reader that gives one byte a call, and fails at the call after so many: behind the one that finds the end
-/// that does no harm.
-fn is_read(rt: &impl Abort, alloc: Global, calls: usize) {
-    let script = FIRST_RUN.as_bytes();
-    let source = Source {
-        rest: script,
-        most: 1,
-        calls,
-    };
-    let mut out = make_sink(alloc, usize::MAX, usize::MAX);
-    let ended = play::<Rc, _, _>(alloc, source, &mut out);
-    let wanted: (Result<(), PlayFault>, &[u8]) = if calls > script.len() {
-        (Ok(()), FIRST_ANSWERS.as_bytes())
-    } else {
+/// Pieces of a borrowed text, from both ends.
+const PIECES: &str =
+    "borrow 0 \"a,b,c,d\"\ntext 0\npieces 0 split char \",\" FBBFF 1\nshow 2\nkind 2\n";
+
+const PIECES_ANSWERS: &str = "done\ndone\n4\ntext \"d\"\nborrowed\n";
+
+/// Plays a script from a reader that gives one byte a call, and fails at its `k`-th call alone: at any up to the one that finds the end
+/// nothing is run, and nothing written.
+fn is_read<B: Backend>(rt: &impl Abort, alloc: Global, script: &str, answers: &str, k: usize) {
+    let (written, ended) = played_by::<B>(alloc, script.as_bytes(), (1, k as u64), WELL);
+    let wanted: (Result<(), PlayFault>, &[u8]) = if 0 < k && k <= script.len() + 1 {
         (Err(PlayFault::ReadFailed), b"")
+    } else {
+        (Ok(()), answers.as_bytes())
     };
-    assert_eq!(rt; (ended, out.taken.as_slice()), wanted, "at call {calls}");
+    assert_eq!(rt; (ended, written.as_slice()), wanted, "at call {k}");
+}
+
+/// Plays it into a writer that takes one byte a call, and fails at its `k`-th call alone: nothing is written after a failure.
+fn is_written<B: Backend>(rt: &impl Abort, alloc: Global, script: &str, answers: &str, k: usize) {
+    let (written, ended) = played_by::<B>(alloc, script.as_bytes(), WELL, (1, k as u64));
+    let wanted = if 0 < k && k <= answers.len() {
+        (Err(PlayFault::WriteFailed), &answers.as_bytes()[..k - 1])
+    } else {
+        (Ok(()), answers.as_bytes())
+    };
+    assert_eq!(rt; (ended, written.as_slice()), wanted, "at call {k}");
+}
+
+/// At each call, and past the last.
+fn fails_at_each<B: Backend>(rt: &impl Abort, alloc: Global) {
+    for (script, answers) in [(FIRST_RUN, FIRST_ANSWERS), (PIECES, PIECES_ANSWERS)] {
+        for k in 0..script.len() + 4 {
+            is_read::<B>(rt, alloc, script, answers, k);
+        }
+        for k in 0..answers.len() + 3 {
+            is_written::<B>(rt, alloc, script, answers, k);
+        }
+    }
 }
 
 #[test]
-fn failing_reads(rt: HostRuntime) {
-    for calls in 0..FIRST_RUN.len() + 2 {
-        is_read(&rt, rt.alloc(), calls);
-    }
+fn failing_calls(rt: HostRuntime) {
+    fails_at_each::<Rc>(&rt, rt.alloc());
+    fails_at_each::<Unique>(&rt, rt.alloc());
 }
 
 #[test]
 fn failed_read_before_bad_line(rt: HostRuntime) {
-    let source = Source {
-        rest: b"bad\n",
-        most: 100,
-        calls: 1,
-    };
-    let mut out = make_sink(rt.alloc(), usize::MAX, usize::MAX);
-    let ended = play::<Rc, _, _>(rt.alloc(), source, &mut out);
-    assert_eq!(rt; ended, Err(PlayFault::ReadFailed));
-}
-
-/// Plays a script into a writer.
-fn written(alloc: Global, script: &str, out: &mut Sink) -> Result<(), PlayFault> {
-    play::<Rc, _, _>(alloc, script.as_bytes(), out)
-}
-
-/// Plays the first run into a writer that takes one byte a call and fails from one call on: nothing is written after a failure.
-fn is_written(rt: &impl Abort, alloc: Global, calls: usize) {
-    let answers = FIRST_ANSWERS.as_bytes();
-    let mut out = make_sink(alloc, 1, calls);
-    let ended = written(alloc, FIRST_RUN, &mut out);
-    let wanted = if calls < answers.len() {
-        (Err(PlayFault::WriteFailed), 1)
-    } else {
-        (Ok(()), 0)
-    };
-    assert_eq!(rt; (ended, out.failed), wanted, "at call {calls}");
+    let (written, ended) = played_by::<Rc>(rt.alloc(), b"bad\n", (100, 2), WELL);
     assert_eq!(rt;
-        (out.taken.len(), answers.starts_with(out.taken.as_slice())),
-        (calls, true)
+        (ended, written.is_empty()),
+        (Err(PlayFault::ReadFailed), true)
     );
 }
 
-#[test]
-fn failing_writes(rt: HostRuntime) {
-    for calls in 0..FIRST_ANSWERS.len() + 1 {
-        is_written(&rt, rt.alloc(), calls);
+/// A reader that finds no memory.
+#[derive(Drop)]
+struct Starved;
+
+impl Read for Starved {
+    fn read(&mut self, _buf: &mut [u8]) -> io::Result<usize> {
+        Err(io::Error::from(ErrorKind::OutOfMemory))
     }
+}
+
+/// Want of memory is told as such, whoever wants it.
+#[test]
+fn starved_reader(rt: HostRuntime) {
+    let mut out = Vec::new(rt.alloc());
+    let ended = play::<Rc, _, _>(rt.alloc(), Starved, &mut out);
+    assert_eq!(rt; (ended, out.is_empty()), (Err(PlayFault::Memory), true));
 }
 
 #[test]
 fn writer_that_takes_nothing(rt: HostRuntime) {
-    let mut out = make_sink(rt.alloc(), 0, usize::MAX);
-    let ended = written(rt.alloc(), FIRST_RUN, &mut out);
+    let (written, ended) = played_by::<Rc>(rt.alloc(), FIRST_RUN.as_bytes(), WELL, (0, 0));
     assert_eq!(rt;
-        (ended, out.taken.is_empty()),
+        (ended, written.is_empty()),
         (Err(PlayFault::WriteFailed), true)
     );
 }
@@ -89,16 +97,12 @@ fn writer_that_takes_nothing(rt: HostRuntime) {
 fn failure_in_mid_stream(rt: HostRuntime) -> Result<(), Fail> {
     let script = "new 0\n".repeat(rt.alloc(), 4000)?;
     let answers = "done\n".repeat(rt.alloc(), 4000)?;
-    let mut out = make_sink(rt.alloc(), 5000, 2);
-    let ended = written(rt.alloc(), script.as_str(), &mut out);
-    assert_eq!(rt; (ended, out.failed), (Err(PlayFault::WriteFailed), 1));
+    let (written, ended) = played_by::<Rc>(rt.alloc(), script.as_bytes(), WELL, (5000, 3));
     assert_eq!(rt;
-        (
-            out.taken.is_empty(),
-            answers.as_bytes().starts_with(out.taken.as_slice())
-        ),
-        (false, true)
+        (ended, written.is_empty()),
+        (Err(PlayFault::WriteFailed), false)
     );
+    assert!(rt; answers.as_bytes().starts_with(written.as_slice()));
     Ok(())
 }
 

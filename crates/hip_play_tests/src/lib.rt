@@ -3,7 +3,7 @@
 //!
 //! - `scripts`: scripts and what they print, on either backend.
 //! - `bad_lines`: scripts that are refused, on either backend.
-//! - `failing`: failing and short readers and writers, and the texts of faults.
+//! - `failing`: failing and slow readers and writers, and the texts of faults.
 //!
 //! What costs the check and what saves it is told in `hip_bytes_tests`.
 #![tactic(auto)]
