@@ -1,6 +1,6 @@
 //! Words, and how often each comes.
-ghost use Rattle.std.specs.Prelude.{◌≡◌};
-ghost use Rattle.hip_tools.specs.Words.{is_gap};
+ghost use Rattle.std.specs.Prelude.{◌≡◌, ◌&&◌, not};
+ghost use Rattle.std.specs.Char.{is_ascii, is_ascii_alphanumeric};
 
 use crate::fault::ToolFault;
 use hip_uses::intern::Interner;
@@ -11,7 +11,7 @@ use std::alloc::{AllocError, Global};
 use std::cmp::Reverse;
 
 fn is_gap(c: char) -> bool
-    ensures { result ≡ is_gap c }
+    ensures { result ≡ (is_ascii c && not (is_ascii_alphanumeric c)) }
 {
     c.is_ascii() && !c.is_ascii_alphanumeric()
 }
