@@ -12,7 +12,8 @@
 //! - `joins`: repetitions, joins and room that is given back.
 //! - `comparisons`: order, equality and maps.
 //!
-//! `groups` runs them on a backend; `support` is what they ask of a byte string, and what several of them assert.
+//! `groups` runs them on a backend; `support` is what they ask of a byte string, and what several of them assert; `maps`
+//! asks maps whose keys are byte strings.
 //!
 //! A test function is proved safe, and each branch in it, as a `?` or an assertion, costs seconds that grow with what stands before
 //! it. So calls on data are rows of a table, which one loop runs, and what is asserted of a handle is one helper, in `support`. A
@@ -44,6 +45,8 @@ mod guards;
 mod joins;
 #[cfg(test)]
 mod makers;
+#[cfg(test)]
+mod maps;
 #[cfg(test)]
 mod owned_room;
 #[cfg(test)]

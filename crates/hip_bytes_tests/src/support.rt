@@ -1,4 +1,5 @@
 //! What the tests ask of a byte string, and what several modules assert.
+use crate::maps::{found, found_in_order};
 use hipstr::bytes::{
     GrowFault, HipByt, INLINE_CAPACITY, RefMut, SliceErrorKind, SliceRefusal, Source,
 };
@@ -6,7 +7,6 @@ use hipstr::{Backend, Kind, Meter, Unique};
 use std::alloc::{AllocError, Global};
 use std::borrow::CowSlice;
 use std::cmp::Ordering;
-use std::collections::{BTreeMap, HashMap};
 use std::convert::AsSlice;
 use std::fmt;
 use std::hash::Hash;
@@ -65,28 +65,6 @@ pub struct Told {
     pub range: Range<usize>,
     pub source: Vec<u8>,
     pub text: String,
-}
-
-// What a byte string promises of its hash and its order is much, and each function that calls a map of them costs half a minute of
-// proof. So the calls of maps stand in functions that are generic in the key, and know nothing of it but its bounds.
-
-/// What a map says of two keys, by their hashes, once it has 7 under another.
-fn found<K: Hash + Eq + Drop>(
-    alloc: Global,
-    key: K,
-    same: &K,
-    other: &K,
-) -> Option<(Option<i32>, Option<i32>)> {
-    let mut ages = HashMap::new(alloc);
-    ages.insert(key, 7).ok()?;
-    Some((ages.get(same).copied(), ages.get(other).copied()))
-}
-
-/// What a map says of a key, by its order, once it has 7 under another.
-fn found_in_order<K: Ord + Drop>(alloc: Global, key: K, sought: &K) -> Option<i32> {
-    let mut ages = BTreeMap::new(alloc);
-    ages.insert(key, 7).ok()?;
-    ages.get(sought).copied()
 }
 
 /// What the error tells, where a slice is refused.
