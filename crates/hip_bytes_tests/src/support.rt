@@ -9,7 +9,6 @@ use std::borrow::CowSlice;
 use std::cmp::Ordering;
 use std::convert::AsSlice;
 use std::fmt;
-use std::hash::Hash;
 use std::ops::{Bound, Range};
 use std::process::Abort;
 
