@@ -1,7 +1,6 @@
 -- What is said of pieces at ranges of the caller's by what their type says of a walk.
 use Rattle.std.specs.Prelude.{◌≡◌, ℕ, List}
 use Rattle.hip_text.specs.Handle.{Handle}
-use Rattle.hip_cuts.specs.Piece.{Left}
 use Rattle.hip_cuts.specs.declared.walk.Walk.{Ghosts}
 
 -- the pieces are ready, and these ranges of the source are still to come

@@ -1,4 +1,4 @@
-use Rattle.std.proofs.Common.{rules, ◌++◌, List, [], ◌∷◌, subst}
+use Rattle.std.proofs.Common.{rules, List, [], ◌∷◌, subst}
 use Rattle.std.proofs.lemmas.List.{append-nil, append_assoc}
 use Rattle.hip_text.specs.Handle.{Handle}
 use Rattle.hip_cuts.specs.Piece.{AreParts, PartAnswers}

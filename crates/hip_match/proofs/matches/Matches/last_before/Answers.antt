@@ -1,4 +1,4 @@
-use Rattle.std.proofs.Common.{refl, ◌∙◌}
+use Rattle.std.proofs.Common.{◌∙◌}
 use Rattle.hip_match.proofs.PiecesLemmas.{TakesLastCut-before, TakesLastCut-at}
 use Rattle.hip_match.proofs.matches.Matches.last_before.Goals as goal
 
