@@ -1,7 +1,6 @@
 -- A text that is split once by another is parted at its first occurrence.
 use Rattle.std.proofs.Common.{◌≡◌, ◌∙◌, ℕ, zero, suc, ◌+◌, ◌-◌, ◌<◌, ◌≤◌, List, [], ◌∷◌, ◌++◌, Option, None, Some, Result, Ok, Err, length, take, drop, ap, sym, subst, refl, arith, ⊎_elim, take-append-drop, drop-drop, length-take-le}
 use Rattle.std.specs.Option.{option_map_or}
-use Rattle.std.specs.Str.{IsCharBoundary}
 use Rattle.std.specs.Prelude.{slice_range}
 use Rattle.std.proofs.lemmas.Bool.{cases_lt}
 use Rattle.std.proofs.lemmas.Option.{none-some}
