@@ -1,9 +1,9 @@
 //! Texts that have numbers: each different text is kept once, and the first has number 0.
 ghost use Rattle.std.specs.Prelude.{◌≡◌, ◌==◌, ◌≤◌, [], length, slice_get, true, Some};
-ghost use Rattle.std.specs.Prelude.{IfOk, MatchOption, OnErr, OnOk};
+ghost use Rattle.std.specs.Prelude.{◌^◌, IfOk, IsErrOf, IsOk, IsSome, MatchOption, OnErr, OnOk};
 ghost use Rattle.hipstr.specs.Meter.{RisesAtMost};
 ghost use Rattle.hip_uses.specs.Number.{interned, number_of};
-ghost use Rattle.hip_uses.specs.declared.intern.InternFault.TheVariants.{Memory};
+ghost use Rattle.hip_uses.specs.declared.intern.InternFault.TheVariants.{Memory, TooMany};
 
 use hipstr::string::HipStr;
 use hipstr::{Backend, Meter};
@@ -108,6 +108,8 @@ impl<'b, B: Backend> Interner<'b, B> {
             number_of text.entry.items self.new ≡ Some number) }
         ensures texts { OnOk result (self.new ≡ interned self.old text.entry.items) }
         ensures refused { OnErr result (self.new ≡ self.old) }
+        ensures known { IsSome (number_of text.entry.items self.old) → IsOk result }
+        ensures too_many { IsErrOf result TooMany → 2 ^ 32 ≤ length self.old }
         ensures shared { B.SHARES ≡ true → RisesAtMost meter.old meter.new 23 }
     {
         if let Some(number) = self.numbers.get(&text) {
