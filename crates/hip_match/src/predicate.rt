@@ -80,11 +80,6 @@ impl<F: Fn(char) -> bool> Pattern for CharPred<F> {
     }
 
     #[inline]
-    fn next_match_by(&self, _searcher: &(), text: &str, from: usize) -> Option<(usize, usize)> {
-        first_of(self, text, from)
-    }
-
-    #[inline]
     fn match_at(&self, text: &str, at: usize) -> Option<usize> {
         end_of(self, text, at)
     }
@@ -94,15 +89,7 @@ impl<F: Fn(char) -> bool> Pattern for CharPred<F> {
 
 impl<F: Fn(char) -> bool> ReversePattern for CharPred<F> {
     #[inline]
-    fn reverse_searcher(&self) {}
-
-    #[inline]
     fn last_match(&self, text: &str, to: usize) -> Option<(usize, usize)> {
-        last_of(self, text, to)
-    }
-
-    #[inline]
-    fn last_match_by(&self, _searcher: &(), text: &str, to: usize) -> Option<(usize, usize)> {
         last_of(self, text, to)
     }
 
@@ -114,18 +101,8 @@ impl<F: Fn(char) -> bool> ReversePattern for CharPred<F> {
     ghost one_start = { λ p. char_ends-one_start (λ c. answer_at p.chosen.answers c) };
 }
 
-impl<F: Fn(char) -> bool> DoubleEndedPattern for CharPred<F> {
-    #[inline]
-    fn starts_at(&self, text: &str, at: usize) -> bool {
-        self.match_at(text, at).is_some()
-    }
-}
+impl<F: Fn(char) -> bool> DoubleEndedPattern for CharPred<F> {}
 
 impl<F: Fn(char) -> bool> OneChar for CharPred<F> {
-    #[inline]
-    fn ends_at(&self, text: &str, to: usize) -> bool {
-        self.match_before(text, to).is_some()
-    }
-
     ghost one_char = { λ p. char_ends-one_char (λ c. answer_at p.chosen.answers c) };
 }

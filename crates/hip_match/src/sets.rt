@@ -51,15 +51,7 @@ impl ClonePattern for char {
 
 impl ReversePattern for char {
     #[inline]
-    fn reverse_searcher(&self) {}
-
-    #[inline]
     fn last_match(&self, text: &str, to: usize) -> Option<(usize, usize)> {
-        rfind_char(text, *self, to)
-    }
-
-    #[inline]
-    fn last_match_by(&self, _searcher: &(), text: &str, to: usize) -> Option<(usize, usize)> {
         rfind_char(text, *self, to)
     }
 
@@ -71,19 +63,9 @@ impl ReversePattern for char {
     ghost one_start = { λ c. char_ends-one_start (λ d. d == c) };
 }
 
-impl DoubleEndedPattern for char {
-    #[inline]
-    fn starts_at(&self, text: &str, at: usize) -> bool {
-        self.match_at(text, at).is_some()
-    }
-}
+impl DoubleEndedPattern for char {}
 
 impl OneChar for char {
-    #[inline]
-    fn ends_at(&self, text: &str, to: usize) -> bool {
-        self.match_before(text, to).is_some()
-    }
-
     ghost one_char = { λ c. char_ends-one_char (λ d. d == c) };
 }
 
@@ -125,11 +107,6 @@ impl<'a> Pattern for &'a [char] {
     }
 
     #[inline]
-    fn next_match_by(&self, _searcher: &(), text: &str, from: usize) -> Option<(usize, usize)> {
-        first_of(self, text, from)
-    }
-
-    #[inline]
     fn match_at(&self, text: &str, at: usize) -> Option<usize> {
         end_of(self, text, at)
     }
@@ -145,15 +122,7 @@ impl<'a> ClonePattern for &'a [char] {
 
 impl<'a> ReversePattern for &'a [char] {
     #[inline]
-    fn reverse_searcher(&self) {}
-
-    #[inline]
     fn last_match(&self, text: &str, to: usize) -> Option<(usize, usize)> {
-        last_of(self, text, to)
-    }
-
-    #[inline]
-    fn last_match_by(&self, _searcher: &(), text: &str, to: usize) -> Option<(usize, usize)> {
         last_of(self, text, to)
     }
 
@@ -165,19 +134,9 @@ impl<'a> ReversePattern for &'a [char] {
     ghost one_start = { λ s. char_ends-one_start (λ d. list_any (λ c. c == d) s.now) };
 }
 
-impl<'a> DoubleEndedPattern for &'a [char] {
-    #[inline]
-    fn starts_at(&self, text: &str, at: usize) -> bool {
-        self.match_at(text, at).is_some()
-    }
-}
+impl<'a> DoubleEndedPattern for &'a [char] {}
 
 impl<'a> OneChar for &'a [char] {
-    #[inline]
-    fn ends_at(&self, text: &str, to: usize) -> bool {
-        self.match_before(text, to).is_some()
-    }
-
     ghost one_char = { λ s. char_ends-one_char (λ d. list_any (λ c. c == d) s.now) };
 }
 
@@ -204,11 +163,6 @@ impl<'a, const N: usize> Pattern for &'a [char; N] {
     }
 
     #[inline]
-    fn next_match_by(&self, _searcher: &(), text: &str, from: usize) -> Option<(usize, usize)> {
-        first_of(self, text, from)
-    }
-
-    #[inline]
     fn match_at(&self, text: &str, at: usize) -> Option<usize> {
         end_of(self, text, at)
     }
@@ -224,15 +178,7 @@ impl<'a, const N: usize> ClonePattern for &'a [char; N] {
 
 impl<'a, const N: usize> ReversePattern for &'a [char; N] {
     #[inline]
-    fn reverse_searcher(&self) {}
-
-    #[inline]
     fn last_match(&self, text: &str, to: usize) -> Option<(usize, usize)> {
-        last_of(self, text, to)
-    }
-
-    #[inline]
-    fn last_match_by(&self, _searcher: &(), text: &str, to: usize) -> Option<(usize, usize)> {
         last_of(self, text, to)
     }
 
@@ -245,10 +191,5 @@ impl<'a, const N: usize> ReversePattern for &'a [char; N] {
 }
 
 impl<'a, const N: usize> OneChar for &'a [char; N] {
-    #[inline]
-    fn ends_at(&self, text: &str, to: usize) -> bool {
-        self.match_before(text, to).is_some()
-    }
-
     ghost one_char = { λ s. char_ends-one_char (λ d. list_any (λ c. c == d) s.now) };
 }

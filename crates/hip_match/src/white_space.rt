@@ -46,11 +46,6 @@ impl Pattern for WhiteSpace {
     }
 
     #[inline]
-    fn next_match_by(&self, _searcher: &(), text: &str, from: usize) -> Option<(usize, usize)> {
-        first_of(self, text, from)
-    }
-
-    #[inline]
     fn match_at(&self, text: &str, at: usize) -> Option<usize> {
         end_of(self, text, at)
     }
@@ -66,15 +61,7 @@ impl ClonePattern for WhiteSpace {
 
 impl ReversePattern for WhiteSpace {
     #[inline]
-    fn reverse_searcher(&self) {}
-
-    #[inline]
     fn last_match(&self, text: &str, to: usize) -> Option<(usize, usize)> {
-        last_of(self, text, to)
-    }
-
-    #[inline]
-    fn last_match_by(&self, _searcher: &(), text: &str, to: usize) -> Option<(usize, usize)> {
         last_of(self, text, to)
     }
 
@@ -86,19 +73,9 @@ impl ReversePattern for WhiteSpace {
     ghost one_start = { λ _. char_ends-one_start is_whitespace };
 }
 
-impl DoubleEndedPattern for WhiteSpace {
-    #[inline]
-    fn starts_at(&self, text: &str, at: usize) -> bool {
-        self.match_at(text, at).is_some()
-    }
-}
+impl DoubleEndedPattern for WhiteSpace {}
 
 impl OneChar for WhiteSpace {
-    #[inline]
-    fn ends_at(&self, text: &str, to: usize) -> bool {
-        self.match_before(text, to).is_some()
-    }
-
     ghost one_char = { λ _. char_ends-one_char is_whitespace };
 }
 
