@@ -28,6 +28,7 @@ mod ascii_space;
 mod boundaries;
 mod chars;
 pub mod chosen;
+mod cut_off;
 pub mod draw;
 pub mod laws;
 pub mod lines;
@@ -42,6 +43,7 @@ pub mod split;
 pub mod texts;
 pub mod trim;
 pub mod white_space;
+mod window;
 
 pub use chosen::Chosen;
 pub use draw::{End, draw_into};
