@@ -14,6 +14,7 @@ mod fed;
 mod hip_os_str;
 mod hip_path;
 pub mod laws;
+mod name;
 mod order;
 
 pub use component::{Component, Components};
@@ -22,7 +23,8 @@ pub use hip_bytes::{
     JsonFault, Kind, Length, Meter, MutateFault, Rc, RefMut, Room, Source, Start, Unique, mutate,
     with_mutated,
 };
-pub use hip_os_str::HipOsStr;
-pub use hip_path::HipPath;
+pub use hip_os_str::{ByBytes, HipOsStr};
+pub use hip_path::{ByComponents, HipPath};
 pub use hip_text::HipStr;
+pub use name::Name;
 pub use order::{components_eq, path_cmp};
