@@ -48,7 +48,7 @@ mod window;
 pub use chosen::Chosen;
 pub use draw::{End, draw_into};
 pub use lines::Lines;
-pub use matches::{MatchIndices, Matches};
+pub use matches::{Indices, MatchIndices, Matches};
 pub use pattern::{ClonePattern, DoubleEndedPattern, OneChar, Pattern, ReversePattern};
 pub use predicate::{CharPred, choose_by};
 pub use ranges::{CloneRanges, Ranges, RangesBack};

@@ -119,9 +119,7 @@ impl<'h, P: OneChar> Matches<'h, P> {
             }
         }
     }
-}
 
-impl<'h, P: OneChar> Matches<'h, P> {
     // The last match that ends before `end`. One that ends there is passed.
     #[inline]
     pub(crate) fn last_before(&mut self, end: usize) -> Option<(usize, usize)>
@@ -144,15 +142,38 @@ impl<'h, P: OneChar> RangesBack for Matches<'h, P> {
     }
 }
 
-/// The ranges of the occurrences of a pattern in a text, leftmost first: those of [`Matches`].
+/// The ranges of matches, as a walk that gives them with their places.
 #[derive(Clone, Drop)]
-pub struct MatchIndices<'h, P: Pattern> {
-    matches: Matches<'h, P>,
+pub struct Indices<M> {
+    pub(crate) matches: M,
 }
 
-impl<'h, P: ClonePattern> CloneRanges for MatchIndices<'h, P> {
-    ghost clone_keeps = { λ _ _ is. is P.clones_keep };
+impl<M: CloneRanges> CloneRanges for Indices<M> {
+    ghost clone_keeps = { λ s copy is. M.clone_keeps s.matches copy.matches is };
 }
+
+impl<M: Ranges> Ranges for Indices<M> {
+    ghost ready = { λ s. M.ready s.matches };
+
+    ghost text = { λ s. M.text s.matches };
+
+    ghost rest = { λ s. M.rest s.matches };
+
+    #[inline]
+    fn next(&mut self) -> Option<(usize, usize)> {
+        self.matches.next()
+    }
+}
+
+impl<M: RangesBack> RangesBack for Indices<M> {
+    #[inline]
+    fn next_back(&mut self) -> Option<(usize, usize)> {
+        self.matches.next_back()
+    }
+}
+
+/// The ranges of the occurrences of a pattern in a text, leftmost first: those of [`Matches`].
+pub type MatchIndices<'h, P> = Indices<Matches<'h, P>>;
 
 impl<'h, P: Pattern> MatchIndices<'h, P> {
     /// The ranges of the occurrences of `pattern` in `text`.
@@ -162,28 +183,8 @@ impl<'h, P: Pattern> MatchIndices<'h, P> {
         ensures ranges { Gives ⟦<MatchIndices<'h, P> as Ranges>⟧ result text.now
             (leftmost (P.ends pattern text.now) (length text.now)) }
     {
-        MatchIndices {
+        Indices {
             matches: Matches::new(text, pattern),
         }
-    }
-}
-
-impl<'h, P: Pattern> Ranges for MatchIndices<'h, P> {
-    ghost ready = { λ s. ⟦<Matches<'h, P> as Ranges>⟧.ready s.matches };
-
-    ghost text = { λ s. s.matches.text.now };
-
-    ghost rest = { λ s. ⟦<Matches<'h, P> as Ranges>⟧.rest s.matches };
-
-    #[inline]
-    fn next(&mut self) -> Option<(usize, usize)> {
-        self.matches.next()
-    }
-}
-
-impl<'h, P: OneChar> RangesBack for MatchIndices<'h, P> {
-    #[inline]
-    fn next_back(&mut self) -> Option<(usize, usize)> {
-        self.matches.next_back()
     }
 }

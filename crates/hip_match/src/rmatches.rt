@@ -6,6 +6,7 @@ ghost use Rattle.hip_match.specs.Rightmost.{rightmost, rightmost_between};
 ghost use Rattle.hip_match.specs.Ready.{IsBackWindow, IsBetweenBack};
 
 use crate::boundaries::boundary_before;
+use crate::matches::Indices;
 use crate::pattern::{ClonePattern, OneChar, ReversePattern};
 use crate::ranges::{CloneRanges, Ranges, RangesBack};
 use crate::window::Window;
@@ -117,14 +118,7 @@ impl<'h, P: OneChar> RangesBack for RMatches<'h, P> {
 }
 
 /// The ranges of the rightmost occurrences of a pattern in a text, last first: those of [`RMatches`].
-#[derive(Clone, Drop)]
-pub struct RMatchIndices<'h, P: ReversePattern> {
-    matches: RMatches<'h, P>,
-}
-
-impl<'h, P: ReversePattern + ClonePattern> CloneRanges for RMatchIndices<'h, P> {
-    ghost clone_keeps = { λ _ _ is. is P.clones_keep };
-}
+pub type RMatchIndices<'h, P> = Indices<RMatches<'h, P>>;
 
 impl<'h, P: ReversePattern> RMatchIndices<'h, P> {
     /// The ranges of the rightmost occurrences of `pattern` in `text`.
@@ -134,28 +128,8 @@ impl<'h, P: ReversePattern> RMatchIndices<'h, P> {
         ensures ranges { Gives ⟦<RMatchIndices<'h, P> as Ranges>⟧ result text.now
             (rightmost (P.ends pattern text.now) (length text.now)) }
     {
-        RMatchIndices {
+        Indices {
             matches: RMatches::new(text, pattern),
         }
-    }
-}
-
-impl<'h, P: ReversePattern> Ranges for RMatchIndices<'h, P> {
-    ghost ready = { λ s. ⟦<RMatches<'h, P> as Ranges>⟧.ready s.matches };
-
-    ghost text = { λ s. s.matches.text.now };
-
-    ghost rest = { λ s. ⟦<RMatches<'h, P> as Ranges>⟧.rest s.matches };
-
-    #[inline]
-    fn next(&mut self) -> Option<(usize, usize)> {
-        self.matches.next()
-    }
-}
-
-impl<'h, P: OneChar> RangesBack for RMatchIndices<'h, P> {
-    #[inline]
-    fn next_back(&mut self) -> Option<(usize, usize)> {
-        self.matches.next_back()
     }
 }
