@@ -36,9 +36,9 @@ pub(crate) fn cut_last(count: &mut usize, rest: (usize, usize)) -> Option<(usize
     Some(rest)
 }
 
-// The part from `start` to `end`, if it holds something.
+// The part from `start` to `end`, unless it is empty.
 #[inline(always)]
-pub(crate) fn if_some(start: usize, end: usize) -> Option<(usize, usize)>
+pub(crate) fn unless_empty(start: usize, end: usize) -> Option<(usize, usize)>
     ensures { result ≡ (if start == end then None else Some (start, end)) }
 {
     if start == end {

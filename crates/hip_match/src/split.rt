@@ -7,7 +7,7 @@ ghost use Rattle.hip_match.specs.Pieces.{split, split_inclusive, split_terminato
 ghost use Rattle.hip_match.specs.Pieces.{at_most_to, ended, gaps, to_terminator};
 ghost use Rattle.hip_match.specs.Ready.{IsBetween};
 
-use crate::cut_off::{cut_back, cut_front, cut_last, if_some};
+use crate::cut_off::{cut_back, cut_front, cut_last, unless_empty};
 use crate::matches::Matches;
 use crate::pattern::{ClonePattern, OneChar, Pattern};
 use crate::ranges::{CloneRanges, Ranges, RangesBack};
@@ -130,7 +130,7 @@ impl<'h, P: Pattern> Ranges for SplitInclusive<'h, P> {
             }
             None => {
                 self.done = true;
-                if_some(self.start, self.end)
+                unless_empty(self.start, self.end)
             }
         }
     }
@@ -150,7 +150,7 @@ impl<'h, P: OneChar> RangesBack for SplitInclusive<'h, P> {
             }
             None => {
                 self.done = true;
-                if_some(self.start, self.end)
+                unless_empty(self.start, self.end)
             }
         }
     }
