@@ -8,7 +8,6 @@ mod json;
 mod views;
 
 /// What compares names by their bytes.
-#[derive(Clone, Copy, Debug)]
 pub struct ByBytes;
 
 /// An OS string that is cheap to clone: a [`Name`] of any bytes, by which it is compared.

@@ -7,7 +7,6 @@ mod json;
 mod views;
 
 /// What compares names by the components of a path.
-#[derive(Clone, Copy, Debug)]
 pub struct ByComponents;
 
 /// A path that is cheap to clone: a [`Name`] that is compared by its components.

@@ -3,6 +3,7 @@
 //! - [`HipOsStr`] is the OS string, generic in the [`Backend`] as [`HipByt`] is. On Unix an OS string is bytes, which needn't be UTF-8.
 //! - [`HipPath`] is the path. [`HipPath::components`] gives its [`Component`]s; two paths are equal, and hash alike, where these are the
 //!   same.
+//! - Both are a [`Name`], at what it is compared by, [`ByBytes`] or [`ByComponents`].
 //! - [`path_cmp`] and [`components_eq`] compare paths that are plain bytes, without memory.
 //!
 //! The words of the contracts are those of hip_bytes, and `Components` (the components of a path, and their order), `Shown` (what is seen
