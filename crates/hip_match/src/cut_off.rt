@@ -1,5 +1,5 @@
 //! Parts that are cut off what is left of a text, at its front or at its back.
-ghost use Rattle.std.specs.Prelude.{◌≡◌, ◌==◌, None, Some, if◌then◌else◌};
+ghost use Rattle.std.specs.Prelude.{◌≡◌, ◌≤◌, ◌==◌, None, Some, if◌then◌else◌};
 
 // The part before what was found, behind which `start` comes to stand.
 #[inline(always)]
@@ -39,10 +39,12 @@ pub(crate) fn cut_last(count: &mut usize, rest: (usize, usize)) -> Option<(usize
 // The part from `start` to `end`, unless it is empty.
 #[inline(always)]
 pub(crate) fn unless_empty(start: usize, end: usize) -> Option<(usize, usize)>
+    requires { start ≤ end }
     ensures { result ≡ (if start == end then None else Some (start, end)) }
 {
-    if start == end {
-        return None;
+    if start < end {
+        Some((start, end))
+    } else {
+        None
     }
-    Some((start, end))
 }

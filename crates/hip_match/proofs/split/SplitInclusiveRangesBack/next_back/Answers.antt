@@ -15,3 +15,6 @@ pub returns-in-None-clause-ready : goal.returns-in-None-clause-ready
 returns-in-None-clause-ready g c =
     let taken = c.in-None.ensures.taken.list _ c.requires.1.in_order in
     (c.in-None.ensures.taken.ready, IsBetween-moved _ _ _ _ _ c.in-None.ensures.taken.text (record { start = c.requires.1.start; end = c.requires.1.end; in_order = taken.1 }))
+
+pub unless_empty-requires : goal.unless_empty-requires
+unless_empty-requires g c = InOrder-le _ _ _ c.requires.1.in_order
