@@ -207,9 +207,6 @@ TakesLastCut-at old mid new n m (Some y) is full ge later some i h =
       InOrder-widen new i y.0 y.1 inner.0 (omega arith),
     )
 
-pub ended-nil : (i n : ℕ) → i ≤ n → n ≤ i → ended i [] n ≡ []
-ended-nil i n low high = cond-true _ _ _ (eq-eqb i n (omega arith))
-
 -- the ranges that hold something, but for one at an end
 pub nonempty-append : (l : List (ℕ × ℕ)) (x : ℕ × ℕ) → nonempty (l ++ x ∷ []) ≡ nonempty l ++ nonempty (x ∷ [])
 nonempty-append [] x = refl
