@@ -1,7 +1,6 @@
 pub mod Amortised
 pub mod Joins
 pub mod Little
-pub mod PartedLemmas
 pub mod Parts
 pub mod Places
 pub mod Runs

@@ -34,13 +34,12 @@ impl<'b, B: Backend> Pool<'b, B> {
         ensures counted { RisesAtMost meter.old meter.new
             (cost_of B.SHARES self.old (Command.Pieces s how.entry script.entry first)) }
     {
-        if s >= self.len() || !self.has_slots(first, script.len()) {
-            return Err(Reason::NoSlot);
-        }
+        self.find(s)?;
+        self.find_all(first, script.len())?;
         if is_among(s, first, script.len()) {
             return Err(Reason::Overlap);
         }
-        let text = text_in(&self.slots, s)?;
+        let text = self.slots[s].text()?;
         if lacks_back(how, script) {
             return Err(Reason::OneEnd);
         }
@@ -56,22 +55,6 @@ fn is_among(s: usize, first: usize, count: usize) -> bool
     ensures { result ≡ (nat_le first s && nat_lt s (first + count)) }
 {
     first <= s && s - first < count
-}
-
-/// The text in a slot, if it is one.
-fn text_in<'a, 'b, B: Backend>(
-    slots: &'a [Slot<'b, B>],
-    i: usize,
-) -> Result<&'a HipStr<'b, B>, Reason>
-    requires { i < length slots.now }
-    ensures flag { text_at (map state_of slots.now) i ≡ is_ok result }
-    ensures text { IfOk result (λ text. text.now ≡ slot_at (map state_of slots.now) i) }
-    ensures not_text { OnErr result (result ≡ Err Reason.NotText) }
-{
-    match &slots[i] {
-        Slot::Bytes(_) => Err(Reason::NotText),
-        Slot::Text(text) => Ok(text),
-    }
 }
 
 /// Whether a script draws from the back what comes from the front alone.

@@ -1,23 +1,19 @@
-use Rattle.std.proofs.Common.{◌<◌, false, true, length, arith}
+use Rattle.std.proofs.Common.{◌≡◌, None, arith, length}
+use Rattle.hip_bytes.specs.Handle.{Handle}
+use Rattle.hip_bytes.specs.Cost.{OwnNeedsMemory}
 use Rattle.hip_bytes.specs.Made.{IsOwned}
-use Rattle.hipstr.proofs.Places.{replaced}
+use Rattle.hipstr.specs.Slot.{SlotState, state_at, state_of}
+use Rattle.hipstr.specs.Step.{slot_fault}
 use Rattle.hipstr.specs.declared.command.Command.TheVariants.{Owned}
-use Rattle.hipstr.specs.declared.command.Answer.TheVariants.{Done}
-use Rattle.hipstr.proofs.Steps.{performed, slot-there}
+use Rattle.hipstr.proofs.Places.{in_place, put-is}
+use Rattle.hipstr.proofs.Steps.{no-other, slot-step}
 use Rattle.hipstr.proofs.pool.Pool.make_owned.Goals as goal
 
-pub returns-in-Ok-clause-step : goal.returns-in-Ok-clause-step
-returns-in-Ok-clause-step g c =
-    let within : c.args.t < length c.args.self.now = omega (arith, c.if-t-len.false, c.len.ensures) in
-    let unrefused = slot-there c.args.self.now c.args.t within in
-    let changed = IsOwned in
-    performed g.B.Backend.SHARES c.args.self.now (Owned c.args.t) Done c.put.new.self unrefused
-    (replaced c.args.self.now c.take.new.self _ c.args.t false _ c.in-Bytes.bytes c.in-Ok.owned changed within c.in-Bytes.ensures.flag c.in-Bytes.ensures.handle c.take.ensures.emptied c.put.ensures c.in-Ok.ensures.owned)
-
-pub returns-in-Ok-into_owned_metered-clause-step : goal.returns-in-Ok-into_owned_metered-clause-step
-returns-in-Ok-into_owned_metered-clause-step g c =
-    let within : c.args.t < length c.args.self.now = omega (arith, c.if-t-len.false, c.len.ensures) in
-    let unrefused = slot-there c.args.self.now c.args.t within in
-    let changed = IsOwned in
-    performed g.B.Backend.SHARES c.args.self.now (Owned c.args.t) Done c.put-in-Ok-into_owned_metered.new.self unrefused
-    (replaced c.args.self.now c.take.new.self _ c.args.t true _ c.in-Text.text c.in-Ok-into_owned_metered.owned changed within c.in-Text.ensures.flag c.in-Text.ensures.handle c.take.ensures.emptied c.put-in-Ok-into_owned_metered.ensures c.in-Ok-into_owned_metered.ensures.owned)
+pub returns-clause-step : goal.returns-clause-step
+returns-clause-step g c =
+    let slots = c.args.self.now in
+    let was = state_of c.index_mut.result.now in
+    let is_was : was ≡ state_at slots c.args.t = grind (arith, in_place, c.index_mut.ensures.value, c.self.view_is) in
+    slot-step g.B.Backend.SHARES slots _ c.args.t was (state_of c.make_owned.new.self) (Owned c.args.t) (λ slot. None) (λ slot. OwnNeedsMemory slot.handle.kind (length slot.handle.items)) (λ slot. slot.is_text)
+    IsOwned c.make_owned.result c.in_ok-find.ensures.within is_was (put-is c.self.inside.slots.items slots c.args.t c.make_owned.new.self c.self.view_is) (no-other (slot_fault slots c.args.t))
+    c.make_owned.ensures.owned (λ done. done) (λ needs same. (needs, same))

@@ -1,20 +1,17 @@
--- A text that is split once by another is parted at its first occurrence.
-use Rattle.std.proofs.Common.{◌≡◌, ◌∙◌, ℕ, zero, suc, ◌+◌, ◌-◌, ◌<◌, ◌≤◌, List, [], ◌∷◌, ◌++◌, Option, None, Some, Result, Ok, Err, length, take, drop, ap, sym, subst, refl, arith, ⊎_elim, take-append-drop, drop-drop, length-take-le}
+-- The first occurrence of a text in another parts it.
+use Rattle.std.proofs.Common.{◌≡◌, ◌∙◌, ℕ, zero, suc, ◌+◌, ◌-◌, ◌<◌, ◌≤◌, List, [], ◌∷◌, ◌++◌, Option, None, Some, length, take, drop, ap, sym, subst, refl, arith, ⊎_elim, take-append-drop, drop-drop, length-take-le}
 use Rattle.std.specs.Option.{option_map_or}
 use Rattle.std.specs.Prelude.{slice_range}
 use Rattle.std.proofs.lemmas.Bool.{cases_lt}
 use Rattle.std.proofs.lemmas.Option.{none-some}
-use Rattle.hip_bytes.specs.Handle.{Handle}
 use Rattle.hip_match.specs.Leftmost.{AllOccur, leftmost, leftmost_from, end_within}
 use Rattle.hip_match.specs.Occurrence.{NoneStarts}
+use Rattle.hip_match.specs.Parted.{IsParted, Lacks}
 use Rattle.hip_match.specs.Texts.{text_ends}
-use Rattle.hip_match.specs.Trims.{cut_at_first, split_once}
-use Rattle.hip_cuts.specs.Cut.{OnceAnswers, PartsIfAny}
 use Rattle.hip_match.specs.TextLaws.{text_ends-is}
 use Rattle.hip_match.proofs.LawLemmas.{leftmost-occur}
 use Rattle.hip_match.proofs.LeftmostLemmas.{end_within-some}
 use Rattle.hip_match.proofs.TextLemmas.{rest_slice}
-use Rattle.hipstr.specs.Parted.{IsParted, Lacks, PartedAs}
 
 by_option : {R A : Type 0} (o : Option A) → (o ≡ None → R) → ((a : A) → o ≡ Some a → R) → R
 by_option None none some = none refl
@@ -82,22 +79,3 @@ module _ (p t : List ℕ) where
         joined = sym (take-append-drop m.0 t) ∙ (λ i. sym front_is i ++ behind i) ∙ ap (λ l. front ++ (p ++ l)) (sym back_is);
         first = λ k low high. unclipped p t k (none k low (omega arith));
       }
-
-  -- the parts that are cut there, by the bytes
-  parted : {E : Type 0} (found : List (ℕ × ℕ)) (source : Handle) (result : Result (Option (Handle × Handle)) E) → leftmost (text_ends p t) (length t) ≡ found
-      → source.items ≡ t → PartsIfAny (λ part. part) (cut_at_first found (length t)) source result → PartedAs p t result
-  parted [] source (Ok None) found same answers = Lacks-none found
-  parted [] source (Ok (Some parts)) found same answers = cc
-  parted [] source (Err error) found same answers = tt
-  parted (m ∷ ms) source (Ok (Some parts)) found same answers =
-      IsParted-first m ms parts.0.items parts.1.items found
-      (answers.0.items_are ∙ ap (λ l. slice_range l 0 m.0) same) (answers.1.items_are ∙ ap (λ l. slice_range l m.1 (length t)) same)
-  parted (m ∷ ms) source (Ok None) found same answers = absurd answers
-  parted (m ∷ ms) source (Err error) found same answers = tt
-
--- what is split once by a text is parted at its first occurrence
-pub PartedAs-once : {E : Type 0} (p t : List ℕ) (source : Handle) (result : Result (Option (Handle × Handle)) E) → source.items ≡ t
-    → OnceAnswers (λ part. part) split_once (text_ends p) source result → PartedAs p t result
-PartedAs-once p t source result same answers =
-    parted p t (leftmost (text_ends p t) (length t)) source result refl same
-    (subst (λ (l : List ℕ). PartsIfAny (λ part. part) (split_once (text_ends p l) (length l)) source result) same answers)
