@@ -19,8 +19,8 @@ parted p t (m ∷ ms) source (Ok (Some parts)) found same answers =
 parted p t (m ∷ ms) source (Ok None) found same answers = absurd answers
 parted p t (m ∷ ms) source (Err error) found same answers = tt
 
-pub parted-once : {E : Type 0} (p t : List ℕ) (source : Handle) (result : Result (Option (Handle × Handle)) E) → source.items ≡ t
+pub parted_once : {E : Type 0} (p t : List ℕ) (source : Handle) (result : Result (Option (Handle × Handle)) E) → source.items ≡ t
     → OnceAnswers (λ part. part) split_once (text_ends p) source result → PartedAs p t result
-parted-once p t source result same answers =
+parted_once p t source result same answers =
     parted p t (leftmost (text_ends p t) (length t)) source result refl same
     (subst (λ (l : List ℕ). PartsIfAny (λ part. part) (split_once (text_ends p l) (length l)) source result) same answers)

@@ -1,4 +1,5 @@
 pub mod Amortised
+pub mod InPlace
 pub mod Joins
 pub mod Little
 pub mod Parts

@@ -14,6 +14,7 @@ pub use hip_cuts::laws::{
 /// source holds; a text that is parted in two that for each of its parts, and pieces for each that is drawn; and each of them nothing
 /// where the source is borrowed. With the contract of [`run`](crate::run), whose meter rises by no more than these costs, that is what a
 /// list of commands copies.
+#[tactic(auto, using(crate::proofs::Little::copies_little))]
 pub fn parts_copy_little(command: Command<'_>)
     ensures { (slots : List SlotState) (cost : ℕ) → Costs true slots command.entry cost
         → CopiesLittle slots command.entry cost }

@@ -139,6 +139,7 @@ impl<'b, B: Backend> Pool<'b, B> {
 
     /// The slot at a position.
     #[inline]
+    #[tactic(auto, using(crate::proofs::Places::in_place))]
     pub fn slot(&self, i: usize) -> Option<&Slot<'b, B>>
         ensures found { IsSome result ↔ (i < length self.now) }
         ensures slot { IfSome result (λ slot. state_of slot.now ≡ state_at self.now i) }
@@ -184,6 +185,7 @@ impl<'b, B: Backend> Pool<'b, B> {
 
     /// Puts a slot in the place of the one at a position, which is dropped.
     #[inline]
+    #[tactic(auto, using(crate::proofs::Places::in_place))]
     pub(crate) fn put(&mut self, i: usize, slot: Slot<'b, B>)
         requires { i < length self.old }
         ensures { self.new ≡ slice_set self.old i (state_of slot.entry) }

@@ -10,14 +10,13 @@ ghost use Rattle.hipstr.specs.Reason.{answer_of};
 ghost use Rattle.hipstr.specs.Slot.{state_of, slot_at, text_at, empty_slot};
 ghost use Rattle.hipstr.specs.Step.{Step, cost_of};
 
-use super::parts::make_parts;
+use super::parts::{empty_all, make_parts};
 use crate::command::{Answer, How, Pat, Reason};
 use crate::pool::{Pool, Slot};
 use hip_bytes::{Backend, Meter};
 use hip_match::draw::End;
 use hip_text::HipStr;
 use std::alloc::Global;
-use std::mem;
 
 impl<'b, B: Backend> Pool<'b, B> {
     pub(super) fn make_pieces(
@@ -116,7 +115,6 @@ fn put_parts<'b, B: Backend>(
     ensures emptied { map state_of spare.new
         ≡ replicate count empty_slot ++ drop count (map state_of spare.old) }
 {
-    for i in 0..count {
-        slots[first + i] = mem::replace(&mut spare[i], Slot::empty());
-    }
+    slots[first..first + count].swap_with_slice(&mut spare[..count]);
+    empty_all(&mut spare[..count]);
 }
