@@ -1,7 +1,12 @@
 -- The words of a text get their numbers one after another.
-use Rattle.std.proofs.Common.{◌≡◌, ◌∙◌, ℕ, List, [], ◌∷◌, ◌++◌, Option, None, Some, length, take, ap, sym, subst, refl, arith}
+use Rattle.std.proofs.Common.{◌≡◌, ◌∙◌, ℕ, List, [], ◌∷◌, ◌++◌, Option, None, Some, Result, Ok, length, take, ap, sym, subst, refl, arith}
+use Rattle.std.specs.Prelude.{slice_range}
 use Rattle.std.specs.List.{AllZip}
 use Rattle.std.proofs.lemmas.List.{append-nil, append_assoc, length-take, take-append-le}
+use Rattle.std.proofs.Math.Seq.{take-length}
+use Rattle.hipstr.specs.Handle.{Handle}
+use Rattle.hipstr.specs.Piece.{DrawsFirst, Left}
+use Rattle.hip_uses.specs.Words.{filled_parts, with_filled}
 use Rattle.hip_uses.specs.Number.{AreNumbers, all_interned, interned, interned_from, number_of}
 use Rattle.hip_uses.proofs.Interned.{number_from-push}
 
@@ -62,3 +67,51 @@ pub numbered-all : (old now all : List (List ℕ)) (numbers : List ℕ) → Numb
 numbered-all old now all numbers so_far =
     let whole : so_far.done ≡ all = sym (append-nil so_far.done) ∙ so_far.whole in
     (subst (λ l. AreNumbers now l numbers) whole so_far.are, so_far.texts ∙ ap (all_interned old) whole)
+
+-- what is to come where a part is a word, and where it is none
+word-first : (bytes : List ℕ) (words : List (List ℕ)) → ¬ (length bytes ≡ 0) → with_filled bytes words ≡ bytes ∷ words
+word-first [] words filled = absurd (filled refl)
+word-first (byte ∷ bytes) words filled = refl
+
+word-none : (bytes : List ℕ) (words : List (List ℕ)) → length bytes ≡ 0 → with_filled bytes words ≡ words
+word-none [] words empty = refl
+word-none (byte ∷ bytes) words empty = absurd (omega (arith, empty))
+
+-- of the parts at all ranges of a text the words that were drawn have their numbers
+pub record Walked (old : List (List ℕ)) (text : Handle) (all : List (ℕ × ℕ)) (now : List (List ℕ)) (left : Left) (numbers : List ℕ) : Type 0 where
+  pub words : Numbered old now (filled_parts text.items all) (filled_parts text.items left.rest) numbers
+  pub source : left.source ≡ text
+  pub kept : take (length old) now ≡ old
+
+pub walked-none : (old : List (List ℕ)) (text : Handle) (left : Left) → left.source ≡ text → Walked old text left.rest old left []
+walked-none old text left source = record { words = numbered-none old (filled_parts text.items left.rest); source = source; kept = take-length old }
+
+module _ (old : List (List ℕ)) (text : Handle) (all : List (ℕ × ℕ)) (now : List (List ℕ)) (left next : Left) (numbers : List ℕ) (E : Type 0) (part : Handle)
+    (so_far : Walked old text all now left numbers) (draws : DrawsFirst left (let result : Option (Result Handle E) = Some (Ok part) in result) next) where
+  to_come : filled_parts text.items left.rest ≡ with_filled part.items (filled_parts text.items next.rest)
+  to_come =
+      ap (filled_parts text.items) draws.1.1
+      ∙ ap (λ bytes. with_filled bytes (filled_parts text.items next.rest)) (sym (draws.1.3.items_are ∙ ap (λ (source : Handle). slice_range source.items draws.1.0.0 draws.1.0.1) so_far.source))
+
+  pub walked-on : (later : List (List ℕ)) (more : List ℕ) (number : ℕ) → ¬ (length part.items ≡ 0) → later ≡ interned now part.items → number_of part.items later ≡ Some number → more ≡ numbers ++ number ∷ []
+      → Walked old text all later next more
+  walked-on later more number filled is has pushed = rw (is, pushed) (record {
+    words = numbered-more old now (filled_parts text.items all) (filled_parts text.items left.rest) (filled_parts text.items next.rest) numbers part.items number so_far.words
+        (to_come ∙ word-first part.items (filled_parts text.items next.rest) filled) (rw (← is) has);
+    source = draws.0 ∙ so_far.source;
+    kept = kept-interned old now part.items so_far.kept;
+  })
+
+  pub walked-over : length part.items ≡ 0 → Walked old text all now next numbers
+  walked-over empty = record {
+    words = subst (λ rest. Numbered old now (filled_parts text.items all) rest numbers) (to_come ∙ word-none part.items (filled_parts text.items next.rest) empty) so_far.words;
+    source = draws.0 ∙ so_far.source;
+    kept = so_far.kept;
+  }
+
+-- all were drawn
+pub walked-all : (old : List (List ℕ)) (text : Handle) (all : List (ℕ × ℕ)) (now : List (List ℕ)) (left : Left) (numbers : List ℕ) → Walked old text all now left numbers → left.rest ≡ []
+    → AreNumbers now (filled_parts text.items all) numbers × (now ≡ all_interned old (filled_parts text.items all))
+walked-all old text all now left numbers so_far none =
+    numbered-all old now (filled_parts text.items all) numbers
+    (subst (λ (rest : List (ℕ × ℕ)). Numbered old now (filled_parts text.items all) (filled_parts text.items rest) numbers) none so_far.words)
