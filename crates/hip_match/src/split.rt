@@ -7,6 +7,7 @@ ghost use Rattle.hip_match.specs.Pieces.{split, split_inclusive, split_terminato
 ghost use Rattle.hip_match.specs.Pieces.{at_most_to, ended, gaps, to_terminator};
 ghost use Rattle.hip_match.specs.Ready.{IsBetween};
 
+use crate::cut_off::{cut_back, cut_front, cut_last, unless_empty};
 use crate::matches::Matches;
 use crate::pattern::{ClonePattern, OneChar, Pattern};
 use crate::ranges::{CloneRanges, Ranges, RangesBack};
@@ -54,11 +55,7 @@ impl<'h, P: Pattern> Ranges for Split<'h, P> {
             return None;
         }
         match self.matches.next() {
-            Some((start, end)) => {
-                let first = (self.start, start);
-                self.start = end;
-                Some(first)
-            }
+            Some(found) => Some(cut_front(&mut self.start, found)),
             None => {
                 self.done = true;
                 Some((self.start, self.end))
@@ -74,11 +71,7 @@ impl<'h, P: OneChar> RangesBack for Split<'h, P> {
             return None;
         }
         match self.matches.next_back() {
-            Some((start, end)) => {
-                let last = (end, self.end);
-                self.end = start;
-                Some(last)
-            }
+            Some(found) => Some(cut_back(&mut self.end, found)),
             None => {
                 self.done = true;
                 Some((self.start, self.end))
@@ -137,11 +130,7 @@ impl<'h, P: Pattern> Ranges for SplitInclusive<'h, P> {
             }
             None => {
                 self.done = true;
-                if self.start < self.end {
-                    Some((self.start, self.end))
-                } else {
-                    None
-                }
+                unless_empty(self.start, self.end)
             }
         }
     }
@@ -161,11 +150,7 @@ impl<'h, P: OneChar> RangesBack for SplitInclusive<'h, P> {
             }
             None => {
                 self.done = true;
-                if self.start < self.end {
-                    Some((self.start, self.end))
-                } else {
-                    None
-                }
+                unless_empty(self.start, self.end)
             }
         }
     }
@@ -272,24 +257,16 @@ impl<'h, P: Pattern> Ranges for SplitN<'h, P> {
 
     #[inline(always)]
     fn next(&mut self) -> Option<(usize, usize)> {
-        if self.count == 0 {
-            return None;
-        }
-        if self.count == 1 {
-            self.count = 0;
-            return Some((self.start, self.end));
+        if self.count <= 1 {
+            return cut_last(&mut self.count, (self.start, self.end));
         }
         match self.matches.next() {
-            Some((start, end)) => {
-                let piece = (self.start, start);
-                self.start = end;
+            Some(found) => {
+                let piece = cut_front(&mut self.start, found);
                 self.count -= 1;
                 Some(piece)
             }
-            None => {
-                self.count = 0;
-                Some((self.start, self.end))
-            }
+            None => cut_last(&mut self.count, (self.start, self.end)),
         }
     }
 }

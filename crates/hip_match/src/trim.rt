@@ -141,8 +141,7 @@ pub fn split_once<P: Pattern>(text: &str, pattern: P) -> Option<((usize, usize),
     ensures value { result ≡ split_once (P.ends pattern text.now) (length text.now) }
     ensures cut { IfSome result (λ parts. IsCut text.now parts.0 × IsCut text.now parts.1) }
 {
-    let mut matches = Matches::new(text, pattern);
-    let (start, end) = matches.next()?;
+    let (start, end) = Matches::new(text, pattern).next()?;
     Some(((0, start), (end, text.len())))
 }
 
@@ -156,7 +155,6 @@ pub fn rsplit_once<P: ReversePattern>(
     ensures value { result ≡ rsplit_once (P.ends pattern text.now) (length text.now) }
     ensures cut { IfSome result (λ parts. IsCut text.now parts.0 × IsCut text.now parts.1) }
 {
-    let mut matches = RMatches::new(text, pattern);
-    let (start, end) = matches.next()?;
+    let (start, end) = RMatches::new(text, pattern).next()?;
     Some(((0, start), (end, text.len())))
 }

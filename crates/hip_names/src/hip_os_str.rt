@@ -1,25 +1,14 @@
-ghost use Rattle.std.specs.Prelude.{◌≡◌};
+//! OS strings.
+use crate::name::Name;
 
-use hip_bytes::{Backend, HipByt};
-use std::marker::Model;
-
+mod change;
 mod compare;
 mod convert;
 mod json;
-mod make;
-mod mutate;
 mod views;
 
-/// An OS string that is cheap to clone: a [`HipByt`] of any bytes.
-#[derive(Drop)]
-pub struct HipOsStr<'b, B: Backend> {
-    bytes: HipByt<'b, B>,
-}
+/// What compares names by their bytes.
+pub struct ByBytes;
 
-impl<'b, B: Backend> Model for HipOsStr<'b, B> {
-    ghost use Rattle.hip_bytes.specs.Handle.{Handle};
-
-    ghost Value = { Handle };
-
-    ghost view = { λ name. name.bytes };
-}
+/// An OS string that is cheap to clone: a [`Name`] of any bytes, by which it is compared.
+pub type HipOsStr<'b, B> = Name<'b, B, ByBytes>;
