@@ -79,12 +79,17 @@ fn given<'h, 'b, B: Backend, I: Unnumbered + Drop>(pieces: IterWrapper<'h, 'b, B
     tally
 }
 
+/// From the back, of a walk of fewer than ten pieces.
 fn given_from_back<'h, 'b, B: Backend, I: Unnumbered + RangesBack + Drop>(
     pieces: IterWrapper<'h, 'b, B, I>,
 ) -> Tally {
+    let mut pieces = pieces;
     let mut tally = Tally::none();
-    for piece in pieces.rev() {
-        tally.count(piece);
+    for _ in 0..10 {
+        match pieces.next_back() {
+            Some(piece) => tally.count(piece),
+            None => return tally,
+        }
     }
     tally
 }
