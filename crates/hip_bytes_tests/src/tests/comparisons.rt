@@ -1,6 +1,9 @@
 //! Order, equality and maps.
-use crate::groups::{Group, on_rc, on_unique};
-use crate::support::{Bytes, must};
+use super::bytes::Bytes;
+use super::maps::{found, found_in_order};
+use super::suite::{Suite, on};
+use super::support::{must, text_of};
+use hip_bytes::{Rc, Unique};
 use std::alloc::Global;
 use std::cmp::Ordering;
 use std::process::Abort;
@@ -14,7 +17,7 @@ fn order<H: Bytes>(rt: &impl Abort, alloc: Global) {
             lent.cmp(&lent),
             lent.cmp(&copied),
             copied.cmp(&lent),
-            lent.is_less(&copied)
+            lent < copied
         ),
         (Ordering::Equal, Ordering::Less, Ordering::Greater, true)
     );
@@ -41,38 +44,42 @@ fn other_backend<H: Bytes>(rt: &impl Abort, alloc: Global) {
 }
 
 fn debug<H: Bytes>(rt: &impl Abort, alloc: Global) {
-    let said = must(rt, H::borrowed(b"abc").said(alloc));
+    let said = must(rt, text_of(alloc, &H::borrowed(b"abc")));
     assert_eq!(rt; said.as_str(), "[97, 98, 99]");
 }
 
 fn found_by_hash<H: Bytes>(rt: &impl Abort, alloc: Global) {
     let key = must(rt, H::inline(b"abc"));
     let (same, other) = (H::borrowed(b"abc"), H::borrowed(b"abd"));
-    let ages = key.found_by_hash(alloc, &same, &other);
+    let ages = found(alloc, key, &same, &other);
     assert_eq!(rt; ages, Some((Some(7), None)));
 }
 
 fn found_by_order<H: Bytes>(rt: &impl Abort, alloc: Global) {
     let key = must(rt, H::inline(b"abc"));
-    let age = key.found_by_order(alloc, &H::borrowed(b"abc"));
+    let age = found_in_order(alloc, key, &H::borrowed(b"abc"));
     assert_eq!(rt; age, Some(7));
 }
 
-pub(crate) fn all<H: Bytes>(rt: &impl Abort, alloc: Global) {
-    order::<H>(rt, alloc);
-    order_of_slices::<H>(rt);
-    other_backend::<H>(rt, alloc);
-    debug::<H>(rt, alloc);
-    found_by_hash::<H>(rt, alloc);
-    found_by_order::<H>(rt, alloc);
+struct Comparisons;
+
+impl Suite for Comparisons {
+    fn run<H: Bytes>(rt: &impl Abort, alloc: Global) {
+        order::<H>(rt, alloc);
+        order_of_slices::<H>(rt);
+        other_backend::<H>(rt, alloc);
+        debug::<H>(rt, alloc);
+        found_by_hash::<H>(rt, alloc);
+        found_by_order::<H>(rt, alloc);
+    }
 }
 
 #[test]
 fn comparisons_on_rc(rt: HostRuntime) {
-    on_rc(&rt, rt.alloc(), Group::Comparisons);
+    on::<Comparisons, Rc>(&rt, rt.alloc());
 }
 
 #[test]
 fn comparisons_on_unique(rt: HostRuntime) {
-    on_unique(&rt, rt.alloc(), Group::Comparisons);
+    on::<Comparisons, Unique>(&rt, rt.alloc());
 }

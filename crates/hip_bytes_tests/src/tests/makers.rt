@@ -1,8 +1,10 @@
 //! Makers, views and clones.
-use crate::groups::{self, Group};
-use crate::support::{Bytes, LETTERS, holds, is, must, must_refuse};
-use hipstr::{Kind, Meter};
+use super::bytes::Bytes;
+use super::suite::{Suite, on};
+use super::support::{LETTERS, holds, is, must, must_refuse};
+use hip_bytes::{Kind, Meter, Rc, Unique};
 use std::alloc::Global;
+use std::cmp::Ordering;
 use std::process::Abort;
 
 /// Asserts where a handle that owns `len` bytes keeps them.
@@ -21,10 +23,14 @@ fn is_by_length<H: Bytes>(rt: &impl Abort, handle: H, len: usize) {
 }
 
 fn has_room<H: Bytes>(rt: &impl Abort, handle: H, is_short: bool) {
-    let (is_normalized, room) = (handle.is_normalized(), handle.capacity());
+    let room = if is_short {
+        Ordering::Equal
+    } else {
+        Ordering::Greater
+    };
     assert_eq!(rt;
-        (is_normalized, room >= 23, room == 23),
-        (true, true, is_short)
+        (handle.is_normalized(), handle.capacity().cmp(&23)),
+        (true, room)
     );
 }
 
@@ -44,7 +50,7 @@ fn inline_values<H: Bytes>(rt: &impl Abort) {
     is(rt, H::default(), b"", Kind::Inline);
     let handle = must(rt, H::inline(b"abc"));
     assert_eq!(rt;
-        (H::inline_capacity(), handle.by_trait()),
+        (H::inline_capacity(), handle.as_slice_of_trait()),
         (23, b"abc".as_slice())
     );
 }
@@ -90,21 +96,25 @@ fn least_and_greatest_room<H: Bytes>(rt: &impl Abort, alloc: Global) {
     is(rt, least, b"", Kind::Inline);
 }
 
-pub(crate) fn all<H: Bytes>(rt: &impl Abort, alloc: Global) {
-    lengths_and_kinds::<H>(rt, alloc);
-    inline_values::<H>(rt);
-    short_clone::<H>(rt, alloc);
-    long_clone::<H>(rt, alloc);
-    lent_bytes::<H>(rt);
-    least_and_greatest_room::<H>(rt, alloc);
+struct Makers;
+
+impl Suite for Makers {
+    fn run<H: Bytes>(rt: &impl Abort, alloc: Global) {
+        lengths_and_kinds::<H>(rt, alloc);
+        inline_values::<H>(rt);
+        short_clone::<H>(rt, alloc);
+        long_clone::<H>(rt, alloc);
+        lent_bytes::<H>(rt);
+        least_and_greatest_room::<H>(rt, alloc);
+    }
 }
 
 #[test]
 fn on_rc(rt: HostRuntime) {
-    groups::on_rc(&rt, rt.alloc(), Group::Makers);
+    on::<Makers, Rc>(&rt, rt.alloc());
 }
 
 #[test]
 fn on_unique(rt: HostRuntime) {
-    groups::on_unique(&rt, rt.alloc(), Group::Makers);
+    on::<Makers, Unique>(&rt, rt.alloc());
 }

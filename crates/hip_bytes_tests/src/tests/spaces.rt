@@ -1,7 +1,8 @@
 //! The same 32 bytes by each maker: equal wherever they lie, and different from a part of them.
-use crate::groups::{Group, on_rc, on_unique};
-use crate::support::{Bytes, holds, must};
-use hipstr::Kind;
+use super::bytes::Bytes;
+use super::suite::{Suite, on};
+use super::support::{holds, must};
+use hip_bytes::{Kind, Rc, Unique};
 use std::alloc::Global;
 use std::borrow::CowSlice;
 use std::process::Abort;
@@ -15,7 +16,7 @@ fn is_spaces<H: Bytes>(rt: &impl Abort, alloc: Global, handle: &H) {
         (
             handle.eq_slice(SPACES),
             handle.eq_with(SPACES),
-            handle.is_equal(&clone)
+            *handle == clone
         ),
         (true, true, true)
     );
@@ -23,8 +24,8 @@ fn is_spaces<H: Bytes>(rt: &impl Abort, alloc: Global, handle: &H) {
 
 /// Asserts that a value differs from its first four bytes.
 fn differs_from_front<H: Bytes>(rt: &impl Abort, alloc: Global, handle: &H) {
-    let front = must(rt, handle.part(alloc, 0, 4));
-    assert!(rt; handle.is_other(&front));
+    let front = must(rt, handle.try_slice(alloc, 0..4));
+    assert!(rt; *handle != front);
 }
 
 /// How a value of the bytes is made.
@@ -64,26 +65,30 @@ fn made<H: Bytes>(rt: &impl Abort, alloc: Global, maker: Maker) -> H {
 fn equals_each<H: Bytes>(rt: &impl Abort, alloc: Global, handle: &H) {
     for (maker, _) in MAKERS {
         let other = made::<H>(rt, alloc, *maker);
-        assert!(rt; handle.is_equal(&other));
+        assert!(rt; *handle == other);
     }
 }
 
-pub(crate) fn all<H: Bytes>(rt: &impl Abort, alloc: Global) {
-    for (maker, kind) in MAKERS {
-        let handle = made::<H>(rt, alloc, *maker);
-        holds(rt, &handle, SPACES, *kind);
-        is_spaces(rt, alloc, &handle);
-        differs_from_front(rt, alloc, &handle);
-        equals_each(rt, alloc, &handle);
+struct Spaces;
+
+impl Suite for Spaces {
+    fn run<H: Bytes>(rt: &impl Abort, alloc: Global) {
+        for (maker, kind) in MAKERS {
+            let handle = made::<H>(rt, alloc, *maker);
+            holds(rt, &handle, SPACES, *kind);
+            is_spaces(rt, alloc, &handle);
+            differs_from_front(rt, alloc, &handle);
+            equals_each(rt, alloc, &handle);
+        }
     }
 }
 
 #[test]
 fn spaces_on_rc(rt: HostRuntime) {
-    on_rc(&rt, rt.alloc(), Group::Spaces);
+    on::<Spaces, Rc>(&rt, rt.alloc());
 }
 
 #[test]
 fn spaces_on_unique(rt: HostRuntime) {
-    on_unique(&rt, rt.alloc(), Group::Spaces);
+    on::<Spaces, Unique>(&rt, rt.alloc());
 }

@@ -1,7 +1,8 @@
 //! Bytes that are lent for writing, and ASCII case.
-use crate::groups::{Group, on_rc, on_unique};
-use crate::support::{Bytes, LETTERS, holds, is, must};
-use hipstr::{Kind, Meter};
+use super::bytes::Bytes;
+use super::suite::{Suite, on};
+use super::support::{LETTERS, holds, is, must};
+use hip_bytes::{Kind, Meter, Rc, Unique};
 use std::alloc::Global;
 use std::process::Abort;
 
@@ -9,9 +10,12 @@ const CAPITALS: &[u8] = b"ABCDEFGHIJKLMNOPQRSTUVWXYZ";
 
 /// Turns the bytes round where they are lent for writing, which they are where no other handle shares them.
 fn turns_round<H: Bytes>(rt: &impl Abort, handle: &mut H) {
-    let is_sole = !H::shares();
+    let is_sole = !H::SHARES;
     assert_eq!(rt;
-        (handle.is_lent_for_writing(), handle.turn_round_within()),
+        (
+            handle.as_mut_slice().is_some(),
+            handle.with_mut_slice_reverse().is_some()
+        ),
         (is_sole, is_sole)
     );
 }
@@ -19,8 +23,14 @@ fn turns_round<H: Bytes>(rt: &impl Abort, handle: &mut H) {
 /// Writes over the bytes, in a copy where they are shared, and says how many were copied.
 fn written_over<H: Bytes>(rt: &impl Abort, alloc: Global, handle: &mut H) -> u128 {
     let mut meter = Meter::new();
-    must(rt, handle.capitalize_within(alloc, &mut meter));
-    must(rt, handle.write_first(alloc, b'!'));
+    must(
+        rt,
+        handle.with_to_mut_slice_metered_uppercase(alloc, &mut meter),
+    );
+    let bytes = must(rt, handle.to_mut_slice(alloc));
+    if let Some(first) = bytes.first_mut() {
+        *first = b'!';
+    }
     meter.copied()
 }
 
@@ -30,7 +40,7 @@ fn beside_a_clone<H: Bytes>(rt: &impl Abort, alloc: Global) {
     let clone = must(rt, whole.clone(alloc));
     turns_round(rt, &mut whole);
     let copied = written_over(rt, alloc, &mut whole);
-    let (wanted, wanted_copied): (&[u8], u128) = if H::shares() {
+    let (wanted, wanted_copied): (&[u8], u128) = if H::SHARES {
         (b"!BCDEFGHIJKLMNOPQRSTUVWXYZ", 26)
     } else {
         (b"!YXWVUTSRQPONMLKJIHGFEDCBA", 0)
@@ -51,7 +61,7 @@ fn other_case<H: Bytes>(rt: &impl Abort, alloc: Global) {
 
 fn case_of_lent_bytes<H: Bytes>(rt: &impl Abort, alloc: Global) {
     let mut lent = H::borrowed(b"[a\xE9Z]");
-    assert!(rt; !lent.is_lent_for_writing());
+    assert!(rt; lent.as_mut_slice().is_none());
     must(rt, lent.make_ascii_uppercase(alloc));
     holds(rt, &lent, b"[A\xE9Z]", Kind::Inline);
     must(rt, lent.make_ascii_lowercase(alloc));
@@ -60,23 +70,30 @@ fn case_of_lent_bytes<H: Bytes>(rt: &impl Abort, alloc: Global) {
 
 fn in_the_handle<H: Bytes>(rt: &impl Abort) {
     let mut short = must(rt, H::inline(b"abc"));
-    assert!(rt; short.turn_round());
+    match short.as_mut_slice() {
+        Some(bytes) => bytes.reverse(),
+        None => panic!(rt; "bytes in the handle are lent"),
+    }
     is(rt, short, b"cba", Kind::Inline);
 }
 
-pub(crate) fn all<H: Bytes>(rt: &impl Abort, alloc: Global) {
-    beside_a_clone::<H>(rt, alloc);
-    other_case::<H>(rt, alloc);
-    case_of_lent_bytes::<H>(rt, alloc);
-    in_the_handle::<H>(rt);
+struct Writes;
+
+impl Suite for Writes {
+    fn run<H: Bytes>(rt: &impl Abort, alloc: Global) {
+        beside_a_clone::<H>(rt, alloc);
+        other_case::<H>(rt, alloc);
+        case_of_lent_bytes::<H>(rt, alloc);
+        in_the_handle::<H>(rt);
+    }
 }
 
 #[test]
 fn writes_on_rc(rt: HostRuntime) {
-    on_rc(&rt, rt.alloc(), Group::Writes);
+    on::<Writes, Rc>(&rt, rt.alloc());
 }
 
 #[test]
 fn writes_on_unique(rt: HostRuntime) {
-    on_unique(&rt, rt.alloc(), Group::Writes);
+    on::<Writes, Unique>(&rt, rt.alloc());
 }

@@ -1,8 +1,9 @@
 //! Pushes, cuts in place and slices.
-use crate::groups::{Group, on_rc, on_unique};
-use crate::support::{Bytes, LETTERS, holds, is, must};
-use hipstr::{Kind, Meter};
-use std::alloc::{AllocError, Global};
+use super::bytes::Bytes;
+use super::suite::{Suite, on};
+use super::support::{LETTERS, holds, is, must};
+use hip_bytes::{Kind, Meter, Rc, Unique};
+use std::alloc::Global;
 use std::ops::Bound;
 use std::process::Abort;
 
@@ -140,7 +141,7 @@ fn room_is_kept<H: Bytes>(rt: &impl Abort, alloc: Global) {
         (room.is_normalized(), room.capacity() >= 42),
         (false, true)
     );
-    is(rt, must(rt, room.slice(alloc, 0, 0)), b"", Kind::Inline);
+    is(rt, must(rt, room.slice(alloc, 0..0)), b"", Kind::Inline);
 }
 
 fn lent_capacity<H: Bytes>(rt: &impl Abort) {
@@ -150,30 +151,30 @@ fn lent_capacity<H: Bytes>(rt: &impl Abort) {
 }
 
 /// Asserts that a part of three bytes was made, and what it holds.
-fn part_is<H: Bytes>(rt: &impl Abort, part: Result<H, AllocError>, items: &[u8]) {
+fn part_is<H: Bytes, E: Drop>(rt: &impl Abort, part: Result<H, E>, items: &[u8]) {
     is(rt, must(rt, part), items, Kind::Inline);
 }
 
-fn slices<H: Bytes>(rt: &impl Abort, alloc: Global) {
+fn slices_of_ranges<H: Bytes>(rt: &impl Abort, alloc: Global) {
     let handle = must(rt, H::inline(b"abc"));
-    part_is(rt, handle.slice(alloc, 3, 3), b"");
+    part_is(rt, handle.slice(alloc, 3..3), b"");
     part_is(rt, handle.slice_from(alloc, 3), b"");
     part_is(rt, handle.slice_to(alloc, 0), b"");
     part_is(rt, handle.slice_through(alloc, 1, 1), b"b");
-    part_is(rt, handle.slice_all(alloc), b"abc");
+    part_is(rt, handle.slice_full(alloc), b"abc");
 }
 
 fn unchecked_slices<H: Bytes>(rt: &impl Abort, alloc: Global) {
     let handle = must(rt, H::inline(b"abc"));
-    part_is(rt, handle.unchecked(alloc, 1, 1), b"");
-    part_is(rt, handle.unchecked_through(alloc, 1), b"ab");
+    part_is(rt, handle.slice_unchecked(alloc, 1..1), b"");
+    part_is(rt, handle.slice_unchecked_through(alloc, 1), b"ab");
 }
 
 /// Of 23 bytes each is copied into the new handle.
 fn short_slice<H: Bytes>(rt: &impl Abort, alloc: Global) {
     let letters = must(rt, H::from_slice(alloc, LETTERS));
     let mut meter = Meter::new();
-    let short = must(rt, letters.front(alloc, 23, &mut meter));
+    let short = must(rt, letters.slice_metered(alloc, 0..23, &mut meter));
     drop(letters);
     is(rt, short, &LETTERS[..23], Kind::Inline);
     assert_eq!(rt; meter.copied(), 23);
@@ -183,10 +184,13 @@ fn short_slice<H: Bytes>(rt: &impl Abort, alloc: Global) {
 fn long_slice<H: Bytes>(rt: &impl Abort, alloc: Global) {
     let letters = must(rt, H::from_slice(alloc, LETTERS));
     let mut meter = Meter::new();
-    let long = must(rt, letters.front_unchecked(alloc, 24, &mut meter));
+    let long = must(
+        rt,
+        letters.slice_unchecked_metered(alloc, 0..24, &mut meter),
+    );
     drop(letters);
     is(rt, long, &LETTERS[..24], Kind::Allocated);
-    assert_eq!(rt; meter.copied(), if H::shares() { 0 } else { 24 });
+    assert_eq!(rt; meter.copied(), if H::SHARES { 0 } else { 24 });
 }
 
 /// Two bounds that are a range of `abc`, and the part.
@@ -198,43 +202,51 @@ const PARTS: &[(Bound<usize>, Bound<usize>, &[u8])] = &[
 fn bounded_parts<H: Bytes>(rt: &impl Abort, alloc: Global) {
     let handle = must(rt, H::inline(b"abc"));
     for (low, high, items) in PARTS {
-        let part = must(rt, handle.part_of_bounds(alloc, *low, *high));
+        let part = must(rt, handle.try_slice_bounds(alloc, *low, *high));
         is(rt, part, items, Kind::Inline);
     }
 }
 
-pub(crate) fn in_place_on<H: Bytes>(rt: &impl Abort, alloc: Global) {
-    runs::<H>(rt, alloc);
-    in_place::<H>(rt, alloc);
-    nothing_is_pushed::<H>(rt, alloc);
-    room_is_kept::<H>(rt, alloc);
-    lent_capacity::<H>(rt);
+struct InPlace;
+
+impl Suite for InPlace {
+    fn run<H: Bytes>(rt: &impl Abort, alloc: Global) {
+        runs::<H>(rt, alloc);
+        in_place::<H>(rt, alloc);
+        nothing_is_pushed::<H>(rt, alloc);
+        room_is_kept::<H>(rt, alloc);
+        lent_capacity::<H>(rt);
+    }
 }
 
-pub(crate) fn slices_on<H: Bytes>(rt: &impl Abort, alloc: Global) {
-    slices::<H>(rt, alloc);
-    unchecked_slices::<H>(rt, alloc);
-    short_slice::<H>(rt, alloc);
-    long_slice::<H>(rt, alloc);
-    bounded_parts::<H>(rt, alloc);
+struct Slices;
+
+impl Suite for Slices {
+    fn run<H: Bytes>(rt: &impl Abort, alloc: Global) {
+        slices_of_ranges::<H>(rt, alloc);
+        unchecked_slices::<H>(rt, alloc);
+        short_slice::<H>(rt, alloc);
+        long_slice::<H>(rt, alloc);
+        bounded_parts::<H>(rt, alloc);
+    }
 }
 
 #[test]
 fn in_place_on_rc(rt: HostRuntime) {
-    on_rc(&rt, rt.alloc(), Group::InPlace);
+    on::<InPlace, Rc>(&rt, rt.alloc());
 }
 
 #[test]
 fn in_place_on_unique(rt: HostRuntime) {
-    on_unique(&rt, rt.alloc(), Group::InPlace);
+    on::<InPlace, Unique>(&rt, rt.alloc());
 }
 
 #[test]
 fn slices_on_rc(rt: HostRuntime) {
-    on_rc(&rt, rt.alloc(), Group::Slices);
+    on::<Slices, Rc>(&rt, rt.alloc());
 }
 
 #[test]
 fn slices_on_unique(rt: HostRuntime) {
-    on_unique(&rt, rt.alloc(), Group::Slices);
+    on::<Slices, Unique>(&rt, rt.alloc());
 }

@@ -1,8 +1,8 @@
 //! Bytes that are taken out, or lent out by a guard, as a vector.
-use crate::groups::{Group, on_rc, on_unique};
-use crate::support::{Bytes, LETTERS, holds, is, must, text_of};
-use hipstr::bytes::{HipByt, mutate, with_mutated};
-use hipstr::{Kind, Meter, Rc};
+use super::bytes::Bytes;
+use super::suite::{Suite, on};
+use super::support::{LETTERS, holds, is, must, text_of};
+use hip_bytes::{HipByt, Kind, Meter, Rc, Unique, mutate, with_mutated};
 use std::alloc::Global;
 use std::process::Abort;
 
@@ -113,7 +113,7 @@ fn sole_tail<H: Bytes>(rt: &impl Abort, alloc: Global) -> H {
         LETTERS_AND_ONE,
         Kind::Allocated,
     );
-    must(rt, handle.tail(alloc, 1))
+    must(rt, handle.try_slice(alloc, 1..))
 }
 
 fn lends_a_sole_list<H: Bytes>(rt: &impl Abort, alloc: Global) {
@@ -125,12 +125,16 @@ fn lends_a_sole_list<H: Bytes>(rt: &impl Abort, alloc: Global) {
     is(rt, tail, b"bcdef", Kind::Inline);
 }
 
-pub(crate) fn all<H: Bytes>(rt: &impl Abort, alloc: Global) {
-    takes_a_vector::<H>(rt, alloc);
-    lends_a_vector::<H>(rt, alloc);
-    shows_a_vector::<H>(rt, alloc);
-    lends_a_shared_list::<H>(rt, alloc);
-    lends_a_sole_list::<H>(rt, alloc);
+struct Guards;
+
+impl Suite for Guards {
+    fn run<H: Bytes>(rt: &impl Abort, alloc: Global) {
+        takes_a_vector::<H>(rt, alloc);
+        lends_a_vector::<H>(rt, alloc);
+        shows_a_vector::<H>(rt, alloc);
+        lends_a_shared_list::<H>(rt, alloc);
+        lends_a_sole_list::<H>(rt, alloc);
+    }
 }
 
 #[test]
@@ -143,10 +147,10 @@ fn a_closure_writes(rt: HostRuntime) {
 
 #[test]
 fn guards_on_rc(rt: HostRuntime) {
-    on_rc(&rt, rt.alloc(), Group::Guards);
+    on::<Guards, Rc>(&rt, rt.alloc());
 }
 
 #[test]
 fn guards_on_unique(rt: HostRuntime) {
-    on_unique(&rt, rt.alloc(), Group::Guards);
+    on::<Guards, Unique>(&rt, rt.alloc());
 }

@@ -1,7 +1,9 @@
 //! Ranges that are refused: what the error tells, and its texts.
-use crate::groups::{self, Group};
-use crate::support::{Bytes, Told, must};
-use hipstr::bytes::SliceErrorKind;
+use super::bytes::Bytes;
+use super::faults::{Refusal, Told};
+use super::suite::{Suite, on};
+use super::support::must;
+use hip_bytes::{Rc, SliceErrorKind, Unique};
 use std::alloc::Global;
 use std::ops::Bound;
 use std::process::Abort;
@@ -90,6 +92,14 @@ const REFUSED: &[Refused] = &[
     },
 ];
 
+/// What the error tells, or the end of the test where a range was none that is refused.
+fn told<H: Bytes>(rt: &impl Abort, outcome: Result<H, Refusal>) -> Told {
+    match outcome {
+        Err(Refusal::Slice(told)) => told,
+        _ => panic!(rt; "no range was refused"),
+    }
+}
+
 /// Two places that are no range of `abc`, and what the error of `try_slice` tells of them.
 const REFUSED_PLACES: &[(usize, usize, SliceErrorKind, &str)] = &[
     (
@@ -104,23 +114,24 @@ const REFUSED_PLACES: &[(usize, usize, SliceErrorKind, &str)] = &[
 fn refused_places<H: Bytes>(rt: &impl Abort, alloc: Global) {
     let handle = must(rt, H::inline(b"abc"));
     for (start, end, kind, text) in REFUSED_PLACES {
-        let told = must(rt, handle.told_of_range(alloc, *start, *end));
-        let told = must(rt, told.ok_or("no range of three bytes"));
+        let told = told(rt, handle.try_slice(alloc, *start..*end));
         assert_eq!(rt;
-            (told.kind, told.range, told.text.as_str()),
+            (told.kind, told.range, told.display.as_str()),
             (*kind, *start..*end, *text)
         );
     }
-    let told = must(rt, handle.told_through(alloc, MAX));
-    let told = must(rt, told.ok_or("no range of three bytes"));
+}
+
+fn refused_end<H: Bytes>(rt: &impl Abort, alloc: Global) {
+    let handle = must(rt, H::inline(b"abc"));
+    let told = told(rt, handle.try_slice(alloc, ..=MAX));
     assert_eq!(rt; (told.kind, told.end), (END_OUT, MAX));
 }
 
 fn is_refused<H: Bytes>(rt: &impl Abort, alloc: Global, row: Refused) {
     let handle = must(rt, H::from_slice(alloc, b"abc"));
     let (low, high) = row.bounds;
-    let told = must(rt, handle.told(alloc, low, high));
-    tells(rt, must(rt, told.ok_or("no range of three bytes")), row);
+    tells(rt, told(rt, handle.try_slice_bounds(alloc, low, high)), row);
 }
 
 /// Asserts what the error tells.
@@ -130,7 +141,7 @@ fn tells(rt: &impl Abort, told: Told, row: Refused) {
         (row.kind, row.start, row.end, row.start..row.end)
     );
     assert_eq!(rt; told.source.as_slice(), b"abc".as_slice());
-    assert_eq!(rt; told.text.as_str(), row.text);
+    assert_eq!(rt; told.display.as_str(), row.text);
 }
 
 fn refusals<H: Bytes>(rt: &impl Abort, alloc: Global) {
@@ -145,41 +156,47 @@ fn equal_refusals<H: Bytes>(rt: &impl Abort, alloc: Global) {
     let (lent, another) = (H::borrowed(b"abc"), H::borrowed(b"abd"));
     assert_eq!(rt;
         (
-            copied.refuses_alike(alloc, 4, &lent, 4),
-            copied.refuses_alike(alloc, 4, &lent, 5),
-            lent.refuses_alike(alloc, 4, &another, 4),
+            H::slice_errors_eq(alloc, (&copied, 4), (&lent, 4)),
+            H::slice_errors_eq(alloc, (&copied, 4), (&lent, 5)),
+            H::slice_errors_eq(alloc, (&lent, 4), (&another, 4)),
         ),
         (true, false, false)
     );
 }
 
 fn refused_debug<H: Bytes>(rt: &impl Abort, alloc: Global) {
-    let said = must(rt, must(rt, H::inline(b"abc")).error_said(alloc, 0..4));
-    let said = must(rt, said.ok_or("no range of three bytes"));
+    let handle = must(rt, H::inline(b"abc"));
+    let told = told(rt, handle.try_slice(alloc, 0..4));
     assert_eq!(rt;
-        said.as_str(),
+        told.debug.as_str(),
         "SliceError { kind: EndOutOfBounds, start: 0, end: 4, bytes: [97, 98, 99] }"
     );
 }
 
 fn inclusive_range<H: Bytes>(rt: &impl Abort, alloc: Global) {
-    assert!(rt; must(rt, H::inline(b"abc")).has_two(alloc));
+    let handle = must(rt, H::inline(b"abc"));
+    assert!(rt; handle.try_slice(alloc, 0..=1).is_ok());
 }
 
-pub(crate) fn all<H: Bytes>(rt: &impl Abort, alloc: Global) {
-    refusals::<H>(rt, alloc);
-    refused_places::<H>(rt, alloc);
-    equal_refusals::<H>(rt, alloc);
-    inclusive_range::<H>(rt, alloc);
-    refused_debug::<H>(rt, alloc);
+struct Errors;
+
+impl Suite for Errors {
+    fn run<H: Bytes>(rt: &impl Abort, alloc: Global) {
+        refusals::<H>(rt, alloc);
+        refused_places::<H>(rt, alloc);
+        refused_end::<H>(rt, alloc);
+        equal_refusals::<H>(rt, alloc);
+        inclusive_range::<H>(rt, alloc);
+        refused_debug::<H>(rt, alloc);
+    }
 }
 
 #[test]
 fn on_rc(rt: HostRuntime) {
-    groups::on_rc(&rt, rt.alloc(), Group::Errors);
+    on::<Errors, Rc>(&rt, rt.alloc());
 }
 
 #[test]
 fn on_unique(rt: HostRuntime) {
-    groups::on_unique(&rt, rt.alloc(), Group::Errors);
+    on::<Errors, Unique>(&rt, rt.alloc());
 }

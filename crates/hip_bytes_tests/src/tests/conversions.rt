@@ -1,7 +1,8 @@
 //! Into vectors and borrowed-or-owned values, and back.
-use crate::groups::{Group, on_rc, on_unique};
-use crate::support::{Bytes, LETTERS, is, must, must_refuse};
-use hipstr::Kind;
+use super::bytes::Bytes;
+use super::suite::{Suite, on};
+use super::support::{LETTERS, is, must, must_refuse};
+use hip_bytes::{Kind, Rc, Unique};
 use std::alloc::Global;
 use std::borrow::CowSlice;
 use std::process::Abort;
@@ -53,7 +54,7 @@ fn hands_out<H: Bytes>(rt: &impl Abort, alloc: Global, handle: H, items: &[u8]) 
 fn of_a_shared_owner<H: Bytes>(rt: &impl Abort, alloc: Global) {
     let whole = from_letters::<H>(rt, alloc, 26);
     let clone = must(rt, whole.clone(alloc));
-    if H::shares() {
+    if H::SHARES {
         is_handed_back(rt, alloc, clone, &[b'a'; 26], Kind::Allocated);
     } else {
         hands_out(rt, alloc, clone, &[b'a'; 26]);
@@ -73,31 +74,39 @@ fn owned<H: Bytes>(rt: &impl Abort, alloc: Global) {
     is(rt, owned, LETTERS, Kind::Allocated);
 }
 
-pub(crate) fn all<H: Bytes>(rt: &impl Abort, alloc: Global) {
-    vectors::<H>(rt, alloc);
-    lent_bytes_stay_so::<H>(rt, alloc);
-    copied_bytes_go_into_a_vector::<H>(rt, alloc);
-    owned::<H>(rt, alloc);
+struct Conversions;
+
+impl Suite for Conversions {
+    fn run<H: Bytes>(rt: &impl Abort, alloc: Global) {
+        vectors::<H>(rt, alloc);
+        lent_bytes_stay_so::<H>(rt, alloc);
+        copied_bytes_go_into_a_vector::<H>(rt, alloc);
+        owned::<H>(rt, alloc);
+    }
 }
 
 #[test]
 fn conversions_on_rc(rt: HostRuntime) {
-    on_rc(&rt, rt.alloc(), Group::Conversions);
+    on::<Conversions, Rc>(&rt, rt.alloc());
 }
 
 #[test]
 fn conversions_on_unique(rt: HostRuntime) {
-    on_unique(&rt, rt.alloc(), Group::Conversions);
+    on::<Conversions, Unique>(&rt, rt.alloc());
 }
 
-pub(crate) fn handed_back_on<H: Bytes>(rt: &impl Abort, alloc: Global) {
-    of_a_shared_owner::<H>(rt, alloc);
-    of_no_owner::<H>(rt, alloc);
+struct HandedBack;
+
+impl Suite for HandedBack {
+    fn run<H: Bytes>(rt: &impl Abort, alloc: Global) {
+        of_a_shared_owner::<H>(rt, alloc);
+        of_no_owner::<H>(rt, alloc);
+    }
 }
 
 /// A body that always hands the value back is proved: no contract counts owners.
 #[test]
 fn into_vec_handed_back(rt: HostRuntime) {
-    on_rc(&rt, rt.alloc(), Group::HandedBack);
-    on_unique(&rt, rt.alloc(), Group::HandedBack);
+    on::<HandedBack, Rc>(&rt, rt.alloc());
+    on::<HandedBack, Unique>(&rt, rt.alloc());
 }

@@ -1,8 +1,8 @@
 //! Repetitions, joins and room that is given back.
-use crate::groups::{Group, on_rc, on_unique};
-use crate::support::{Bytes, LETTERS, holds, is, must};
-use hipstr::bytes::GrowFault;
-use hipstr::{Kind, Meter};
+use super::bytes::Bytes;
+use super::suite::{Suite, on};
+use super::support::{LETTERS, holds, is, must};
+use hip_bytes::{GrowFault, Kind, Meter, Rc, Unique};
 use std::alloc::Global;
 use std::process::Abort;
 
@@ -38,7 +38,7 @@ fn once<H: Bytes>(rt: &impl Abort, alloc: Global) {
 /// Asserts the length of a value, and how many bytes were copied for it: what is gathered in a vector is copied to an owner that can't be
 /// shared.
 fn is_counted<H: Bytes>(rt: &impl Abort, counted: H, meter: &Meter, len: usize) {
-    let copied = if H::shares() {
+    let copied = if H::SHARES {
         len
     } else {
         len.saturating_mul(2)
@@ -78,12 +78,12 @@ const LINES: [&[u8]; 2] = [LETTERS, LETTERS];
 const LETTERS_TWICE: &[u8] = b"abcdefghijklmnopqrstuvwxyz, abcdefghijklmnopqrstuvwxyz";
 
 fn long_joins<H: Bytes>(rt: &impl Abort, alloc: Global) {
-    let joined = must(rt, H::join_lines(alloc, LINES, b", "));
+    let joined = must(rt, H::join_two(alloc, LINES, b", "));
     holds(rt, &joined, LETTERS_TWICE, Kind::Allocated);
-    let part = must(rt, joined.part(alloc, 26, 30));
+    let part = must(rt, joined.try_slice(alloc, 26..30));
     is(rt, part, b", ab", Kind::Inline);
     let again = must(rt, H::join_slices(alloc, &LINES, b", "));
-    assert!(rt; joined.is_equal(&again));
+    assert!(rt; joined == again);
 }
 
 fn counted_joins<H: Bytes>(rt: &impl Abort, alloc: Global) {
@@ -94,7 +94,7 @@ fn counted_joins<H: Bytes>(rt: &impl Abort, alloc: Global) {
 
 fn counted_pieces<H: Bytes>(rt: &impl Abort, alloc: Global) {
     let mut meter = Meter::new();
-    let counted = must(rt, H::join_lines_metered(alloc, LINES, b", ", &mut meter));
+    let counted = must(rt, H::join_two_metered(alloc, LINES, b", ", &mut meter));
     is_counted(rt, counted, &meter, 54);
 }
 
@@ -140,19 +140,23 @@ fn joins_on<H: Bytes>(rt: &impl Abort, alloc: Global) {
     counted_pieces::<H>(rt, alloc);
 }
 
-pub(crate) fn all<H: Bytes>(rt: &impl Abort, alloc: Global) {
-    repetitions_on::<H>(rt, alloc);
-    joins_on::<H>(rt, alloc);
-    shrinks::<H>(rt, alloc);
-    shrinks_into_the_handle::<H>(rt, alloc);
+struct Joins;
+
+impl Suite for Joins {
+    fn run<H: Bytes>(rt: &impl Abort, alloc: Global) {
+        repetitions_on::<H>(rt, alloc);
+        joins_on::<H>(rt, alloc);
+        shrinks::<H>(rt, alloc);
+        shrinks_into_the_handle::<H>(rt, alloc);
+    }
 }
 
 #[test]
 fn joins_on_rc(rt: HostRuntime) {
-    on_rc(&rt, rt.alloc(), Group::Joins);
+    on::<Joins, Rc>(&rt, rt.alloc());
 }
 
 #[test]
 fn joins_on_unique(rt: HostRuntime) {
-    on_unique(&rt, rt.alloc(), Group::Joins);
+    on::<Joins, Unique>(&rt, rt.alloc());
 }
