@@ -1,16 +1,40 @@
 //! Forms from readers and to writers that are slow, that fail at one call, or that take nothing.
-use crate::borsh::Form;
-use crate::support::must;
-use hip_bytes::{BorshFault, ByteSink, VecSink};
+use super::handle::{Form, Handle};
+use super::support::must;
+use hip_bytes::{BorshFault, ByteSink, ByteSource, FromRead, Fuse, ToWrite, VecSink};
 use std::alloc::Global;
 use std::process::Abort;
 
 const FORM: &[u8] = b"\x03\x00\x00\x00abc";
 
+/// Writes to a writer that takes so many bytes a call at most and fails at its `k`-th call alone, and tells how many writes failed.
+fn write_to<F: Form>(
+    value: &F,
+    taken: &mut Vec<u8>,
+    most: usize,
+    k: u64,
+) -> (Result<(), BorshFault>, u64) {
+    let mut sink = ToWrite::new(Fuse::new(taken, most, k));
+    let written = value.serialize(&mut sink);
+    (written, sink.failures())
+}
+
+/// Reads from such a reader.
+fn read_from<F: Form>(
+    alloc: Global,
+    rest: &mut &[u8],
+    most: usize,
+    k: u64,
+) -> (Result<F, BorshFault>, u64) {
+    let mut source = FromRead::new(Fuse::new(rest, most, k));
+    let read = F::deserialize_reader(alloc, &mut source);
+    (read, source.failures())
+}
+
 /// Asserts that all of a form is read but the byte behind it, at most so many bytes a call.
 fn reads_by<F: Form>(rt: &impl Abort, alloc: Global, bytes: &[u8], most: usize) {
     let mut rest = bytes;
-    let (read, failures) = F::read_from(alloc, &mut rest, most, 0);
+    let (read, failures) = read_from::<F>(alloc, &mut rest, most, 0);
     let read = must(rt, read);
     assert_eq!(rt;
         (Some(read.bytes()), rest, failures),
@@ -37,7 +61,7 @@ fn far_too_short<F: Form>(rt: &impl Abort, alloc: Global) {
 /// Asserts that a form of which there isn't all is told to be so, and that all is taken.
 fn is_cut_short<F: Form>(rt: &impl Abort, alloc: Global, form: &[u8]) {
     let mut rest = form;
-    let (read, failures) = F::read_from(alloc, &mut rest, 1, 0);
+    let (read, failures) = read_from::<F>(alloc, &mut rest, 1, 0);
     assert_eq!(rt;
         (read.err(), rest.len(), failures),
         (Some(BorshFault::Truncated), 0, 0)
@@ -47,7 +71,7 @@ fn is_cut_short<F: Form>(rt: &impl Abort, alloc: Global, form: &[u8]) {
 /// Reads a form, one byte a call, from a reader that fails at its `k`-th call: as many bytes were taken as calls went well.
 fn is_read<F: Form>(rt: &impl Abort, alloc: Global, k: usize) {
     let mut rest = FORM;
-    let (read, failures) = F::read_from(alloc, &mut rest, 1, k as u64);
+    let (read, failures) = read_from::<F>(alloc, &mut rest, 1, k as u64);
     let wanted = if 0 < k && k <= FORM.len() {
         (Some(BorshFault::Io), FORM.len() + 1 - k, 1)
     } else {
@@ -59,7 +83,7 @@ fn is_read<F: Form>(rt: &impl Abort, alloc: Global, k: usize) {
 /// Writes a form, one byte a call, to a writer that fails at its `k`-th call.
 fn is_written<F: Form>(rt: &impl Abort, alloc: Global, k: usize) {
     let mut taken = Vec::new(alloc);
-    let (written, failures) = must(rt, F::lent(b"abc")).write_to(&mut taken, 1, k as u64);
+    let (written, failures) = write_to(&must(rt, F::lent(b"abc")), &mut taken, 1, k as u64);
     let wanted = if 0 < k && k <= FORM.len() {
         (Err(BorshFault::Io), &FORM[..k - 1], 1)
     } else {
@@ -75,7 +99,7 @@ fn is_written<F: Form>(rt: &impl Abort, alloc: Global, k: usize) {
 /// A writer that takes no byte, and of which no write fails.
 fn takes_nothing<F: Form>(rt: &impl Abort, alloc: Global) {
     let mut taken = Vec::new(alloc);
-    let (written, failures) = must(rt, F::lent(b"abc")).write_to(&mut taken, 0, 0);
+    let (written, failures) = write_to(&must(rt, F::lent(b"abc")), &mut taken, 0, 0);
     assert_eq!(rt;
         (written, taken.len(), failures),
         (Err(BorshFault::Io), 0, 0)

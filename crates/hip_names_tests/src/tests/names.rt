@@ -1,7 +1,8 @@
 //! What hipstr's own tests ask of OS strings and of paths, each by its own calls.
-use crate::name::{Name, OsStr};
-use crate::support::{Handle, must, must_refuse};
-use crate::{calls, decoding, hostile, maps};
+use super::handle::Handle;
+use super::name::{Name, OsStr};
+use super::support::{must, must_refuse, text_of};
+use super::{calls, decoding, hostile, maps};
 use hip_names::{Backend, HipOsStr, HipPath, Kind, Rc, Unique};
 use std::alloc::Global;
 use std::cmp::Ordering;
@@ -59,7 +60,14 @@ fn makers<N: Name>(rt: &impl Abort, alloc: Global) {
 }
 
 fn is_empty<N: Name>(rt: &impl Abort, empty: N) {
-    assert_eq!(rt; empty.compared_with(b""), (true, true, Ordering::Equal));
+    assert_eq!(rt;
+        (
+            empty.os_str_eq(b""),
+            empty.path_eq(b""),
+            empty.path_cmp(b"")
+        ),
+        (true, true, Ordering::Equal)
+    );
     is(rt, empty, "", Kind::Inline);
 }
 
@@ -111,12 +119,12 @@ fn into_copies<N: Name>(rt: &impl Abort, alloc: Global) {
 /// A long one is a text, in the same owner. Any other is handed back.
 fn into_texts<N: Name>(rt: &impl Abort, alloc: Global) {
     let name = taken::<N>(rt, alloc, LONG);
-    is_vector(rt, must(rt, name.into_vec_by_text(alloc)), LONG);
+    is_vector(rt, must(rt, name.into_str_into_os_string(alloc)), LONG);
     for (way, kind) in [(Way::Copied, Kind::Inline), (Way::Lent, Kind::Borrowed)] {
         let name = made::<N>(rt, alloc, way, "abc");
         is(
             rt,
-            must_refuse(rt, name.into_vec_by_text(alloc)),
+            must_refuse(rt, name.into_str_into_os_string(alloc)),
             "abc",
             kind,
         );
@@ -176,13 +184,35 @@ fn shrinks_lent<N: Name>(rt: &impl Abort, alloc: Global) {
 /// A long name is equal to its bytes, as bytes and as a path.
 fn equalities<N: Name>(rt: &impl Abort, alloc: Global) {
     let (long, bytes) = (taken::<N>(rt, alloc, LONG), LONG.as_bytes());
-    assert_eq!(rt; long.compared_with(bytes), (true, true, Ordering::Equal));
+    assert_eq!(rt;
+        (
+            long.os_str_eq(bytes),
+            long.path_eq(bytes),
+            long.path_cmp(bytes)
+        ),
+        (true, true, Ordering::Equal)
+    );
+}
+
+/// Adds to the vector that `mutate` lends, and answers how `Debug` showed the guard before.
+fn pushes_by_guard<N: Name>(
+    rt: &impl Abort,
+    alloc: Global,
+    name: &mut N,
+    addition: &str,
+) -> String {
+    let mut guard = must(rt, name.mutate(alloc));
+    let shown = must(rt, text_of(alloc, &guard));
+    let vec = guard.as_mut_vec();
+    must(rt, vec.extend_from_slice(addition.as_bytes()));
+    must(rt, guard.finish(alloc));
+    shown
 }
 
 fn guards<N: Name>(rt: &impl Abort, alloc: Global) {
     for way in [Way::Copied, Way::Lent] {
         let mut name = made::<N>(rt, alloc, way, "abc");
-        let guard = must(rt, name.push_by_guard(alloc, "/def"));
+        let guard = pushes_by_guard(rt, alloc, &mut name, "/def");
         assert_eq!(rt; guard.as_str(), "[97, 98, 99]");
         is(rt, name, "abc/def", Kind::Inline);
     }
@@ -197,7 +227,7 @@ fn roomy<N: Name>(rt: &impl Abort, alloc: Global) -> N {
 
 /// Asserts what a long name holds to which digits are added through a guard.
 fn adds_digits<N: Name>(rt: &impl Abort, alloc: Global, mut name: N) {
-    drop(must(rt, name.push_by_guard(alloc, "/0123456789")));
+    drop(pushes_by_guard(rt, alloc, &mut name, "/0123456789"));
     is(
         rt,
         name,
@@ -216,7 +246,7 @@ fn guards_of_long_names<N: Name>(rt: &impl Abort, alloc: Global) {
 }
 
 fn debugs<N: Name>(rt: &impl Abort, alloc: Global) {
-    let said = must(rt, N::from_static("abc").debugged(alloc));
+    let said = must(rt, text_of(alloc, &N::from_static("abc")));
     assert_eq!(rt; said.as_str(), "\"abc\"");
 }
 

@@ -1,6 +1,7 @@
 //! Conversions between types, rooms, orders of OS strings and of paths, and components by themselves.
-use crate::name::{Name, OsStr, compared, text_of};
-use crate::support::{Handle, must};
+use super::handle::Handle;
+use super::name::{Name, OsStr};
+use super::support::{compared, must, text_of};
 use hip_names::{Backend, Component, HipOsStr, HipPath, HipStr, Rc, Unique, components_eq};
 use std::alloc::Global;
 use std::borrow::{CowSlice, CowStr};
@@ -61,23 +62,23 @@ fn there_and_back<N: Name>(rt: &impl Abort, alloc: Global) {
 fn owns<N: Name>(rt: &impl Abort, alloc: Global) {
     let stars = must(rt, String::from_str(alloc, "******"));
     let lent = must(rt, stars.get(..2).ok_or("fewer than two"));
-    let owned = must(rt, N::owned_from(alloc, lent));
+    let owned = must(rt, N::borrowed_into_owned(alloc, lent));
     drop(stars);
     is(rt, owned, "**");
 }
 
 fn no_room<N: Name>(rt: &impl Abort, alloc: Global) {
-    let name = must(rt, N::with_capacity(alloc, 0, ""));
+    let name = must(rt, N::with_capacity_push(alloc, 0, ""));
     assert_eq!(rt; name.capacity(), 23);
     is(rt, name, "");
 }
 
 /// Room for 24 bytes is given back where there are fewer.
 fn shrinks<N: Name>(rt: &impl Abort, alloc: Global) {
-    let mut name = must(rt, N::with_capacity(alloc, 24, ""));
+    let mut name = must(rt, N::with_capacity_push(alloc, 24, ""));
     must(rt, name.shrink_to_fit(alloc));
     assert_eq!(rt; (name.capacity(), N::inline_capacity()), (23, 23));
-    let mut name = must(rt, N::with_capacity(alloc, 24, "a"));
+    let mut name = must(rt, N::with_capacity_push(alloc, 24, "a"));
     must(rt, name.shrink_to(alloc, 0));
     assert_eq!(rt; name.capacity(), 23);
     is(rt, name, "a");
@@ -126,7 +127,11 @@ fn orders_by_name<N: Name>(rt: &impl Abort, alloc: Global) {
         let name = must(rt, N::from_str(alloc, left));
         let bytes = right.as_bytes();
         assert_eq!(rt;
-            name.compared_with(bytes),
+            (
+                name.os_str_eq(bytes),
+                name.path_eq(bytes),
+                name.path_cmp(bytes)
+            ),
             (by_bytes.is_eq(), by_components.is_eq(), *by_components)
         );
         assert_eq!(rt;
@@ -148,7 +153,7 @@ pub(crate) fn of_either<N: Name>(rt: &impl Abort, alloc: Global) {
 }
 
 fn rooms<N: OsStr>(rt: &impl Abort, alloc: Global) {
-    let mut name = must(rt, N::with_capacity(alloc, 42, ""));
+    let mut name = must(rt, N::with_capacity_push(alloc, 42, ""));
     assert_eq!(rt; (name.is_empty(), name.capacity() >= 42), (true, true));
     for _ in 0..42 {
         must(rt, name.push(alloc, "A"));

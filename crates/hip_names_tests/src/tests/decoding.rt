@@ -1,6 +1,7 @@
 //! OS strings that are UTF-8, that aren't, and their repair.
-use crate::name::{Name, OsStr};
-use crate::support::{Handle, must};
+use super::handle::Handle;
+use super::name::{Name, OsStr};
+use super::support::{must, text_of};
 use std::alloc::Global;
 use std::process::Abort;
 
@@ -47,7 +48,7 @@ fn becomes_text<N: Name>(rt: &impl Abort, row: Decoded) {
 /// Bytes that aren't UTF-8 are told by their numbers.
 fn debugs<N: Name>(rt: &impl Abort, alloc: Global) {
     let name = must(rt, N::lent(b"a\"\n\xFFb"));
-    let said = must(rt, name.debugged(alloc));
+    let said = must(rt, text_of(alloc, &name));
     assert_eq!(rt; said.as_str(), "\"a\\\"\\n\\xffb\"");
 }
 

@@ -1,6 +1,7 @@
 //! Paths that are hard to read, with the answers of Rust's `std::path`.
-use crate::name::{Name, compared};
-use crate::support::{Handle, must};
+use super::handle::Handle;
+use super::name::Name;
+use super::support::{compared, must};
 use hip_names::{Backend, Component, Components, HipByt, HipOsStr, HipPath, Rc, Unique, path_cmp};
 use std::alloc::{AllocError, Global};
 use std::cmp::Ordering;
@@ -217,7 +218,7 @@ pub(crate) fn of_paths<N: Name>(rt: &impl Abort) {
     are_ordered::<N>(rt, fourth(), first());
 }
 
-fn on<B: Backend>(rt: &impl Abort, alloc: Global) {
+fn hostile_paths<B: Backend>(rt: &impl Abort, alloc: Global) {
     are_taken_apart::<B>(rt, alloc, first());
     are_taken_apart::<B>(rt, alloc, second());
     are_taken_apart::<B>(rt, alloc, third());
@@ -225,11 +226,11 @@ fn on<B: Backend>(rt: &impl Abort, alloc: Global) {
 }
 
 #[test]
-fn on_rc(rt: HostRuntime) {
-    on::<Rc>(&rt, rt.alloc());
+fn hostile_paths_on_rc(rt: HostRuntime) {
+    hostile_paths::<Rc>(&rt, rt.alloc());
 }
 
 #[test]
-fn on_unique(rt: HostRuntime) {
-    on::<Unique>(&rt, rt.alloc());
+fn hostile_paths_on_unique(rt: HostRuntime) {
+    hostile_paths::<Unique>(&rt, rt.alloc());
 }

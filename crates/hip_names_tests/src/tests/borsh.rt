@@ -1,84 +1,13 @@
 //! Forms that are written and read, cut short, or that lie about their length.
-use crate::streams;
-use crate::support::{Handle, kind_of_copy, must, must_refuse};
+use super::handle::{Form, Handle};
+use super::streams;
+use super::support::{kind_of_copy, must, must_refuse};
 use hip_bytes::{
     BorshFault, ByteSink, ByteSource, FromRead, Fuse, HipByt, SliceSource, ToWrite, VecSink,
 };
 use hip_text::{Backend, HipStr, Rc, Unique};
 use std::alloc::Global;
 use std::process::Abort;
-
-/// A handle that has a form.
-pub trait Form: Handle {
-    fn serialize(&self, sink: &mut VecSink) -> Result<(), BorshFault>;
-
-    fn deserialize_reader(alloc: Global, source: &mut SliceSource<'_>) -> Result<Self, BorshFault>;
-
-    /// Writes to a writer that takes so many bytes a call at most and fails at its `k`-th call alone, and tells how many writes failed.
-    fn write_to(&self, taken: &mut Vec<u8>, most: usize, k: u64) -> (Result<(), BorshFault>, u64);
-
-    /// Reads from such a reader.
-    fn read_from(
-        alloc: Global,
-        rest: &mut &[u8],
-        most: usize,
-        k: u64,
-    ) -> (Result<Self, BorshFault>, u64);
-}
-
-impl<B: Backend> Form for HipByt<'static, B> {
-    fn serialize(&self, sink: &mut VecSink) -> Result<(), BorshFault> {
-        self.serialize(sink)
-    }
-
-    fn deserialize_reader(alloc: Global, source: &mut SliceSource<'_>) -> Result<Self, BorshFault> {
-        HipByt::deserialize_reader(alloc, source)
-    }
-
-    fn write_to(&self, taken: &mut Vec<u8>, most: usize, k: u64) -> (Result<(), BorshFault>, u64) {
-        let mut sink = ToWrite::new(Fuse::new(taken, most, k));
-        let written = self.serialize(&mut sink);
-        (written, sink.failures())
-    }
-
-    fn read_from(
-        alloc: Global,
-        rest: &mut &[u8],
-        most: usize,
-        k: u64,
-    ) -> (Result<Self, BorshFault>, u64) {
-        let mut source = FromRead::new(Fuse::new(rest, most, k));
-        let read = HipByt::deserialize_reader(alloc, &mut source);
-        (read, source.failures())
-    }
-}
-
-impl<B: Backend> Form for HipStr<'static, B> {
-    fn serialize(&self, sink: &mut VecSink) -> Result<(), BorshFault> {
-        self.serialize(sink)
-    }
-
-    fn deserialize_reader(alloc: Global, source: &mut SliceSource<'_>) -> Result<Self, BorshFault> {
-        HipStr::deserialize_reader(alloc, source)
-    }
-
-    fn write_to(&self, taken: &mut Vec<u8>, most: usize, k: u64) -> (Result<(), BorshFault>, u64) {
-        let mut sink = ToWrite::new(Fuse::new(taken, most, k));
-        let written = self.serialize(&mut sink);
-        (written, sink.failures())
-    }
-
-    fn read_from(
-        alloc: Global,
-        rest: &mut &[u8],
-        most: usize,
-        k: u64,
-    ) -> (Result<Self, BorshFault>, u64) {
-        let mut source = FromRead::new(Fuse::new(rest, most, k));
-        let read = HipStr::deserialize_reader(alloc, &mut source);
-        (read, source.failures())
-    }
-}
 
 /// A text, and its form as the crate borsh 1.8.1 writes it (`borsh::to_vec`).
 const TEXTS: &[(&str, &[u8])] = &[
@@ -235,20 +164,20 @@ fn texts<F: Form>(rt: &impl Abort, alloc: Global) {
     }
 }
 
-fn on<B: Backend>(rt: &impl Abort, alloc: Global) {
+fn written_and_read<B: Backend>(rt: &impl Abort, alloc: Global) {
     bytes::<HipByt<'static, B>>(rt, alloc);
     texts::<HipStr<'static, B>>(rt, alloc);
     one_behind_another::<HipByt<'static, B>, HipStr<'static, B>>(rt, alloc);
 }
 
 #[test]
-fn on_rc(rt: HostRuntime) {
-    on::<Rc>(&rt, rt.alloc());
+fn written_and_read_on_rc(rt: HostRuntime) {
+    written_and_read::<Rc>(&rt, rt.alloc());
 }
 
 #[test]
-fn on_unique(rt: HostRuntime) {
-    on::<Unique>(&rt, rt.alloc());
+fn written_and_read_on_unique(rt: HostRuntime) {
+    written_and_read::<Unique>(&rt, rt.alloc());
 }
 
 /// To a writer and from a reader of the standard library.

@@ -1,58 +1,12 @@
 //! Values that are made, read and refused.
-use crate::support::{Handle, kind_of_copy, must, must_refuse};
+use super::handle::{Handle, Json};
+use super::support::{kind_of_copy, must, must_refuse};
 use hip_bytes::{HipByt, JsonFault};
 use hip_names::{HipOsStr, HipPath};
 use hip_text::{Backend, HipStr, Rc, Unique};
 use serde_json::Value;
 use std::alloc::Global;
 use std::process::Abort;
-
-/// A handle that has a JSON value.
-pub trait Json: Handle {
-    fn to_json(&self, alloc: Global) -> Result<Value, JsonFault>;
-
-    fn from_json(alloc: Global, value: &Value) -> Result<Self, JsonFault>;
-}
-
-impl<B: Backend> Json for HipByt<'static, B> {
-    fn to_json(&self, alloc: Global) -> Result<Value, JsonFault> {
-        self.to_json(alloc).or(Err(JsonFault::Memory))
-    }
-
-    fn from_json(alloc: Global, value: &Value) -> Result<Self, JsonFault> {
-        HipByt::from_json(alloc, value)
-    }
-}
-
-impl<B: Backend> Json for HipStr<'static, B> {
-    fn to_json(&self, alloc: Global) -> Result<Value, JsonFault> {
-        self.to_json(alloc).or(Err(JsonFault::Memory))
-    }
-
-    fn from_json(alloc: Global, value: &Value) -> Result<Self, JsonFault> {
-        HipStr::from_json(alloc, value)
-    }
-}
-
-impl<B: Backend> Json for HipOsStr<'static, B> {
-    fn to_json(&self, alloc: Global) -> Result<Value, JsonFault> {
-        self.to_json(alloc).or(Err(JsonFault::Memory))
-    }
-
-    fn from_json(alloc: Global, value: &Value) -> Result<Self, JsonFault> {
-        HipOsStr::from_json(alloc, value)
-    }
-}
-
-impl<B: Backend> Json for HipPath<'static, B> {
-    fn to_json(&self, alloc: Global) -> Result<Value, JsonFault> {
-        self.to_json(alloc)
-    }
-
-    fn from_json(alloc: Global, value: &Value) -> Result<Self, JsonFault> {
-        HipPath::from_json(alloc, value)
-    }
-}
 
 /// A JSON text as a value.
 fn value(rt: &impl Abort, alloc: Global, text: &str) -> Value {
@@ -215,7 +169,7 @@ fn texts<J: Json>(rt: &impl Abort, alloc: Global) {
     }
 }
 
-fn on<B: Backend>(rt: &impl Abort, alloc: Global) {
+fn values<B: Backend>(rt: &impl Abort, alloc: Global) {
     byte_strings::<HipByt<'static, B>>(rt, alloc);
     os_strings::<HipOsStr<'static, B>>(rt, alloc);
     texts::<HipStr<'static, B>>(rt, alloc);
@@ -223,13 +177,13 @@ fn on<B: Backend>(rt: &impl Abort, alloc: Global) {
 }
 
 #[test]
-fn on_rc(rt: HostRuntime) {
-    on::<Rc>(&rt, rt.alloc());
+fn values_on_rc(rt: HostRuntime) {
+    values::<Rc>(&rt, rt.alloc());
 }
 
 #[test]
-fn on_unique(rt: HostRuntime) {
-    on::<Unique>(&rt, rt.alloc());
+fn values_on_unique(rt: HostRuntime) {
+    values::<Unique>(&rt, rt.alloc());
 }
 
 #[test]

@@ -1,6 +1,6 @@
 //! Keys of maps and sets: paths by their components, OS strings by their bytes.
-use crate::name::Name;
-use crate::support::must;
+use super::name::Name;
+use super::support::must;
 use std::alloc::{AllocError, Global};
 use std::collections::{BTreeMap, HashMap, HashSet};
 use std::hash::Hash;
