@@ -1,5 +1,5 @@
 //! Counted copies, and vectors that are filled.
-use crate::support::must;
+use super::support::must;
 use hip_raw::{Filling, Meter, copy_counted, copy_with_capacity, extend_counted, fill_counted};
 use std::alloc::Global;
 use std::process::Abort;

@@ -1,5 +1,5 @@
 //! Bytes in the handle itself, and lent bytes.
-use crate::support::must;
+use super::support::must;
 use hip_raw::{Borrowed, Inline, Meter};
 use std::process::Abort;
 

@@ -1,5 +1,5 @@
 //! What an owner promises.
-use crate::support::{must, must_refuse};
+use super::support::{must, must_refuse};
 use hip_raw::{Appended, Backend, Meter, Rc, Room, Unique};
 use std::alloc::Global;
 use std::process::Abort;

@@ -1,5 +1,5 @@
 //! Ranges of an owner's bytes.
-use crate::support::{must, must_refuse};
+use super::support::{must, must_refuse};
 use hip_raw::{Allocated, Appended, Backend, Meter, Rc, Unique};
 use std::alloc::Global;
 use std::process::Abort;
