@@ -1,4 +1,4 @@
-//! Tests of byte strings, from outside of hipstr: what no clause says, as that calls succeed where there is memory, exact texts, and
+//! Tests of byte strings, from outside of hip_bytes: what no clause says, as that calls succeed where there is memory, exact texts, and
 //! values that come from elsewhere. On either backend.
 //!
 //! - `makers`: makers, views and clones.
@@ -12,17 +12,18 @@
 //! - `joins`: repetitions, joins and room that is given back.
 //! - `comparisons`: order, equality and maps.
 //!
-//! `groups` runs them on a backend; `support` is what they ask of a byte string, and what several of them assert; `maps`
-//! asks maps whose keys are byte strings.
+//! `bytes` is what they ask of a byte string, each call by its own name, `hip_byt` that a byte string of any backend is that, and `faults`
+//! why a call gave no part; `suite` runs them on a backend; `support` is what several of them assert; `maps` asks maps whose keys are byte
+//! strings.
 //!
 //! A test function is proved safe, and each branch in it, as a `?` or an assertion, costs seconds that grow with what stands before
 //! it. So calls on data are rows of a table, which one loop runs, and what is asserted of a handle is one helper, in `support`. A
 //! function that is generic in the backend is proved once.
 //!
 //! Most of what stands before a branch is what contracts say of handles, and a test needs none of it, since it compares while it runs. So
-//! tests call handles through the trait `support::Bytes`, whose methods say nothing, and `support::must` ends a test where a call was
+//! tests call handles through the trait `bytes::Bytes`, whose methods say nothing, and `support::must` ends a test where a call was
 //! refused, in place of a `?`. A method costs one to three seconds, and a test function as much. Each function that names a backend's byte
-//! string as `Bytes` takes 13 seconds more, so only `groups::on` does.
+//! string as `Bytes` takes 13 seconds more, so only `suite::on` does.
 //!
 //! A function in which a table stands costs more than the square of what the table borrows: 24 rows with two slices each 1.2 seconds,
 //! 48 rows 5, 94 rows 40. So a table has a function of its own that hands it out, and a long one several. A function that calls a map
@@ -30,28 +31,4 @@
 #![tactic(auto)]
 
 #[cfg(test)]
-mod comparisons;
-#[cfg(test)]
-mod conversions;
-#[cfg(test)]
-mod cuts;
-#[cfg(test)]
-mod errors;
-#[cfg(test)]
-mod groups;
-#[cfg(test)]
-mod guards;
-#[cfg(test)]
-mod joins;
-#[cfg(test)]
-mod makers;
-#[cfg(test)]
-mod maps;
-#[cfg(test)]
-mod owned_room;
-#[cfg(test)]
-mod spaces;
-#[cfg(test)]
-mod support;
-#[cfg(test)]
-mod writes;
+mod tests;

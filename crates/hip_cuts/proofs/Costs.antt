@@ -18,13 +18,13 @@ parts-at-most source [] = omega arith
 parts-at-most source (range ∷ ranges) = omega (arith, shared_part_is_little source.kind (range.1 - range.0), parts-at-most source ranges)
 
 -- ---- of a borrowed text
-pub parts-lent : (shares : Bool) (source : Handle) (ranges : List (ℕ × ℕ)) → source.kind ≡ Borrowed → parts_cost shares source ranges ≡ 0
-parts-lent shares source [] lent = refl
-parts-lent shares source (range ∷ ranges) lent =
-    omega (arith, ap (λ (kind : Kind). cut_cost shares kind (range.1 - range.0)) lent, parts-lent shares source ranges lent)
+pub parts_lent : (shares : Bool) (source : Handle) (ranges : List (ℕ × ℕ)) → source.kind ≡ Borrowed → parts_cost shares source ranges ≡ 0
+parts_lent shares source [] lent = refl
+parts_lent shares source (range ∷ ranges) lent =
+    omega (arith, ap (λ (kind : Kind). cut_cost shares kind (range.1 - range.0)) lent, parts_lent shares source ranges lent)
 
-pub parts-little : (source : Handle) (ranges : List (ℕ × ℕ)) → IsLittle source (length ranges) (parts_cost true source ranges)
-parts-little source ranges = record { at_most = parts-at-most source ranges; lent = parts-lent true source ranges }
+pub parts_little : (source : Handle) (ranges : List (ℕ × ℕ)) → IsLittle source (length ranges) (parts_cost true source ranges)
+parts_little source ranges = record { at_most = parts-at-most source ranges; lent = parts_lent true source ranges }
 
 -- ---- where owners aren't shared
 part-within : (kind : Kind) (len : ℕ) → cut_cost false kind len ≤ len
@@ -32,7 +32,7 @@ part-within Inline len = omega arith
 part-within Borrowed len = omega arith
 part-within Allocated len = search arith
 
-pub parts-within : (source : Handle) (from : ℕ) (ranges : List (ℕ × ℕ)) (to : ℕ) → InOrder from ranges to → from + parts_cost false source ranges ≤ to
-parts-within source from [] to order = omega (arith, order)
-parts-within source from (range ∷ ranges) to order =
-    omega (arith, order.0, order.1, part-within source.kind (range.1 - range.0), parts-within source range.1 ranges to order.2)
+pub parts_within : (source : Handle) (from : ℕ) (ranges : List (ℕ × ℕ)) (to : ℕ) → InOrder from ranges to → from + parts_cost false source ranges ≤ to
+parts_within source from [] to order = omega (arith, order)
+parts_within source from (range ∷ ranges) to order =
+    omega (arith, order.0, order.1, part-within source.kind (range.1 - range.0), parts_within source range.1 ranges to order.2)

@@ -6,6 +6,7 @@ use Rattle.hip_text.specs.Handle.{Handle}
 use Rattle.hip_text.specs.Cost.{CutNeedsMemory}
 use Rattle.hip_text.specs.Meter.{RisesAtMost}
 use Rattle.hip_match.specs.Characters.{char_ends}
+use Rattle.hip_match.specs.Parted.{IsParted, Lacks}
 use Rattle.hip_match.specs.Trims.{TrimsFront, TrimsBack}
 use Rattle.hip_cuts.specs.Piece.{IsPartAt, part_cost}
 
@@ -100,3 +101,9 @@ OnceAnswers shown split ends source result = PartsIfAny shown (found_in source s
 
 abbrev pub OnceCosts : Bool → FindsTwo → Ends → Handle → ℕ → ℕ → Type 0
 OnceCosts shares split ends source before after = PartsIfAnyCosts shares (found_in source split ends) source before after
+
+-- the two parts of a text that is split once by another, or nothing where it doesn't occur
+abbrev pub PartedAs : {E : Type 0} → List ℕ → List ℕ → Result (Option (Handle × Handle)) E → Type 0
+PartedAs pattern text (Ok (Some parts)) = IsParted pattern text parts.0.items parts.1.items
+PartedAs pattern text (Ok None) = Lacks pattern text
+PartedAs pattern text (Err error) = Unit {0}

@@ -18,3 +18,4 @@ pub mod LaneLemmas
 pub mod MarkLemmas
 pub mod GapLemmas
 pub mod OrderLemmas
+pub mod PartedLemmas

@@ -16,3 +16,4 @@ pub mod Ready
 pub mod Clones
 pub mod Iterators
 pub mod Rows
+pub mod Parted

@@ -33,6 +33,9 @@ impl<F: Fn(char) -> bool> CharPred<F> {
         ensures can { ⟦<CharPred<F> as Pattern>⟧.can_search result }
         ensures ends { ⟦<CharPred<F> as Pattern>⟧.ends result
             ≡ char_ends (λ c. answer_at chosen.answers c) }
+        ensures chosen { (passes : ℕ → Bool)
+            → ((c : ℕ) → IsScalar c → answer_at chosen.answers c ≡ passes c)
+            → ⟦<CharPred<F> as Pattern>⟧.ends result ≡ char_ends passes }
     {
         CharPred { test, chosen }
     }

@@ -5,26 +5,4 @@
 #![tactic(auto)]
 
 #[cfg(test)]
-mod by_both_ends;
-#[cfg(test)]
-mod by_characters;
-#[cfg(test)]
-mod by_closures;
-#[cfg(test)]
-mod by_texts;
-#[cfg(test)]
-mod clones;
-#[cfg(test)]
-mod cuts;
-#[cfg(test)]
-mod each_way;
-#[cfg(test)]
-mod lanes;
-#[cfg(test)]
-mod laws;
-#[cfg(test)]
-mod scripts;
-#[cfg(test)]
-mod walks;
-#[cfg(test)]
-mod white_space;
+mod tests;

@@ -1,7 +1,8 @@
 //! Tests of OS strings and paths, and of the Borsh and JSON of all four types, from outside of hip_names: what no clause says, as that calls
 //! succeed where there is memory, exact bytes and texts, bad input of each kind, and values that come from elsewhere. On either backend.
 //!
-//! - `name`: what the tests ask of an OS string and of a path alike, and of an OS string alone.
+//! - `name`: what the tests ask of an OS string and of a path alike, and of an OS string alone, each call by its own name.
+//! - `hip_os_str`, `hip_path`: an OS string and a path of any backend are that.
 //! - `names`: what hipstr's own tests ask of either type.
 //! - `calls`: conversions between types, rooms, orders, and components by themselves.
 //! - `hostile`: paths that are hard to read, with the answers of Rust's `std::path`.
@@ -10,29 +11,13 @@
 //!
 //! Of forms and values:
 //!
-//! - `support`: what the tests ask of all four types.
+//! - `handle`: what the tests ask of all four types, and of those that have a form or a value.
+//! - `hip_byt`, `hip_str`: a byte string and a text of any backend are that.
+//! - `support`: what ends a test, and what several files ask of a value.
 //! - `borsh`: forms that are written and read, cut short, or that lie about their length.
 //! - `streams`: readers and writers that are slow, that fail at one call, or that take nothing.
 //! - `json`: values that are made, read and refused.
 #![tactic(auto)]
 
 #[cfg(test)]
-mod borsh;
-#[cfg(test)]
-mod calls;
-#[cfg(test)]
-mod decoding;
-#[cfg(test)]
-mod hostile;
-#[cfg(test)]
-mod json;
-#[cfg(test)]
-mod maps;
-#[cfg(test)]
-mod name;
-#[cfg(test)]
-mod names;
-#[cfg(test)]
-mod streams;
-#[cfg(test)]
-mod support;
+mod tests;

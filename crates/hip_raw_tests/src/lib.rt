@@ -13,16 +13,4 @@
 #![tactic(auto)]
 
 #[cfg(test)]
-mod allocated;
-#[cfg(test)]
-mod blocks;
-#[cfg(test)]
-mod copies;
-#[cfg(test)]
-mod fuses;
-#[cfg(test)]
-mod handles;
-#[cfg(test)]
-mod owners;
-#[cfg(test)]
-mod support;
+mod tests;

@@ -2,16 +2,11 @@
 use crate::handle::{Change, Conversion, Copying, Handle, Lending, Making, Taking, Telling};
 use crate::held::{BYTES, Held, bytes_of};
 use crate::refusing::{each, is_refusing, must, refuse, was_refused};
-use hipstr::bytes::HipByt;
-use hipstr::os_string::HipOsStr;
-use hipstr::path::HipPath;
-use hipstr::string::HipStr;
-use hipstr::{Allocated, Backend, Rc, Unique};
 use std::alloc::Global;
 use std::process::Abort;
 
 /// A call.
-#[derive(Clone, Copy, Debug)]
+#[derive(Clone, Copy)]
 pub(crate) enum Call {
     /// That changes the handle. A refused one leaves it as it was.
     Change(Change),
@@ -29,26 +24,19 @@ pub(crate) enum Call {
     Lending(Lending),
 }
 
-/// What a call is tried on.
-#[derive(Clone, Copy, Debug)]
-pub(crate) enum Type {
-    Raw,
-    Bytes,
-    Text,
-    OsString,
-    Path,
-}
-
 /// Where a handle's bytes lie, and its capacity.
-type Seen = ((bool, bool, bool), usize);
-
-fn seen<H: Handle>(handle: &H) -> Seen {
-    (handle.kinds(), handle.capacity())
-}
+pub(crate) type Place = ((bool, bool, bool), usize);
 
 /// Asserts that a handle is as it was.
-fn is_kept<H: Handle>(rt: &impl Abort, handle: &H, bytes: &[u8], before: Seen) {
-    assert_eq!(rt; (handle.bytes(), seen(handle)), (bytes, before));
+fn is_kept<H: Handle>(rt: &impl Abort, handle: &H, bytes: &[u8], before: Place) {
+    let (now, place) = handle.seen();
+    assert!(rt; now == bytes && place == before);
+}
+
+/// Asserts that a handle is as another.
+fn is_same<H: Handle>(rt: &impl Abort, handle: &H, wanted: &H) {
+    let (bytes, place) = wanted.seen();
+    is_kept(rt, handle, bytes, place);
 }
 
 /// A vector of these bytes, with room for more.
@@ -79,7 +67,7 @@ fn made<H: Handle>(
 /// Asserts that a clone, if there is one, has its bytes.
 fn is_untouched<H: Handle>(rt: &impl Abort, clone: Option<H>, bytes: &[u8]) {
     if let Some(clone) = clone {
-        assert_eq!(rt; clone.bytes(), bytes);
+        assert!(rt; clone.seen().0 == bytes);
     }
 }
 
@@ -93,13 +81,13 @@ fn changed<H: Handle>(
 ) -> bool {
     let (mut handle, clone) = made::<H>(rt, alloc, held, bytes);
     let (mut other, _clone) = made::<H>(rt, alloc, held, bytes);
-    let before = seen(&handle);
+    let (_, before) = handle.seen();
     refuse(alloc, k);
     let is_done = handle.change(alloc, change);
     let refused = was_refused(alloc);
     if is_done {
         assert!(rt; other.change(alloc, change));
-        is_kept(rt, &handle, other.bytes(), seen(&other));
+        is_same(rt, &handle, &other);
     } else {
         assert!(rt; refused);
         is_kept(rt, &handle, bytes, before);
@@ -117,12 +105,13 @@ fn copied<H: Handle>(
     k: usize,
 ) -> bool {
     let (handle, _clone) = made::<H>(rt, alloc, held, bytes);
-    let (before, wanted) = (seen(&handle), must(rt, handle.copy(alloc, copying)));
+    let (_, before) = handle.seen();
+    let wanted = must(rt, handle.copy(alloc, copying));
     refuse(alloc, k);
     let copy = handle.copy(alloc, copying);
     let refused = was_refused(alloc);
     match copy {
-        Ok(copy) => is_kept(rt, &copy, wanted.bytes(), seen(&wanted)),
+        Ok(copy) => is_same(rt, &copy, &wanted),
         Err(_) => assert!(rt; refused),
     }
     is_kept(rt, &handle, bytes, before);
@@ -151,7 +140,7 @@ fn converted<H: Handle>(
 ) -> bool {
     let is_never = is_never::<H>(rt, alloc, held, bytes, conversion);
     let (handle, clone) = made::<H>(rt, alloc, held, bytes);
-    let before = seen(&handle);
+    let (_, before) = handle.seen();
     refuse(alloc, k);
     let outcome = handle.convert(alloc, conversion, bytes);
     let refused = was_refused(alloc);
@@ -173,11 +162,8 @@ fn taken<H: Handle>(rt: &impl Abort, alloc: Global, taking: Taking, k: usize) ->
     let outcome = H::take(alloc, taking, vec);
     let refused = was_refused(alloc);
     match outcome {
-        Ok(handle) => assert_eq!(rt; handle.bytes(), BYTES),
-        Err(back) => assert_eq!(rt;
-            (refused, back.as_slice(), back.capacity()),
-            (true, BYTES, room)
-        ),
+        Ok(handle) => assert!(rt; handle.seen().0 == BYTES),
+        Err(back) => assert!(rt; refused && back.as_slice() == BYTES && back.capacity() == room),
     }
     refused
 }
@@ -189,8 +175,8 @@ fn makes<H: Handle>(rt: &impl Abort, alloc: Global, making: Making, k: usize) ->
     let outcome = H::make(alloc, making, &value);
     let refused = was_refused(alloc);
     match outcome {
-        Ok(handle) => is_kept(rt, &handle, wanted.bytes(), seen(&wanted)),
-        Err(is_memory) => assert_eq!(rt; (refused, is_memory), (true, true)),
+        Ok(handle) => is_same(rt, &handle, &wanted),
+        Err(is_memory) => assert!(rt; refused & is_memory),
     }
     refused
 }
@@ -204,7 +190,7 @@ fn told<H: Handle>(
     k: usize,
 ) -> bool {
     let (handle, _clone) = made::<H>(rt, alloc, held, bytes);
-    let before = seen(&handle);
+    let (_, before) = handle.seen();
     refuse(alloc, k);
     let is_told = handle.tell(alloc, telling);
     let refused = was_refused(alloc);
@@ -214,7 +200,7 @@ fn told<H: Handle>(
 }
 
 /// What a handle without bytes is seen as.
-const EMPTY: Seen = ((true, false, false), 23);
+const EMPTY: Place = ((true, false, false), 23);
 
 fn lent<H: Handle>(
     rt: &impl Abort,
@@ -225,18 +211,21 @@ fn lent<H: Handle>(
     k: usize,
 ) -> bool {
     let (mut handle, clone) = made::<H>(rt, alloc, held, bytes);
-    let before = seen(&handle);
+    let (_, before) = handle.seen();
     refuse(alloc, k);
-    let outcome = handle.lend(alloc, lending);
+    let outcome = match lending {
+        Lending::Guard => handle.lend_guard(alloc),
+        Lending::Closure => handle.lend_closure(alloc),
+    };
     let refused = was_refused(alloc);
     match outcome {
-        Ok(()) => assert_eq!(rt; handle.bytes(), bytes),
+        Ok(()) => assert!(rt; handle.seen().0 == bytes),
         Err(None) => {
             assert!(rt; refused);
             is_kept(rt, &handle, bytes, before);
         }
         Err(Some(back)) => {
-            assert_eq!(rt; (refused, back.as_slice()), (true, bytes));
+            assert!(rt; refused && back.as_slice() == bytes);
             is_kept(rt, &handle, b"", EMPTY);
         }
     }
@@ -276,24 +265,10 @@ fn of<H: Handle>(rt: &impl Abort, alloc: Global, call: Call) -> usize {
     refusals
 }
 
-fn on<B: Backend>(rt: &impl Abort, alloc: Global, of_type: Type, call: Call) -> usize {
-    match of_type {
-        Type::Raw => of::<Allocated<B>>(rt, alloc, call),
-        Type::Bytes => of::<HipByt<'static, B>>(rt, alloc, call),
-        Type::Text => of::<HipStr<'static, B>>(rt, alloc, call),
-        Type::OsString => of::<HipOsStr<'static, B>>(rt, alloc, call),
-        Type::Path => of::<HipPath<'static, B>>(rt, alloc, call),
-    }
-}
-
-/// Runs calls on both backends. Each of them takes memory on one of them.
-pub(crate) fn on_both(rt: &impl Abort, alloc: Global, of_type: Type, calls: &[Call]) {
-    for call in calls {
-        let on_rc = on::<Rc>(rt, alloc, of_type, *call);
-        let on_unique = on::<Unique>(rt, alloc, of_type, *call);
-        assert!(rt;
-            (on_rc > 0) | (on_unique > 0) | !is_refusing(alloc),
-            "{of_type:?}, {call:?}: met no refusal"
-        );
+/// Runs calls on a type whose owners are shared, and on the same where they aren't. Each of them takes memory on one of them.
+pub(crate) fn on_both<S: Handle, U: Handle>(rt: &impl Abort, alloc: Global, calls: &[Call]) {
+    for (i, call) in calls.iter().enumerate() {
+        let met = of::<S>(rt, alloc, *call).saturating_add(of::<U>(rt, alloc, *call));
+        assert!(rt; met > 0 || !is_refusing(alloc), "call {i} met no refusal");
     }
 }

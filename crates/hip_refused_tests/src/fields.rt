@@ -48,9 +48,8 @@ fn is_kept<B: Backend>(
     kind: Kind,
     capacity: usize,
 ) {
-    assert_eq!(rt;
-        (text.as_str(), text.kind(), text.capacity()),
-        (letters(held), kind, capacity)
+    assert!(rt;
+        text.as_str() == letters(held) && text.kind() == kind && text.capacity() == capacity
     );
 }
 
@@ -61,7 +60,7 @@ fn gathered<B: Backend>(rt: &impl Abort, alloc: Global, held: Held, k: usize) ->
     refuse(alloc, k);
     let gathered = records(alloc, &text, ',');
     let refused = was_refused(alloc);
-    assert_eq!(rt; gathered.is_err(), refused, "at request {k}");
+    assert!(rt; gathered.is_err() == refused, "at request {k}");
     is_kept(rt, &text, held, kind, capacity);
     refused
 }
@@ -93,9 +92,8 @@ fn drawn<B: Backend>(rt: &impl Abort, alloc: Global, held: Held, k: usize) -> bo
     let second = draw(alloc, &mut records);
     let third = draw(alloc, &mut records);
     let refused = was_refused(alloc);
-    assert_eq!(rt;
-        (first.is_some(), second.is_some(), third, first == second),
-        (true, true, None, !refused),
+    assert!(rt;
+        first.is_some() && second.is_some() && third.is_none() && (first == second) != refused,
         "at request {k}"
     );
     is_kept(rt, &text, held, kind, capacity);

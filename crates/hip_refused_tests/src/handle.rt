@@ -1,4 +1,5 @@
 //! What the scenarios ask of a handle. The calls say nothing of their answers, so that a scenario knows nothing but what it compares.
+use crate::calls::Place;
 use crate::held::{ADDED, BROKEN, BYTES, EACH_HELD, Held, PART, PART_BYTES, TEXT};
 use hipstr::bytes::{BorshFault, GrowFault, HipByt, JsonFault, MutateFault};
 use hipstr::os_string::HipOsStr;
@@ -11,7 +12,7 @@ use std::borrow::{CowSlice, CowStr};
 use std::ops::Bound;
 
 /// A call that changes a handle.
-#[derive(Clone, Copy, Debug)]
+#[derive(Clone, Copy)]
 pub enum Change {
     Push,
     PushMany,
@@ -24,7 +25,7 @@ pub enum Change {
 }
 
 /// A call that makes a handle of another.
-#[derive(Clone, Copy, Debug)]
+#[derive(Clone, Copy)]
 pub enum Copying {
     Clone,
     Slice,
@@ -52,7 +53,7 @@ pub enum Copying {
 }
 
 /// A call that makes something else of a handle.
-#[derive(Clone, Copy, Debug)]
+#[derive(Clone, Copy)]
 pub enum Conversion {
     Owned,
     Vector,
@@ -63,7 +64,7 @@ pub enum Conversion {
 }
 
 /// A call that makes a handle of what it takes over.
-#[derive(Clone, Copy, Debug)]
+#[derive(Clone, Copy)]
 pub enum Taking {
     Vector,
     Cow,
@@ -71,7 +72,7 @@ pub enum Taking {
 }
 
 /// A call that makes a handle of what stays as it is.
-#[derive(Clone, Copy, Debug)]
+#[derive(Clone, Copy)]
 pub enum Making {
     Room,
     Copied,
@@ -88,14 +89,14 @@ pub enum Making {
 }
 
 /// A call that tells of a handle.
-#[derive(Clone, Copy, Debug)]
+#[derive(Clone, Copy)]
 pub enum Telling {
     Json,
     Borsh,
 }
 
 /// A call that lends a handle's bytes out for writing.
-#[derive(Clone, Copy, Debug)]
+#[derive(Clone, Copy)]
 pub enum Lending {
     Guard,
     Closure,
@@ -115,12 +116,8 @@ pub trait Handle: Drop {
 
     fn clone(&self, alloc: Global) -> Result<Self, AllocError>;
 
-    fn bytes(&self) -> &[u8];
-
-    /// What `is_inline`, `is_borrowed` and `is_allocated` say.
-    fn kinds(&self) -> (bool, bool, bool);
-
-    fn capacity(&self) -> usize;
+    /// Its bytes, what `is_inline`, `is_borrowed` and `is_allocated` say, and its capacity.
+    fn seen(&self) -> (&[u8], Place);
 
     /// Whether it was changed.
     fn change(&mut self, alloc: Global, change: Change) -> bool;
@@ -142,8 +139,11 @@ pub trait Handle: Drop {
     /// Whether it was told.
     fn tell(&self, alloc: Global, telling: Telling) -> bool;
 
-    /// The vector that was lent, where it couldn't be put back; none where it couldn't be lent.
-    fn lend(&mut self, alloc: Global, lending: Lending) -> Result<(), Option<Vec<u8>>>;
+    /// By a guard: the vector that was lent, where it couldn't be put back; none where it couldn't be lent.
+    fn lend_guard(&mut self, alloc: Global) -> Result<(), Option<Vec<u8>>>;
+
+    /// The same by a closure.
+    fn lend_closure(&mut self, alloc: Global) -> Result<(), Option<Vec<u8>>>;
 }
 
 const TEXTS: &[&[u8]] = &[BYTES];
@@ -207,6 +207,14 @@ fn of_bytes<T>(outcome: Result<T, BytesFault>) -> Result<T, bool> {
     }
 }
 
+/// What a guard had to put back.
+fn put_back<V: Drop>(outcome: Result<(), V>) -> Result<(), Option<V>> {
+    match outcome {
+        Ok(()) => Ok(()),
+        Err(back) => Err(Some(back)),
+    }
+}
+
 /// What a closure wasn't called with, or left to be put back.
 fn lent_back<V: Drop>(outcome: Result<(), MutateFault<(), V>>) -> Result<(), Option<V>> {
     match outcome {
@@ -257,16 +265,9 @@ impl<B: Backend> Handle for HipByt<'static, B> {
         self.clone(alloc)
     }
 
-    fn bytes(&self) -> &[u8] {
-        self.as_slice()
-    }
-
-    fn kinds(&self) -> (bool, bool, bool) {
-        (self.is_inline(), self.is_borrowed(), self.is_allocated())
-    }
-
-    fn capacity(&self) -> usize {
-        self.capacity()
+    fn seen(&self) -> (&[u8], Place) {
+        let kinds = (self.is_inline(), self.is_borrowed(), self.is_allocated());
+        (self.as_slice(), (kinds, self.capacity()))
     }
 
     fn change(&mut self, alloc: Global, change: Change) -> bool {
@@ -365,14 +366,15 @@ impl<B: Backend> Handle for HipByt<'static, B> {
         }
     }
 
-    fn lend(&mut self, alloc: Global, lending: Lending) -> Result<(), Option<Vec<u8>>> {
-        match lending {
-            Lending::Guard => {
-                let guard = self.mutate(alloc).or(Err(None))?;
-                guard.finish(alloc).map_err(Some)
-            }
-            Lending::Closure => lent_back(self.with_mutated(alloc, |_vec: &mut Vec<u8>| ())),
+    fn lend_guard(&mut self, alloc: Global) -> Result<(), Option<Vec<u8>>> {
+        match self.mutate(alloc) {
+            Ok(guard) => put_back(guard.finish(alloc)),
+            Err(_) => Err(None),
         }
+    }
+
+    fn lend_closure(&mut self, alloc: Global) -> Result<(), Option<Vec<u8>>> {
+        lent_back(self.with_mutated(alloc, |_vec: &mut Vec<u8>| ()))
     }
 }
 
@@ -397,16 +399,9 @@ impl<B: Backend> Handle for HipStr<'static, B> {
         self.clone(alloc)
     }
 
-    fn bytes(&self) -> &[u8] {
-        self.as_bytes()
-    }
-
-    fn kinds(&self) -> (bool, bool, bool) {
-        (self.is_inline(), self.is_borrowed(), self.is_allocated())
-    }
-
-    fn capacity(&self) -> usize {
-        self.capacity()
+    fn seen(&self) -> (&[u8], Place) {
+        let kinds = (self.is_inline(), self.is_borrowed(), self.is_allocated());
+        (self.as_bytes(), (kinds, self.capacity()))
     }
 
     fn change(&mut self, alloc: Global, change: Change) -> bool {
@@ -512,19 +507,24 @@ impl<B: Backend> Handle for HipStr<'static, B> {
         }
     }
 
-    fn lend(&mut self, alloc: Global, lending: Lending) -> Result<(), Option<Vec<u8>>> {
-        let outcome = match lending {
-            Lending::Guard => {
-                let guard = self.mutate(alloc).or(Err(None))?;
-                guard.finish(alloc).map_err(Some)
-            }
-            Lending::Closure => lent_back(self.with_mutated(alloc, |_string: &mut String| ())),
-        };
-        match outcome {
-            Ok(()) => Ok(()),
-            Err(None) => Err(None),
-            Err(Some(back)) => Err(Some(back.into_bytes())),
+    fn lend_guard(&mut self, alloc: Global) -> Result<(), Option<Vec<u8>>> {
+        match self.mutate(alloc) {
+            Ok(guard) => bytes_back(put_back(guard.finish(alloc))),
+            Err(_) => Err(None),
         }
+    }
+
+    fn lend_closure(&mut self, alloc: Global) -> Result<(), Option<Vec<u8>>> {
+        bytes_back(lent_back(self.with_mutated(alloc, |_string: &mut String| ())))
+    }
+}
+
+/// The bytes of a string that wasn't put back.
+fn bytes_back(outcome: Result<(), Option<String>>) -> Result<(), Option<Vec<u8>>> {
+    match outcome {
+        Ok(()) => Ok(()),
+        Err(None) => Err(None),
+        Err(Some(back)) => Err(Some(back.into_bytes())),
     }
 }
 
@@ -590,16 +590,9 @@ impl<B: Backend> Handle for HipOsStr<'static, B> {
         self.clone(alloc)
     }
 
-    fn bytes(&self) -> &[u8] {
-        self.as_os_str()
-    }
-
-    fn kinds(&self) -> (bool, bool, bool) {
-        (self.is_inline(), self.is_borrowed(), self.is_allocated())
-    }
-
-    fn capacity(&self) -> usize {
-        self.capacity()
+    fn seen(&self) -> (&[u8], Place) {
+        let kinds = (self.is_inline(), self.is_borrowed(), self.is_allocated());
+        (self.as_os_str(), (kinds, self.capacity()))
     }
 
     fn change(&mut self, alloc: Global, change: Change) -> bool {
@@ -654,14 +647,15 @@ impl<B: Backend> Handle for HipOsStr<'static, B> {
         self.to_json(alloc).is_ok()
     }
 
-    fn lend(&mut self, alloc: Global, lending: Lending) -> Result<(), Option<Vec<u8>>> {
-        match lending {
-            Lending::Guard => {
-                let guard = self.mutate(alloc).or(Err(None))?;
-                guard.finish(alloc).map_err(Some)
-            }
-            Lending::Closure => lent_back(self.with_mutated(alloc, |_vec: &mut Vec<u8>| ())),
+    fn lend_guard(&mut self, alloc: Global) -> Result<(), Option<Vec<u8>>> {
+        match self.mutate(alloc) {
+            Ok(guard) => put_back(guard.finish(alloc)),
+            Err(_) => Err(None),
         }
+    }
+
+    fn lend_closure(&mut self, alloc: Global) -> Result<(), Option<Vec<u8>>> {
+        lent_back(self.with_mutated(alloc, |_vec: &mut Vec<u8>| ()))
     }
 }
 
@@ -689,16 +683,9 @@ impl<B: Backend> Handle for HipPath<'static, B> {
         self.clone(alloc)
     }
 
-    fn bytes(&self) -> &[u8] {
-        self.as_path()
-    }
-
-    fn kinds(&self) -> (bool, bool, bool) {
-        (self.is_inline(), self.is_borrowed(), self.is_allocated())
-    }
-
-    fn capacity(&self) -> usize {
-        self.capacity()
+    fn seen(&self) -> (&[u8], Place) {
+        let kinds = (self.is_inline(), self.is_borrowed(), self.is_allocated());
+        (self.as_path(), (kinds, self.capacity()))
     }
 
     fn change(&mut self, alloc: Global, change: Change) -> bool {
@@ -743,13 +730,14 @@ impl<B: Backend> Handle for HipPath<'static, B> {
         self.to_json(alloc).is_ok()
     }
 
-    fn lend(&mut self, alloc: Global, lending: Lending) -> Result<(), Option<Vec<u8>>> {
-        match lending {
-            Lending::Guard => {
-                let guard = self.mutate(alloc).or(Err(None))?;
-                guard.finish(alloc).map_err(Some)
-            }
-            Lending::Closure => lent_back(self.with_mutated(alloc, |_vec: &mut Vec<u8>| ())),
+    fn lend_guard(&mut self, alloc: Global) -> Result<(), Option<Vec<u8>>> {
+        match self.mutate(alloc) {
+            Ok(guard) => put_back(guard.finish(alloc)),
+            Err(_) => Err(None),
         }
+    }
+
+    fn lend_closure(&mut self, alloc: Global) -> Result<(), Option<Vec<u8>>> {
+        lent_back(self.with_mutated(alloc, |_vec: &mut Vec<u8>| ()))
     }
 }

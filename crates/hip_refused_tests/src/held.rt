@@ -1,7 +1,7 @@
 //! How the bytes of a handle are held, and the bytes.
 
 /// How the bytes of a handle are held.
-#[derive(Clone, Copy, Debug)]
+#[derive(Clone, Copy)]
 pub(crate) enum Held {
     /// In the handle itself.
     Inline,

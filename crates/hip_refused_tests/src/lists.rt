@@ -10,12 +10,12 @@ use std::process::Abort;
 
 const SLOTS: usize = 8;
 
-/// Commands that are performed with ample memory, whether slot 0 is made a text then, and the commands of which requests are refused. None
+/// Commands that are performed with ample memory, those that make a slot a text then, and the commands of which requests are refused. None
 /// of these uses what a `Mutate` among them leaves.
 #[derive(Clone, Copy)]
 struct Session<'c> {
     before: &'c [Command<'static>],
-    is_text: bool,
+    texts: &'c [Command<'static>],
     commands: &'c [Command<'static>],
 }
 
@@ -39,9 +39,7 @@ fn pool_of<B: Backend>(
 ) -> Pool<'static, B> {
     let mut pool = must(rt, Pool::<B>::new(alloc, SLOTS));
     must(rt, run(alloc, &mut pool, session.before, meter));
-    if session.is_text {
-        must(rt, run(alloc, &mut pool, &[Command::Text(0)], meter));
-    }
+    must(rt, run(alloc, &mut pool, session.texts, meter));
     pool
 }
 
@@ -128,9 +126,8 @@ fn is_list_without<B: Backend>(
     let mut meter = Meter::new();
     let mut other = pool_of::<B>(rt, alloc, session, &mut meter);
     let wanted = must(rt, run(alloc, &mut other, rest.as_slice(), &mut meter));
-    assert_eq!(rt;
-        without(rt, alloc, answers, at).as_slice(),
-        wanted.as_slice(),
+    assert!(rt;
+        without(rt, alloc, answers, at).as_slice() == wanted.as_slice(),
         "without command {at}"
     );
     let apart = if refused {
@@ -153,7 +150,7 @@ fn is_run<B: Backend>(rt: &impl Abort, alloc: Global, session: Session<'_>, k: u
         Err(AllocError) => {
             let other = pool_of::<B>(rt, alloc, session, &mut Meter::new());
             are_same(rt, &pool, &other, Apart::Nothing);
-            assert_eq!(rt; (refused, meter.copied()), (true, before));
+            assert!(rt; refused && meter.copied() == before);
         }
     }
     refused
@@ -167,6 +164,9 @@ fn on_both(rt: &impl Abort, alloc: Global, session: Session<'_>) -> usize {
 }
 
 const SHORT: &[u8] = b" ab";
+
+/// Slot 0 becomes a text.
+const TEXTS: &[Command<'static>] = &[Command::Text(0)];
 
 // What makes the value of slot 0, and what stands in a slot that commands replace.
 
@@ -268,13 +268,18 @@ fn on_texts() -> &'static [Command<'static>] {
 }
 
 /// Runs each command by itself.
-fn by_themselves(rt: &impl Abort, alloc: Global, is_text: bool, commands: &[Command<'static>]) {
+fn by_themselves(
+    rt: &impl Abort,
+    alloc: Global,
+    texts: &[Command<'static>],
+    commands: &[Command<'static>],
+) {
     for command in commands {
         let alone = [*command];
         for held in EACH_HELD {
             let session = Session {
                 before: held_by(*held),
-                is_text,
+                texts,
                 commands: alone.as_slice(),
             };
             let met = on_both(rt, alloc, session);
@@ -285,12 +290,12 @@ fn by_themselves(rt: &impl Abort, alloc: Global, is_text: bool, commands: &[Comm
 
 #[test]
 fn commands_on_bytes(rt: HostRuntime) {
-    by_themselves(&rt, rt.alloc(), false, on_bytes());
+    by_themselves(&rt, rt.alloc(), &[], on_bytes());
 }
 
 #[test]
 fn commands_on_texts(rt: HostRuntime) {
-    by_themselves(&rt, rt.alloc(), true, on_texts());
+    by_themselves(&rt, rt.alloc(), TEXTS, on_texts());
 }
 
 /// The three targets of pieces of 30 bytes stay as they are, whatever request of theirs is refused.
@@ -304,14 +309,14 @@ const PIECES: Session<'static> = Session {
         Command::Inline(2, b"ab"),
         Command::Borrow(3, ADDED_BYTES),
     ],
-    is_text: true,
+    texts: TEXTS,
     commands: &[Command::Pieces(0, How::Split(Pat::Char(',')), THREE, 1)],
 };
 
 /// Every command, on values that are too long for a handle itself.
 const EACH: Session<'static> = Session {
     before: &[],
-    is_text: false,
+    texts: &[],
     commands: &[
         Command::New(0),
         Command::Inline(0, b"ab"),
@@ -375,7 +380,7 @@ fn is_made<B: Backend>(rt: &impl Abort, alloc: Global, k: usize) -> bool {
     refuse(alloc, k);
     let pool = Pool::<B>::new(alloc, SLOTS);
     let refused = was_refused(alloc);
-    assert_eq!(rt; pool.is_err(), refused);
+    assert!(rt; pool.is_err() == refused);
     refused
 }
 

@@ -1,6 +1,7 @@
 //! Owners, with the calls that they have.
+use crate::calls::Place;
 use crate::handle::{
-    Change, Conversion, Copying, Handle, LISTS, Lending, Making, Taking, Telling, of_memory,
+    Change, Conversion, Copying, Handle, LISTS, Making, Taking, Telling, of_memory,
 };
 use crate::held::{BROKEN, Held};
 use hipstr::bytes::JsonFault;
@@ -29,16 +30,9 @@ impl<B: Backend> Handle for Allocated<B> {
         self.slice_unchecked(alloc, 0..self.len())
     }
 
-    fn bytes(&self) -> &[u8] {
-        self.as_slice()
-    }
-
-    fn kinds(&self) -> (bool, bool, bool) {
-        (false, false, true)
-    }
-
-    fn capacity(&self) -> usize {
-        self.capacity()
+    fn seen(&self) -> (&[u8], Place) {
+        let kinds = (false, false, true);
+        (self.as_slice(), (kinds, self.capacity()))
     }
 
     fn change(&mut self, alloc: Global, change: Change) -> bool {
@@ -79,7 +73,11 @@ impl<B: Backend> Handle for Allocated<B> {
         true
     }
 
-    fn lend(&mut self, _alloc: Global, _lending: Lending) -> Result<(), Option<Vec<u8>>> {
+    fn lend_guard(&mut self, _alloc: Global) -> Result<(), Option<Vec<u8>>> {
+        Ok(())
+    }
+
+    fn lend_closure(&mut self, _alloc: Global) -> Result<(), Option<Vec<u8>>> {
         Ok(())
     }
 }

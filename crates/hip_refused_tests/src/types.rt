@@ -1,6 +1,11 @@
 //! The calls of each type that can take memory.
-use crate::calls::{Call, Type, on_both};
+use crate::calls::{Call, on_both};
 use crate::handle::{Change, Conversion, Copying, Lending, Making, Taking, Telling};
+use hipstr::bytes::HipByt;
+use hipstr::os_string::HipOsStr;
+use hipstr::path::HipPath;
+use hipstr::string::HipStr;
+use hipstr::{Allocated, Rc, Unique};
 
 const OF_OWNERS: &[Call] = &[
     Call::Change(Change::PushMany),
@@ -141,30 +146,30 @@ const OF_PATHS: &[Call] = &[
 
 #[test]
 fn calls_of_owners(rt: HostRuntime) {
-    on_both(&rt, rt.alloc(), Type::Raw, OF_OWNERS);
+    on_both::<Allocated<Rc>, Allocated<Unique>>(&rt, rt.alloc(), OF_OWNERS);
 }
 
 #[test]
 fn calls_of_byte_strings(rt: HostRuntime) {
-    on_both(&rt, rt.alloc(), Type::Bytes, OF_BYTES);
+    on_both::<HipByt<'static, Rc>, HipByt<'static, Unique>>(&rt, rt.alloc(), OF_BYTES);
 }
 
 #[test]
 fn calls_of_texts(rt: HostRuntime) {
-    on_both(&rt, rt.alloc(), Type::Text, OF_TEXTS);
+    on_both::<HipStr<'static, Rc>, HipStr<'static, Unique>>(&rt, rt.alloc(), OF_TEXTS);
 }
 
 #[test]
 fn cuts_of_texts(rt: HostRuntime) {
-    on_both(&rt, rt.alloc(), Type::Text, OF_CUTS);
+    on_both::<HipStr<'static, Rc>, HipStr<'static, Unique>>(&rt, rt.alloc(), OF_CUTS);
 }
 
 #[test]
 fn calls_of_os_strings(rt: HostRuntime) {
-    on_both(&rt, rt.alloc(), Type::OsString, OF_OS_STRINGS);
+    on_both::<HipOsStr<'static, Rc>, HipOsStr<'static, Unique>>(&rt, rt.alloc(), OF_OS_STRINGS);
 }
 
 #[test]
 fn calls_of_paths(rt: HostRuntime) {
-    on_both(&rt, rt.alloc(), Type::Path, OF_PATHS);
+    on_both::<HipPath<'static, Rc>, HipPath<'static, Unique>>(&rt, rt.alloc(), OF_PATHS);
 }

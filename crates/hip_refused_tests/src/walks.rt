@@ -8,7 +8,7 @@ use std::alloc::{AllocError, Global};
 use std::process::Abort;
 
 /// A walk.
-#[derive(Clone, Copy, Debug)]
+#[derive(Clone, Copy)]
 enum Walk {
     Split,
     SplitInclusive,
@@ -48,7 +48,7 @@ const WALKS: &[Walk] = &[
 ];
 
 /// How many items a walk gave, and how many of them were errors.
-#[derive(Clone, Copy, Debug, PartialEq, Eq)]
+#[derive(Clone, Copy)]
 struct Tally {
     items: usize,
     errors: usize,
@@ -79,12 +79,17 @@ fn given<'h, 'b, B: Backend, I: Unnumbered + Drop>(pieces: IterWrapper<'h, 'b, B
     tally
 }
 
+/// From the back, of a walk of fewer than ten pieces.
 fn given_from_back<'h, 'b, B: Backend, I: Unnumbered + RangesBack + Drop>(
     pieces: IterWrapper<'h, 'b, B, I>,
 ) -> Tally {
+    let mut pieces = pieces;
     let mut tally = Tally::none();
-    for piece in pieces.rev() {
-        tally.count(piece);
+    for _ in 0..10 {
+        match pieces.next_back() {
+            Some(piece) => tally.count(piece),
+            None => return tally,
+        }
     }
     tally
 }
@@ -157,36 +162,34 @@ fn is_walked<B: Backend>(rt: &impl Abort, alloc: Global, held: Held, walk: Walk,
     refuse(alloc, k);
     let given = walked(&text, alloc, walk);
     let refused = was_refused(alloc);
-    assert_eq!(rt;
-        (wanted.errors, given.items, given.errors),
-        (0, wanted.items, refused as usize),
-        "{walk:?}"
+    assert!(rt;
+        wanted.errors == 0 && given.items == wanted.items && given.errors == refused as usize
     );
     refused
 }
 
 /// Pieces take memory where owners aren't shared, and there alone.
-fn are_walked<B: Backend>(rt: &impl Abort, alloc: Global, walk: Walk) {
+fn are_walked<B: Backend>(rt: &impl Abort, alloc: Global, i: usize, walk: Walk) {
     let mut refusals = 0usize;
     for held in EACH_HELD {
         let met = each(|k| is_walked::<B>(rt, alloc, *held, walk, k));
         refusals = refusals.saturating_add(met);
     }
     let takes_memory = !B::SHARES && is_refusing(alloc);
-    assert_eq!(rt; refusals > 0, takes_memory, "{walk:?}");
+    assert!(rt; (refusals > 0) == takes_memory, "walk {i}");
 }
 
 #[test]
 fn walks_where_nothing_is_shared(rt: HostRuntime) {
-    for walk in WALKS {
-        are_walked::<Unique>(&rt, rt.alloc(), *walk);
+    for (i, walk) in WALKS.iter().enumerate() {
+        are_walked::<Unique>(&rt, rt.alloc(), i, *walk);
     }
 }
 
 #[test]
 fn walks_where_owners_are_shared_take_none(rt: HostRuntime) {
-    for walk in WALKS {
-        are_walked::<Rc>(&rt, rt.alloc(), *walk);
+    for (i, walk) in WALKS.iter().enumerate() {
+        are_walked::<Rc>(&rt, rt.alloc(), i, *walk);
     }
 }
 

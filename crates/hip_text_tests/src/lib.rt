@@ -6,8 +6,10 @@
 //!
 //! Of whole texts:
 //!
-//! - `text`: what the tests ask of texts and of bytes.
-//! - `groups`: the files below, run on a backend.
+//! - `text`: what the tests ask of texts, of their bytes and of the error of bytes that aren't one, each call by its own name.
+//! - `hip_str`: a text of any backend is that; `faults`: why a call gave no part of one.
+//! - `support`: what ends a test, and what several files assert.
+//! - `suite`: the files below, run on a backend.
 //! - `makers`: makers, conversions, pushes, `pop`, case, comparisons and guards.
 //! - `carried`: what hipstr's own tests ask, and the worked rows.
 //! - `decoding`: bytes that are UTF-8, that aren't, and their repair.
@@ -27,32 +29,4 @@
 #![tactic(auto)]
 
 #[cfg(test)]
-mod carried;
-#[cfg(test)]
-mod clones;
-#[cfg(test)]
-mod closures;
-#[cfg(test)]
-mod cuts;
-#[cfg(test)]
-mod decoding;
-#[cfg(test)]
-mod errors;
-#[cfg(test)]
-mod fields;
-#[cfg(test)]
-mod groups;
-#[cfg(test)]
-mod kinds;
-#[cfg(test)]
-mod made;
-#[cfg(test)]
-mod makers;
-#[cfg(test)]
-mod places;
-#[cfg(test)]
-mod records;
-#[cfg(test)]
-mod text;
-#[cfg(test)]
-mod walks;
+mod tests;

@@ -1,20 +1,10 @@
 //! Words, and how often each comes.
-ghost use Rattle.std.specs.Prelude.{◌≡◌, ◌&&◌, not};
-ghost use Rattle.std.specs.Char.{is_ascii, is_ascii_alphanumeric};
-
 use crate::fault::ToolFault;
 use hip_uses::intern::Interner;
-use hipstr::pattern::{CharPred, Split};
-use hipstr::string::{HipStr, TextCuts};
-use hipstr::{Meter, Rc};
+use hipstr::Rc;
+use hipstr::string::HipStr;
 use std::alloc::{AllocError, Global};
 use std::cmp::Reverse;
-
-fn is_gap(c: char) -> bool
-    ensures { result ≡ (is_ascii c && not (is_ascii_alphanumeric c)) }
-{
-    c.is_ascii() && !c.is_ascii_alphanumeric()
-}
 
 /// The different words of a text, and how often each comes, by its number.
 #[derive(Drop)]
@@ -24,33 +14,17 @@ pub(crate) struct Words<'b> {
 }
 
 impl<'b> Words<'b> {
-    fn new(alloc: Global) -> Self {
-        Words {
-            interner: Interner::new(alloc),
-            counts: Vec::new(alloc),
-        }
-    }
-
-    /// Counts the words of a text: the longest runs of letters, digits, and characters that aren't ASCII.
+    /// Counts the words of a text.
     pub(crate) fn of(alloc: Global, text: &HipStr<'b, Rc>) -> Result<Self, ToolFault> {
-        let mut words = Words::new(alloc);
-        let gap = CharPred::new(|c| is_gap(c));
-        for (_, word) in text.pieces_at(alloc, Split::new(text.as_str(), gap)) {
-            let word = word?;
-            if !word.is_empty() {
-                words.add(alloc, word)?;
+        let mut interner = Interner::new(alloc);
+        let numbers = interner.intern_words(alloc, text)?;
+        let mut counts = vec![in alloc; 0u64; interner.len()]?;
+        for number in &numbers {
+            if let Some(count) = counts.get_mut(*number as usize) {
+                *count = count.saturating_add(1);
             }
         }
-        Ok(words)
-    }
-
-    fn add(&mut self, alloc: Global, word: HipStr<'b, Rc>) -> Result<(), ToolFault> {
-        let number = self.interner.intern(alloc, word, &mut Meter::new())?;
-        match self.counts.get_mut(number as usize) {
-            Some(count) => *count = count.saturating_add(1),
-            None => self.counts.push(1)?,
-        }
-        Ok(())
+        Ok(Words { interner, counts })
     }
 
     /// The numbers and the counts of the words, the most frequent first, and those that are as frequent in the order in which they came.

@@ -1,9 +1,16 @@
 -- What an interned text changes of the numbers.
-use Rattle.std.proofs.Common.{◌≡◌, ◌∙◌, ℕ, ◌+◌, Bool, true, false, nat_eq, List, [], ◌∷◌, ◌++◌, Option, None, Some, length, ap, sym, refl, arith}
-use Rattle.std.specs.Prelude.{if◌then◌else◌, cond}
+use Rattle.std.proofs.Common.{◌≡◌, ◌∙◌, ℕ, ◌+◌, ◌<◌, ◌≤◌, Bool, true, false, nat_eq, List, [], ◌∷◌, ◌++◌, Option, None, Some, length, map, get_or, ap, sym, subst, refl, arith, ⊎_elim, length-append}
+use Rattle.std.proofs.lemmas.Bool.{cases_lt}
+use Rattle.std.proofs.lemmas.Option.{get_or_from_slice_get, slice_get-get_or, slice_get-map, slice_get_within}
+use Rattle.std.specs.Option.{option_map}
+use Rattle.std.proofs.Math.ListN.{get_or-append}
+use Rattle.std.proofs.Math.Seq.{get_or-append_seam}
+use Rattle.std.specs.Prelude.{IfSome, MatchOption, if◌then◌else◌, cond, slice_get}
+use Rattle.std.specs.Borrow.{Bor}
+use Rattle.hipstr.specs.Handle.{Handle}
 use Rattle.std.specs.Cmp.Lexicographic.{pointwise}
 use Rattle.std.proofs.lemmas.Slice.Eq.{bytes_eq-Decides}
-use Rattle.hip_uses.specs.Number.{number_from, number_of}
+use Rattle.hip_uses.specs.Number.{StandOnce, bytes_of, number_from, number_of}
 
 -- the first of two numbers that there is
 abbrev pub or_number : Option ℕ → Option ℕ → Option ℕ
@@ -44,3 +51,28 @@ number_of-pushed word ts number is none =
     let push = number_from-push 0 word word ts in
     let self_ : pointwise nat_eq word word ≡ true = (bytes_eq-Decides word word).1 refl in
     grind (arith, push, self_, none, is)
+
+-- no text stands twice where a new one is put at the end
+pub StandOnce-push : (word : List ℕ) (ts : List (List ℕ)) → number_of word ts ≡ None → StandOnce ts → StandOnce (ts ++ word ∷ [])
+StandOnce-push word ts none once = λ number text found.
+    let all : List (List ℕ) = ts ++ word ∷ [] in
+    let is : get_or all number text ≡ text = get_or_from_slice_get all number text text found in
+    let within : number < length all = slice_get_within all number text found in
+    ⊎_elim
+    (λ (lt : number < length ts).
+    let before : slice_get ts number ≡ Some text = slice_get-get_or ts number text lt ∙ ap Some (sym (get_or-append ts (word ∷ []) text number lt) ∙ is) in
+    let had : number_of text ts ≡ Some number = once number text before in
+    let push = number_from-push 0 text word ts in
+    grind (arith, push, had))
+    (λ (ge : length ts ≤ number).
+    let last : length ts ≡ number = omega (arith, within, length-append ts (word ∷ [])) in
+    let same : word ≡ text = sym (get_or-append_seam ts word [] text) ∙ ap (λ k. get_or all k text) last ∙ is in
+    subst (λ t. number_of t all ≡ Some number) same (number_of-pushed word ts number (sym last) none))
+    (cases_lt number (length ts))
+
+-- the text of a number, where no text stands twice
+pub text-numbered : (Q : Bor Handle → Type 0) (result : Option (Bor Handle)) (items : List Handle) (texts : List (List ℕ)) (number : ℕ) → IfSome result (λ text. text.now ≡ get_or items number text.now)
+    → MatchOption result (length items ≤ number) (λ text. (number < length items) × Q text) → map bytes_of items ≡ texts → StandOnce texts → IfSome result (λ text. number_of text.now.items texts ≡ Some number)
+text-numbered Q None items texts number is within are once = tt
+text-numbered Q (Some text) items texts number is within are once =
+    once number text.now.items (ap (λ l. slice_get l number) (sym are) ∙ slice_get-map bytes_of items number ∙ ap (option_map bytes_of) (slice_get-get_or items number text.now within.0 ∙ ap Some (sym is)))

@@ -4,3 +4,4 @@ pub mod Published
 pub mod Runs
 pub mod Tables
 pub mod Templates
+pub mod Words

@@ -7,8 +7,8 @@ use Rattle.std.proofs.lemmas.List.{flat_map_more, get_or_default, take_more}
 use Rattle.hipstr.specs.Handle.{Handle}
 use Rattle.hip_uses.specs.Template.{FillFails, IsUnknown, ParseFails, filled, hole_filled, opening, value_of}
 use Rattle.hip_uses.specs.declared.template.Hole.{Hole}
-use Rattle.hip_uses.specs.declared.template.TemplateFault.{TemplateFault}
-use Rattle.hip_uses.specs.declared.template.TemplateFault.TheVariants.{Unclosed, Unknown, Memory}
+use Rattle.hip_uses.specs.declared.fault.TemplateFault.{TemplateFault}
+use Rattle.hip_uses.specs.declared.fault.TemplateFault.TheVariants.{Unclosed, Unknown, Memory}
 
 -- one hole more that is filled
 pub filled-more : {B S P : Type 0} (values : List (Handle × Handle)) (holes : List (Hole B S P)) (i : ℕ) (hole : Hole B S P) (value : Handle) (start before text : List ℕ)

@@ -1,8 +1,8 @@
 -- What a table is: the bytes of its header and of its rows.
 use Rattle.std.specs.Prelude.{◌≡◌, ◌≢◌, ◌⊎◌, ℕ, ◌+◌, ◌<◌, ◌≤◌, List, [], ◌∷◌, length, map, slice_get, Some}
 use Rattle.hipstr.specs.Handle.{Handle}
-use Rattle.hip_uses.specs.declared.table.TableFault.{TableFault}
-use Rattle.hip_uses.specs.declared.table.TableFault.TheVariants.{Empty, Ragged, Memory}
+use Rattle.hip_uses.specs.declared.fault.TableFault.{TableFault}
+use Rattle.hip_uses.specs.declared.fault.TableFault.TheVariants.{Empty, Ragged, Memory}
 
 abbrev pub Texts : Type 0
 Texts = List (List ℕ)

@@ -3,3 +3,4 @@ pub mod Number
 pub mod Template
 pub mod Token
 pub mod Waiting
+pub mod Words

@@ -1,5 +1,6 @@
 -- The number of a text: its place among those that were interned.
-use Rattle.std.specs.Prelude.{ℕ, ◌+◌, Bool, nat_eq, List, [], ◌∷◌, ◌++◌, Option, None, Some, if◌then◌else◌}
+use Rattle.std.specs.Prelude.{◌≡◌, ℕ, ◌+◌, Bool, nat_eq, List, [], ◌∷◌, ◌++◌, Option, None, Some, if◌then◌else◌, slice_get}
+use Rattle.std.specs.List.{AllZip}
 use Rattle.std.specs.Cmp.Lexicographic.{pointwise}
 use Rattle.hipstr.specs.Handle.{Handle}
 
@@ -25,3 +26,16 @@ interned_from (Some number) texts text = texts
 
 abbrev pub interned : List (List ℕ) → List ℕ → List (List ℕ)
 interned texts text = interned_from (number_of text texts) texts text
+
+-- no text stands twice: the text of a number has that number
+abbrev pub StandOnce : List (List ℕ) → Type 0
+StandOnce texts = (number : ℕ) (text : List ℕ) → slice_get texts number ≡ Some text → number_of text texts ≡ Some number
+
+-- with these too, one after another
+abbrev pub all_interned : List (List ℕ) → List (List ℕ) → List (List ℕ)
+all_interned texts [] = texts
+all_interned texts (word ∷ words) = all_interned (interned texts word) words
+
+-- each word has its number among the texts
+abbrev pub AreNumbers : List (List ℕ) → List (List ℕ) → List ℕ → Type 0
+AreNumbers texts words numbers = AllZip (λ word number. number_of word texts ≡ Some number) words numbers

@@ -7,8 +7,8 @@ use Rattle.std.specs.Cmp.Lexicographic.{pointwise}
 use Rattle.hipstr.specs.Handle.{Handle}
 use Rattle.hipstr.specs.Parted.{IsParted, Lacks}
 use Rattle.hip_uses.specs.declared.template.Hole.{Hole}
-use Rattle.hip_uses.specs.declared.template.TemplateFault.{TemplateFault}
-use Rattle.hip_uses.specs.declared.template.TemplateFault.TheVariants.{Unclosed, Unknown, Memory}
+use Rattle.hip_uses.specs.declared.fault.TemplateFault.{TemplateFault}
+use Rattle.hip_uses.specs.declared.fault.TemplateFault.TheVariants.{Unclosed, Unknown, Memory}
 
 abbrev pub opening : List ℕ
 opening = codes "{{"

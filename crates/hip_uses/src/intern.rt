@@ -1,41 +1,20 @@
 //! Texts that have numbers: each different text is kept once, and the first has number 0.
+//!
+//! - [`words`]: the numbers of the words of a text.
 ghost use Rattle.std.specs.Prelude.{◌≡◌, ◌==◌, ◌≤◌, [], length, slice_get, true, Some};
-ghost use Rattle.std.specs.Prelude.{◌^◌, IfOk, IsErrOf, IsOk, IsSome, MatchOption, OnErr, OnOk};
+ghost use Rattle.std.specs.Prelude.{◌^◌, IfOk, IfSome, IsErrOf, IsOk, IsSome, MatchOption, OnErr, OnOk};
 ghost use Rattle.hipstr.specs.Meter.{RisesAtMost};
 ghost use Rattle.hip_uses.specs.Number.{interned, number_of};
-ghost use Rattle.hip_uses.specs.declared.intern.InternFault.TheVariants.{Memory, TooMany};
+ghost use Rattle.hip_uses.specs.declared.fault.InternFault.TheVariants.{TooMany};
 
+pub use crate::fault::InternFault;
 use hipstr::string::HipStr;
 use hipstr::{Backend, Meter};
-use std::alloc::{AllocError, Global};
+use std::alloc::Global;
 use std::collections::HashMap;
-use std::fmt;
 use std::marker::Model;
 
-/// Why a text got no number.
-#[derive(Clone, Copy, Debug, PartialEq, Eq)]
-pub enum InternFault {
-    /// There are as many texts as numbers.
-    TooMany,
-    Memory,
-}
-
-impl From<AllocError> for InternFault {
-    ghost from_gives = { λ _ fault. fault ≡ Memory };
-
-    fn from(_: AllocError) -> Self {
-        InternFault::Memory
-    }
-}
-
-impl fmt::Display for InternFault {
-    fn fmt<W: fmt::Write>(&self, f: &mut fmt::Formatter<W>) -> fmt::Result {
-        f.write_str(match self {
-            InternFault::TooMany => "too many different texts",
-            InternFault::Memory => "out of memory",
-        })
-    }
-}
+pub mod words;
 
 /// The different texts, in the order in which they came.
 #[derive(Drop)]
@@ -48,14 +27,15 @@ impl<'b, B: Backend> Model for Interner<'b, B> {
     ghost use Rattle.std.specs.Prelude.{◌≡◌, ℕ, List, map};
     ghost use Rattle.std.specs.HashMap.{get};
     ghost use Rattle.hipstr.specs.Handle.{Handle};
-    ghost use Rattle.hip_uses.specs.Number.{bytes_of, number_of, same_text};
+    ghost use Rattle.hip_uses.specs.Number.{bytes_of, number_of, same_text, StandOnce};
 
     ghost Value = { List (List ℕ) };
 
     ghost view = { λ interner. map bytes_of interner.texts.items };
 
-    ghost invariant = { λ interner. (key : Handle) →
-        get same_text interner.numbers key ≡ number_of key.items (map bytes_of interner.texts.items) };
+    ghost invariant = { λ interner. StandOnce (map bytes_of interner.texts.items)
+        × ((key : Handle) → get same_text interner.numbers key
+        ≡ number_of key.items (map bytes_of interner.texts.items)) };
 }
 
 impl<'b, B: Backend> Interner<'b, B> {
@@ -90,8 +70,10 @@ impl<'b, B: Backend> Interner<'b, B> {
 
     /// The text of a number, if there is one.
     pub fn text(&self, number: u32) -> Option<&HipStr<'b, B>>
-        ensures { MatchOption result (length self.now ≤ number)
+        ensures text { MatchOption result (length self.now ≤ number)
             (λ text. slice_get self.now number ≡ Some text.now.items) }
+        ensures number { IfSome result (λ text.
+            number_of text.now.items self.now ≡ Some number) }
     {
         self.texts.get(number as usize)
     }

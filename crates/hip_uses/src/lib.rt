@@ -7,6 +7,7 @@
 //! - [`table`]: a header names the columns of the rows below it.
 #![tactic(auto)]
 
+mod fault;
 pub mod intern;
 pub mod queue;
 pub mod table;

@@ -4,39 +4,14 @@ ghost use Rattle.std.specs.Prelude.{IfOk, IsErrOf, IsTrue, MatchBool, MatchOptio
 ghost use Rattle.std.specs.Bool.{OnFalse};
 ghost use Rattle.hipstr.specs.Meter.{RisesAtMost};
 ghost use Rattle.hip_uses.specs.Waiting.{HasRoom, IsFull, all_with, with_message};
-ghost use Rattle.hip_uses.specs.declared.queue.PublishFault.TheVariants.{Full, Memory};
+ghost use Rattle.hip_uses.specs.declared.fault.PublishFault.TheVariants.{Full};
 
+pub use crate::fault::PublishFault;
 use hipstr::bytes::HipByt;
 use hipstr::{Backend, Meter};
 use std::alloc::{AllocError, Global};
 use std::collections::VecDeque;
-use std::fmt;
 use std::marker::Model;
-
-/// Why a message was not taken.
-#[derive(Clone, Copy, Debug, PartialEq, Eq)]
-pub enum PublishFault {
-    /// A subscriber has as many messages waiting as it may.
-    Full,
-    Memory,
-}
-
-impl From<AllocError> for PublishFault {
-    ghost from_gives = { λ _ fault. fault ≡ Memory };
-
-    fn from(_: AllocError) -> Self {
-        PublishFault::Memory
-    }
-}
-
-impl fmt::Display for PublishFault {
-    fn fmt<W: fmt::Write>(&self, f: &mut fmt::Formatter<W>) -> fmt::Result {
-        f.write_str(match self {
-            PublishFault::Full => "a queue is full",
-            PublishFault::Memory => "out of memory",
-        })
-    }
-}
 
 /// What one subscriber has still to receive: at most so many messages, with room for all of them.
 #[derive(Drop)]

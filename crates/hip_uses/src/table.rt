@@ -2,45 +2,13 @@
 ghost use Rattle.std.specs.Prelude.{◌≡◌, ◌∷◌, All, IfErr, IfOk, MatchOption, length};
 ghost use Rattle.hip_fields.specs.Records.{records_of};
 ghost use Rattle.hip_uses.specs.Cells.{HasCell, HasNoCell, IsFirstAt, IsNoColumn, ReadFails};
-ghost use Rattle.hip_uses.specs.declared.table.TableFault.TheVariants.{Memory};
 
+pub use crate::fault::TableFault;
 use hip_fields::records;
 use hipstr::Backend;
 use hipstr::string::HipStr;
-use std::alloc::{AllocError, Global};
-use std::fmt;
+use std::alloc::Global;
 use std::marker::Model;
-
-/// Why a text is no table.
-#[derive(Clone, Copy, Debug, PartialEq, Eq)]
-pub enum TableFault {
-    /// It has no line.
-    Empty,
-    /// This line, counted from 1, has another number of fields than the header.
-    Ragged(usize),
-    Memory,
-}
-
-impl From<AllocError> for TableFault {
-    ghost from_gives = { λ _ fault. fault ≡ Memory };
-
-    fn from(_: AllocError) -> Self {
-        TableFault::Memory
-    }
-}
-
-impl fmt::Display for TableFault {
-    fn fmt<W: fmt::Write>(&self, f: &mut fmt::Formatter<W>) -> fmt::Result {
-        match self {
-            TableFault::Empty => f.write_str("no header"),
-            TableFault::Ragged(line) => write!(
-                f,
-                "line {line}: another number of fields than the header"
-            ),
-            TableFault::Memory => f.write_str("out of memory"),
-        }
-    }
-}
 
 /// A header, and rows of as many fields.
 #[derive(Drop)]

@@ -1,16 +1,15 @@
 //! Templates: `{{name}}` in a text stands for what goes under that name.
 ghost use Rattle.std.specs.Prelude.{◌≡◌, ◌++◌, IfErr, IfOk, OnOk};
-ghost use Rattle.hipstr.specs.Parted.{PartedAs};
+ghost use Rattle.hipstr.specs.Trimmed.{PartedAs};
 ghost use Rattle.hip_uses.specs.Template.{AllKnown, IsParsed, filled, written};
 ghost use Rattle.hip_uses.specs.Template.{FillFails, FirstHole, IsUnknown, ParseFails};
-ghost use Rattle.hip_uses.specs.declared.template.TemplateFault.TheVariants.{Memory};
 
+pub use crate::fault::TemplateFault;
 use hipstr::Backend;
 use hipstr::laws::split_once_parts_at_the_first;
 use hipstr::string::{HipStr, TextCuts};
-use std::alloc::{AllocError, AllocFailed, Global};
+use std::alloc::{AllocError, Global};
 use std::collections::HashMap;
-use std::fmt;
 
 /// A hole, and the text between it and the one before.
 #[derive(Drop)]
@@ -25,42 +24,6 @@ pub struct Template<'b, B: Backend> {
     pub holes: Vec<Hole<'b, B>>,
     /// What lies behind the last hole.
     pub rest: HipStr<'b, B>,
-}
-
-/// Why a template gave no text.
-#[derive(Drop)]
-pub enum TemplateFault<'b, B: Backend> {
-    /// No `}}` follows a `{{`. Holds the text behind it.
-    Unclosed(HipStr<'b, B>),
-    /// Nothing goes under this name.
-    Unknown(HipStr<'b, B>),
-    Memory,
-}
-
-impl<'b, B: Backend> From<AllocError> for TemplateFault<'b, B> {
-    ghost from_gives = { λ _ fault. fault ≡ Memory };
-
-    fn from(_: AllocError) -> Self {
-        TemplateFault::Memory
-    }
-}
-
-impl<'b, B: Backend, T: Drop> From<AllocFailed<T>> for TemplateFault<'b, B> {
-    ghost from_gives = { λ _ fault. fault ≡ Memory };
-
-    fn from(_: AllocFailed<T>) -> Self {
-        TemplateFault::Memory
-    }
-}
-
-impl<'b, B: Backend> fmt::Display for TemplateFault<'b, B> {
-    fn fmt<W: fmt::Write>(&self, f: &mut fmt::Formatter<W>) -> fmt::Result {
-        match self {
-            TemplateFault::Unclosed(text) => write!(f, "no `}}}}` in `{text}`"),
-            TemplateFault::Unknown(name) => write!(f, "nothing under `{name}`"),
-            TemplateFault::Memory => f.write_str("out of memory"),
-        }
-    }
 }
 
 /// What goes under each name.

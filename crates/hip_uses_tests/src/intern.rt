@@ -15,6 +15,17 @@ const ROWS: [(&str, &str); 4] = [
     ),
 ];
 
+/// Texts, and the numbers of their words.
+const WORDS: [(&str, &str); 4] = [
+    ("", "[] of 0"),
+    (" -- ", "[] of 0"),
+    ("one fish, two fish; ONE fish!", "[0, 1, 2, 1, 3, 1] of 4"),
+    (
+        "\u{6f22}\u{5b57}a1,a-word-of-more-than-23-bytes\n23 a \u{6f22}\u{5b57}a1",
+        "[0, 1, 2, 3, 4, 5, 6, 7, 6, 1, 0] of 8",
+    ),
+];
+
 /// The number of the word, which is found again by a text of another kind.
 fn number_of<'b, B: Backend>(
     alloc: Global,
@@ -50,9 +61,26 @@ fn shown<B: Backend>(alloc: Global, text: &str) -> Result<String, AllocError> {
     Ok(printed)
 }
 
+fn words_shown<B: Backend>(alloc: Global, text: &str) -> Result<String, AllocError> {
+    let mut printed = String::new(alloc);
+    let mut interner = Interner::<B>::new(alloc);
+    match interner.intern_words(alloc, &HipStr::borrowed(text)) {
+        Ok(numbers) => write!(printed, "{:?} of {}", numbers, interner.len())?,
+        Err(fault) => write!(printed, "{fault}")?,
+    }
+    Ok(printed)
+}
+
 #[test]
 fn numbers_words(rt: HostRuntime) {
     let alloc = rt.alloc();
+    for (text, wanted) in WORDS {
+        assert!(rt; is(&words_shown::<Rc>(alloc, text), wanted), "of {text:?}");
+        assert!(rt;
+            is(&words_shown::<Unique>(alloc, text), wanted),
+            "of {text:?}"
+        );
+    }
     for (text, wanted) in ROWS {
         assert!(rt; is(&shown::<Rc>(alloc, text), wanted), "of {text:?}");
         assert!(rt; is(&shown::<Unique>(alloc, text), wanted), "of {text:?}");

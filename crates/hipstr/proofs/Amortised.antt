@@ -1,13 +1,13 @@
 -- Lemmas on the amortised cost of runs.
 use Rattle.std.proofs.Common.{◌≡◌, ◌∙◌, ℕ, zero, suc, ◌+◌, ◌*◌, ◌<◌, ◌≤◌, Bool, false, List, [], ◌∷◌, ◌++◌, length, take, get_or, slice_set, Option, Some, None, MatchOption, refl, ap, subst, arith}
-use Rattle.std.proofs.lemmas.List.{set-set, take_more}
+use Rattle.std.proofs.lemmas.List.{take_more}
 use Rattle.hip_bytes.specs.Cost.{handle_pot, PushIsPaid}
-use Rattle.hip_bytes.specs.Handle.{Handle}
 use Rattle.hip_bytes.specs.Meter.{RisesAtMost}
 use Rattle.hip_bytes.specs.declared.kind.Kind.{Kind}
 use Rattle.hip_bytes.specs.declared.kind.Kind.TheVariants.{Inline, Borrowed, Allocated}
+use Rattle.hipstr.proofs.InPlace.{InPlace}
 use Rattle.hipstr.specs.Amortised.{added_to, pots, pushed_onto_owner, rises, CostsAmortised, PushesArePaid, RunAmortised}
-use Rattle.hipstr.specs.Slot.{SlotState, empty_slot, slot_at}
+use Rattle.hipstr.specs.Slot.{SlotState, slot_at}
 use Rattle.hipstr.specs.Step.{Step, Costs}
 use Rattle.hipstr.specs.declared.command.Command.{Command}
 use Rattle.hipstr.specs.declared.command.Answer.{Answer}
@@ -24,23 +24,15 @@ pots-set [] i slot within = absurd (omega (arith, within))
 pots-set (s ∷ slots) zero slot within = omega arith
 pots-set (s ∷ slots) (suc i) slot within = omega (arith, pots-set slots i slot (omega (arith, within)))
 
--- a push onto a slot that was taken out and put back
-pub pushed-put : (shares : Bool) (old mid new : List SlotState) (t : ℕ) (is_text : Bool) (was now : Handle) (added before after : ℕ)
-    → t < length old → was ≡ slot_at old t → mid ≡ slice_set old t empty_slot → new ≡ slice_set mid t (record { is_text = is_text; handle = now })
-    → PushIsPaid shares was now added before after
+-- a push onto a slot in its place
+pub pushed-in_place : (shares : Bool) {old new : List SlotState} {t : ℕ} {was slot : SlotState} (at : InPlace old new t was slot) (added before after : ℕ) → PushIsPaid shares was.handle slot.handle added before after
     → shares ≡ false → MatchOption (added_to (slot_at old t).kind added) (Unit {0}) (λ n. after + pots new ≤ before + pots old + 3 * n)
-pushed-put shares old mid new t is_text was now added before after within is_was taken put paid unshared = by-kind (slot_at old t).kind (ap (λ (handle : Handle). handle.kind) is_was) where
-  slot : SlotState
-  slot = record { is_text = is_text; handle = now }
-
-  once : new ≡ slice_set old t slot
-  once = put ∙ ap (λ s. slice_set s t slot) taken ∙ set-set old t empty_slot slot
-
-  by-kind : (kind : Kind) → was.kind ≡ kind → MatchOption (added_to kind added) (Unit {0}) (λ n. after + pots new ≤ before + pots old + 3 * n)
-  by-kind Inline is = tt
-  by-kind Borrowed is = tt
-  by-kind Allocated is =
-      omega (arith, paid unshared is, pots-set old t slot within, ap pots once, ap handle_pot is_was)
+pushed-in_place shares {old} {new} {t} {was} {slot} at added before after paid unshared =
+    subst (λ (state : SlotState). MatchOption (added_to state.handle.kind added) (Unit {0}) (λ n. after + pots new ≤ before + pots old + 3 * n)) at.is_was (by-kind was.handle.kind refl) where
+      by-kind : (kind : Kind) → was.handle.kind ≡ kind → MatchOption (added_to kind added) (Unit {0}) (λ n. after + pots new ≤ before + pots old + 3 * n)
+      by-kind Inline is = tt
+      by-kind Borrowed is = tt
+      by-kind Allocated is = omega (arith, paid unshared is, pots-set old t slot at.within, ap pots at.put, ap (λ (state : SlotState). handle_pot state.handle) at.is_was)
 
 -- a command that changes nothing
 pub unchanged-paid : (pushed : Option ℕ) (old new : List SlotState) (before after : ℕ) → new ≡ old → after ≡ before

@@ -1,7 +1,7 @@
 pub mod Amortised
+pub mod InPlace
 pub mod Joins
 pub mod Little
-pub mod PartedLemmas
 pub mod Parts
 pub mod Places
 pub mod Runs

@@ -6,13 +6,13 @@ use Rattle.hip_bytes.specs.Cost.{clone_cost}
 use Rattle.hip_bytes.specs.Handle.{Handle}
 use Rattle.hip_bytes.specs.Range.{slice_of}
 use Rattle.hip_bytes.specs.declared.kind.Kind.{Kind}
-use Rattle.hip_cuts.proofs.Costs.{part-little, parts-little}
+use Rattle.hip_cuts.proofs.Costs.{part-little, parts_little}
 use Rattle.hip_cuts.specs.Piece.{IsLittle, part_cost, parts_cost}
 use Rattle.hipstr.specs.Little.{CopiesLittle}
 use Rattle.hipstr.specs.Slot.{SlotState, slot_at}
 use Rattle.hipstr.specs.Step.{Costs, TrimsTo, TrimsMatchesTo, copies_of, drawn_of, fault_of, option_cost, parted_slot, stripped_slot}
 use Rattle.hipstr.specs.declared.command.Command.{Command}
-use Rattle.hipstr.specs.declared.command.Command.TheVariants.{New, Inline, Borrow, Copy, Room, Push, Pop, Truncate, Clear, Shrink, Upper, Lower, Set, Repeat, Join, Mutate, Owned, Text, Bytes, Compare, ComparePath, Len, Kind as KindOf, Capacity, Clone, Slice, Trim, TrimMatches, Strip, Pieces, Once}
+use Rattle.hipstr.specs.declared.command.Command.TheVariants.{Clone, Slice, Trim, TrimMatches, Strip, Pieces, Once}
 use Rattle.hipstr.specs.declared.command.Reason.{Reason}
 
 -- what is little stays so where there is a fault, for which nothing is copied
@@ -30,7 +30,7 @@ strip-little source (Some range) = part-little source (range.1 - range.0)
 
 once-little : (source : Handle) (parts : Option ((ℕ × ℕ) × (ℕ × ℕ))) → IsLittle source 2 (option_cost (λ (parts : (ℕ × ℕ) × (ℕ × ℕ)). parts_cost true source (parts.0 ∷ parts.1 ∷ [])) parts)
 once-little source None = record { at_most = omega arith; lent = λ lent. refl }
-once-little source (Some parts) = parts-little source (parts.0 ∷ parts.1 ∷ [])
+once-little source (Some parts) = parts_little source (parts.0 ∷ parts.1 ∷ [])
 
 trim-little : (source : Handle) (fault : Option Reason) (Trims : ℕ × ℕ → Type 0) (cost : ℕ)
     → MatchOption fault ((range : ℕ × ℕ) × Trims range × (cost ≡ part_cost true source range)) (λ reason. cost ≡ 0) → IsLittle source 1 cost
@@ -39,42 +39,19 @@ trim-little source None Trims cost costs =
     record { at_most = omega (arith, little.at_most, costs.2); lent = λ lent. costs.2 ∙ little.lent lent }
 trim-little source (Some reason) Trims cost costs = record { at_most = omega (arith, costs); lent = λ lent. costs }
 
-pub copies-little : (slots : List SlotState) (command : Command) (cost : ℕ) → Costs true slots command cost → CopiesLittle slots command cost
-copies-little slots (Clone s t) cost costs =
+pub copies_little : (slots : List SlotState) (command : Command) (cost : ℕ) → Costs true slots command cost → CopiesLittle slots command cost
+copies_little slots (Clone s t) cost costs =
     unless-refused (slot_at slots s) 1 (is_none (fault_of slots (Clone s t))) (copies_of true slots (Clone s t)) cost (clone-little (slot_at slots s) (length (slot_at slots s).items)) costs
-copies-little slots (Slice s t low high) cost costs =
+copies_little slots (Slice s t low high) cost costs =
     unless-refused (slot_at slots s) 1 (is_none (fault_of slots (Slice s t low high))) (copies_of true slots (Slice s t low high)) cost (part-little (slot_at slots s) (length (slice_of low high (slot_at slots s).items))) costs
-copies-little slots (Trim s t side) cost costs = trim-little (slot_at slots s) (fault_of slots (Trim s t side)) (TrimsTo slots s side) cost costs
-copies-little slots (TrimMatches s t side pattern) cost costs =
+copies_little slots (Trim s t side) cost costs = trim-little (slot_at slots s) (fault_of slots (Trim s t side)) (TrimsTo slots s side) cost costs
+copies_little slots (TrimMatches s t side pattern) cost costs =
     trim-little (slot_at slots s) (fault_of slots (TrimMatches s t side pattern)) (TrimsMatchesTo slots s side pattern) cost costs
-copies-little slots (Strip s t end pattern) cost costs =
+copies_little slots (Strip s t end pattern) cost costs =
     unless-refused (slot_at slots s) 1 (is_none (fault_of slots (Strip s t end pattern))) (copies_of true slots (Strip s t end pattern)) cost (strip-little (slot_at slots s) (stripped_slot slots s end pattern)) costs
-copies-little slots (Pieces s how script first) cost costs =
+copies_little slots (Pieces s how script first) cost costs =
     unless-refused (slot_at slots s) (length (drawn_of slots s how script.now)) (is_none (fault_of slots (Pieces s how script first))) (copies_of true slots (Pieces s how script first)) cost
-    (parts-little (slot_at slots s) (drawn_of slots s how script.now)) costs
-copies-little slots (Once s t u end pattern) cost costs =
+    (parts_little (slot_at slots s) (drawn_of slots s how script.now)) costs
+copies_little slots (Once s t u end pattern) cost costs =
     unless-refused (slot_at slots s) 2 (is_none (fault_of slots (Once s t u end pattern))) (copies_of true slots (Once s t u end pattern)) cost (once-little (slot_at slots s) (parted_slot slots s end pattern)) costs
-copies-little slots (New t) cost costs = tt
-copies-little slots (Inline t bytes) cost costs = tt
-copies-little slots (Borrow t bytes) cost costs = tt
-copies-little slots (Copy t bytes) cost costs = tt
-copies-little slots (Room t capacity) cost costs = tt
-copies-little slots (Push t bytes) cost costs = tt
-copies-little slots (Pop t) cost costs = tt
-copies-little slots (Truncate t n) cost costs = tt
-copies-little slots (Clear t) cost costs = tt
-copies-little slots (Shrink t least) cost costs = tt
-copies-little slots (Upper t) cost costs = tt
-copies-little slots (Lower t) cost costs = tt
-copies-little slots (Set t i byte) cost costs = tt
-copies-little slots (Repeat s t n) cost costs = tt
-copies-little slots (Join first count sep t) cost costs = tt
-copies-little slots (Mutate t bytes) cost costs = tt
-copies-little slots (Owned t) cost costs = tt
-copies-little slots (Text t) cost costs = tt
-copies-little slots (Bytes t) cost costs = tt
-copies-little slots (Compare s t) cost costs = tt
-copies-little slots (ComparePath s t) cost costs = tt
-copies-little slots (Len t) cost costs = tt
-copies-little slots (KindOf t) cost costs = tt
-copies-little slots (Capacity t) cost costs = tt
+copies_little slots command cost costs = tt

@@ -1,8 +1,11 @@
 -- Lemmas on the parts that a script draws: in the spare slots, and then in their own.
-use Rattle.std.proofs.Common.{◌≡◌, ◌∙◌, ℕ, zero, suc, ◌+◌, ◌-◌, ◌<◌, ◌≤◌, inl, inr, Bool, true, false, List, [], ◌∷◌, ◌++◌, length, map, take, drop, replicate, slice_set, slice_range, get_or, Option, Some, None, Result, Ok, Err, ap, refl, subst, sym, arith}
+use Rattle.std.proofs.Common.{◌≡◌, ◌∙◌, ℕ, zero, suc, ◌+◌, ◌-◌, ◌<◌, ◌≤◌, inl, inr, Bool, true, false, List, [], ◌∷◌, ◌++◌, length, map, take, drop, replicate, slice_set, slice_range, get_or, Option, Some, None, Result, Ok, Err, ap, refl, subst, sym, arith, drop-drop, length-take-le}
 use Rattle.std.proofs.Math.ListN.{drop_of_length-le}
-use Rattle.std.proofs.lemmas.List.{append-nil, append_assoc, get_or_default, length-append, length-drop, length-map, length-replicate, length-set, length-take}
+use Rattle.std.proofs.lemmas.List.{map-append, take-map, drop-map, append-nil, append_assoc, length-append, length-map, length-replicate, length-set, length-take}
+use Rattle.std.proofs.lemmas.List.Edits.{sets-eq}
+use Rattle.std.proofs.Math.Seq.{sets}
 use Rattle.std.proofs.lemmas.Bool.{false≢true}
+use borrow.Rule.Slice.PartMut.{put_mid}
 use Rattle.hip_bytes.specs.Cost.{CutNeedsMemory}
 use Rattle.hip_bytes.specs.Handle.{Handle}
 use Rattle.hip_bytes.specs.Made.{CutAnswers}
@@ -175,24 +178,6 @@ drop-next default [] i within = absurd (omega (arith, within))
 drop-next default (part ∷ parts) zero within = refl
 drop-next default (part ∷ parts) (suc i) within = drop-next default parts i (omega (arith, within))
 
-pub put-next : (slots parts : List SlotState) (n i : ℕ) (slot : SlotState) → i < length parts → slot ≡ get_or parts i empty_slot
-    → put_all (slice_set slots n slot) (n + 1) (drop (suc i) parts) ≡ put_all slots n (drop i parts)
-put-next slots parts n i slot within is =
-    ap (λ (x : SlotState). put_all (slice_set slots n x) (n + 1) (drop (suc i) parts)) is ∙ ap (λ (l : List SlotState). put_all slots n l) (sym (drop-next empty_slot parts i within))
-
-pub spare-at : (spare : List SlotState) (i count : ℕ) → i < count → count ≤ length spare
-    → get_or (replicate i empty_slot ++ drop i spare) i empty_slot ≡ get_or (take count spare) i empty_slot
-spare-at [] i count before within = absurd (omega (arith, before, within))
-spare-at (slot ∷ spare) i zero before within = absurd (omega (arith, before))
-spare-at (slot ∷ spare) zero (suc count) before within = refl
-spare-at (slot ∷ spare) (suc i) (suc count) before within = spare-at spare i count (omega (arith, before)) (omega (arith, within))
-
-pub emptied-next : (spare : List SlotState) (i : ℕ) (slot : SlotState) → i < length spare → slot ≡ empty_slot
-    → slice_set (replicate i empty_slot ++ drop i spare) i slot ≡ replicate (suc i) empty_slot ++ drop (suc i) spare
-emptied-next [] i slot within is = absurd (omega (arith, within))
-emptied-next (s ∷ spare) zero slot within is = ap (λ (x : SlotState). x ∷ spare) is
-emptied-next (s ∷ spare) (suc i) slot within is = ap (λ (l : List SlotState). empty_slot ∷ l) (emptied-next spare i slot (omega (arith, within)) is)
-
 next-is : (i : ℕ) → suc i ≡ i + 1
 next-is i = omega arith
 
@@ -201,22 +186,27 @@ pub empties-on : (slots : List SlotState) (i : ℕ) (slot : SlotState) → i < l
     → take (i + 1) (slice_set slots i slot) ≡ replicate (i + 1) empty_slot
 empties-on slots i slot within is so_far = subst (λ n. take n (slice_set slots i slot) ≡ replicate n empty_slot) (next-is i) (empties-next slots i slot within is so_far)
 
-pub puts-on : (spare slots mid goal : List SlotState) (first i count : ℕ) (was slot : SlotState)
-    → i < count → count ≤ length spare → mid ≡ replicate i empty_slot ++ drop i spare → slot ≡ get_or mid i was → put_all slots (first + i) (drop i (take count spare)) ≡ goal
-    → put_all (slice_set slots (first + i) slot) (first + (i + 1)) (drop (i + 1) (take count spare)) ≡ goal
-puts-on spare slots mid goal first i count was slot before within is is_slot so_far =
-    let long : i < length (replicate i empty_slot ++ drop i spare) = omega (arith, before, within, length-append (replicate i empty_slot) (drop i spare), length-replicate i empty_slot, length-drop i spare) in
-    let there : slot ≡ get_or (take count spare) i empty_slot =
-    is_slot ∙ ap (λ (l : List SlotState). get_or l i was) is ∙ get_or_default (replicate i empty_slot ++ drop i spare) i was empty_slot long ∙ spare-at spare i count before within in
-    subst (λ n. put_all (slice_set slots (first + i) slot) n (drop (i + 1) (take count spare)) ≡ goal) (omega arith)
-    (subst (λ n. put_all (slice_set slots (first + i) slot) (first + i + 1) (drop n (take count spare)) ≡ goal) (next-is i)
-    (put-next slots (take count spare) (first + i) i slot (omega (arith, before, within, length-take count spare)) there ∙ so_far))
+-- parts that were swapped into their slots, all at once
+put-all-sets : (slots parts : List SlotState) (first : ℕ) → put_all slots first parts ≡ sets slots first parts
+put-all-sets slots [] first = refl
+put-all-sets slots (part ∷ parts) first = put-all-sets (slice_set slots first part) parts (first + 1) ∙ ap (λ n. sets (slice_set slots first part) n parts) (sym (next-is first))
 
-pub empties-front-on : (spare mid : List SlotState) (i : ℕ) (slot : SlotState) → i < length spare → slot ≡ empty_slot → mid ≡ replicate i empty_slot ++ drop i spare
-    → slice_set mid i slot ≡ replicate (i + 1) empty_slot ++ drop (i + 1) spare
-empties-front-on spare mid i slot within is so_far =
-    ap (λ (l : List SlotState). slice_set l i slot) so_far
-    ∙ subst (λ n. slice_set (replicate i empty_slot ++ drop i spare) i slot ≡ replicate n empty_slot ++ drop n spare) (next-is i) (emptied-next spare i slot within is)
+pub parts-swapped : {X : Type 0} (state : X → SlotState) (slots spare : List X) (first n count : ℕ) → n ≡ count → count ≤ length spare → first + count ≤ length slots
+    → map state (put_mid first n slots (take count spare)) ≡ put_all (map state slots) first (take count (map state spare))
+parts-swapped state slots spare first n count same made room =
+    let parts = take count (map state spare) in
+    let long : length parts ≡ count = length-take-le count (map state spare) (omega (arith, made, length-map spare state)) in
+    rw (
+      map-append state (take first slots) (take count spare ++ drop n (drop first slots)),
+      map-append state (take count spare) (drop n (drop first slots)),
+      ← take-map state first slots,
+      ← take-map state count spare,
+      ← drop-map state n (drop first slots),
+      ← drop-map state first slots,
+      drop-drop n first (map state slots),
+      same,
+    )
+    (sym (put-all-sets (map state slots) parts first ∙ sets-eq parts (map state slots) first (omega (arith, room, long, length-map slots state)) ∙ append_assoc (take first (map state slots)) parts _ ∙ ap (λ k. take first (map state slots) ++ (parts ++ drop (first + k) (map state slots))) long))
 
 -- ---- a walk that goes on by the next end of a script
 to-come : (rest later : List (ℕ × ℕ)) (script : List End) (i : ℕ) (default : End) (range : ℕ × ℕ) → i < length script

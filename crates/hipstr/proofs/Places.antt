@@ -1,18 +1,31 @@
--- Lemmas on the places of a pool, for the methods that take a slot out and put it back.
-use Rattle.std.proofs.Common.{◌≡◌, ◌∙◌, ◌<◌, List, [], ℕ, Bool, false, true, length, slice_set, ◌⊎◌, inl, inr, ap, subst, sym, arith, rules, Option, Some, None, Result, Ok, MatchOption}
+-- Lemmas on the places of a pool, for the methods that put a slot into one.
+use Rattle.std.proofs.Common.{◌≡◌, ◌∙◌, ◌*◌, ◌<◌, if◌then◌else◌, List, [], ℕ, Bool, false, true, length, map, slice_set, ap, refl, subst, arith, rules, Option, Some, None, Result, Ok, MatchOption}
 use Rattle.std.proofs.lemmas.Grind.{common_steps}
-use Rattle.std.proofs.lemmas.List.{set-set, set-get_or, get_or-set_same, length-set}
+use Rattle.std.proofs.lemmas.List.{get_or-map, length-map, length-set, map-set, set-get_or}
 use Rattle.hip_bytes.specs.Handle.{Handle}
-use Rattle.hip_bytes.specs.Kinds.{HoldsByLength, IsEmptyInline}
+use Rattle.hip_bytes.specs.Kinds.{IsEmptyInline}
 use Rattle.hip_bytes.specs.declared.kind.Kind.{Kind}
 use Rattle.hip_bytes.specs.declared.kind.Kind.TheVariants.{Inline}
 use Rattle.hip_cuts.specs.Cut.{PartsIfAny}
 use Rattle.hip_text.proofs.Texts.{texts}
 use Rattle.hip_cuts.specs.Piece.{IsPartAt}
-use Rattle.hipstr.specs.Slot.{SlotState, Replaces, empty_slot, slot_at, state_at, text_at}
+use Rattle.hip_bytes.specs.Made.{RepeatAnswers}
+use Rattle.std.proofs.lemmas.Bool.{lt-ltb}
+use Rattle.hipstr.specs.Step.{Step, length_fault, slot_fault}
+use Rattle.hipstr.specs.declared.command.Answer.TheVariants.{Done}
+use Rattle.hipstr.specs.declared.command.Command.TheVariants.{Repeat}
+use Rattle.hipstr.specs.declared.command.Reason.TheVariants.{TooLong}
+use Rattle.hipstr.proofs.Steps.{neither, performed, replaced}
+use Rattle.hipstr.specs.Slot.{SlotState, Replaces, empty_slot, slot_at, state_at, state_of}
+use Rattle.hipstr.specs.declared.pool.Slot.{Slot}
 
--- a place that was written twice holds what was written last, and one that is written with what it holds stays as it is
-pub ruleset put_back = (common_steps, texts, set-set, set-get_or)
+-- a place that is written with what it holds stays as it is
+pub ruleset in_place = (common_steps, texts, map-set, get_or-map, length-map, set-get_or)
+
+-- what the pool's list of states is when a slot is put, or changed where it stands
+pub put-is : {B S P : Type 0} (items : List (Slot B S P)) (slots : List SlotState) (t : ℕ) (slot : Slot B S P) → map state_of items ≡ slots
+    → map state_of (slice_set items t slot) ≡ slice_set slots t (state_of slot)
+put-is items slots t slot is = map-set state_of items t slot ∙ ap (λ l. slice_set l t (state_of slot)) is
 
 -- a slot of an empty handle is empty
 pub empty_handle : (handle : Handle) → IsEmptyInline handle → (let slot : SlotState = record { is_text = false; handle = handle } in slot) ≡ empty_slot
@@ -21,31 +34,10 @@ empty_handle handle empty =
     ∙ ap (λ (items : List ℕ). let slot : SlotState = record { is_text = false; handle = record { kind = Inline; items = items; capacity = handle.capacity } } in slot) empty.items_are
     ∙ ap (λ (n : ℕ). let slot : SlotState = record { is_text = false; handle = record { kind = Inline; items = []; capacity = n } } in slot) empty.capacity
 
--- a slot that was taken out and put back, changed, is replaced: by one of which Q holds beside the handle that was taken
-pub replaced : (old mid new : List SlotState) (t : ℕ) (is_text flag : Bool) (was now : Handle) (Q : Handle → Handle → Type 0)
-    → t < length old → is_text ≡ flag → was ≡ slot_at old t → mid ≡ slice_set old t empty_slot → new ≡ slice_set mid t (record { is_text = is_text; handle = now }) → Q was now
-    → Replaces old new t flag (Q (slot_at old t))
-replaced old mid new t is_text flag was now Q within is_flag is_was taken put q =
-    let slot : SlotState = record { is_text = is_text; handle = now } in
-    let once : new ≡ slice_set old t slot = put ∙ ap (λ s. slice_set s t slot) taken ∙ set-set old t empty_slot slot in
-    let there : state_at new t ≡ slot = ap (λ s. state_at s t) once ∙ get_or-set_same old t slot empty_slot within in
-    record {
-      target = subst (λ (handle : Handle). Q handle (slot_at new t)) is_was (subst (λ (state : SlotState). Q was state.handle) (sym there) q);
-      flag = ap (λ (state : SlotState). state.is_text) there ∙ is_flag;
-      others = once ∙ ap (λ s. slice_set old t s) (sym there);
-    }
-
 -- a slot that was put is replaced by one whose handle P holds of
 pub placed : (old new : List SlotState) (t : ℕ) (is_text : Bool) (handle : Handle) (P : Handle → Type 0)
     → t < length old → new ≡ slice_set old t (record { is_text = is_text; handle = handle }) → P handle → Replaces old new t is_text P
-placed old new t is_text handle P within put p =
-    let slot : SlotState = record { is_text = is_text; handle = handle } in
-    let there : state_at new t ≡ slot = ap (λ s. state_at s t) put ∙ get_or-set_same old t slot empty_slot within in
-    record {
-      target = subst (λ (state : SlotState). P state.handle) (sym there) p;
-      flag = ap (λ (state : SlotState). state.is_text) there;
-      others = put ∙ ap (λ s. slice_set old t s) (sym there);
-    }
+placed old new t is_text handle P within put p = replaced old new t (record { is_text = is_text; handle = handle }) is_text P within put refl p
 
 -- what a trim of the source left, and was put
 pub trimmed-put : (old new : List SlotState) (t : ℕ) (text source left : Handle) (P : Handle → ℕ × ℕ → Type 0)
@@ -69,15 +61,10 @@ parted-put old mid new t u text source front back parts {E} result within_t with
           let within : u < length mid = omega (arith, ap (λ (l : List SlotState). length l) put, length-set old t (record { is_text = true; handle = front })) in
           (mid, placed old mid t true front (IsPartAt source ranges.0) within_t put both.0, placed mid new u true back (IsPartAt source ranges.1) within put_2 both.1)
 
--- what a refused Mutate leaves of a slot that was taken out and put back
-pub half-mutated : (old mid new : List SlotState) (t : ℕ) (is_text : Bool) (was now : Handle)
-    → t < length old → is_text ≡ text_at old t → was ≡ slot_at old t → mid ≡ slice_set old t empty_slot → new ≡ slice_set mid t (record { is_text = is_text; handle = now })
-    → (now ≡ was) ⊎ (HoldsByLength now was.items ⊎ IsEmptyInline now)
-    → (new ≡ old) ⊎ (Replaces old new t (text_at old t) (λ slot. HoldsByLength slot (slot_at old t).items) ⊎ Replaces old new t (text_at old t) IsEmptyInline)
-half-mutated old mid new t is_text was now within is_flag is_was taken put (inl same) =
-    let back : (let slot : SlotState = record { is_text = is_text; handle = now } in slot) ≡ state_at old t = λ i. record { is_text = is_flag i; handle = (same ∙ is_was) i } in
-    inl (put ∙ ap (λ s. slice_set s t (record { is_text = is_text; handle = now })) taken ∙ set-set old t empty_slot _ ∙ ap (λ slot. slice_set old t slot) back ∙ set-get_or old t empty_slot)
-half-mutated old mid new t is_text was now within is_flag is_was taken put (inr (inl holds)) =
-    inr (inl (replaced old mid new t is_text _ was now (λ (was now : Handle). HoldsByLength now was.items) within is_flag is_was taken put holds))
-half-mutated old mid new t is_text was now within is_flag is_was taken put (inr (inr empty)) =
-    inr (inr (replaced old mid new t is_text _ was now (λ (was now : Handle). IsEmptyInline now) within is_flag is_was taken put empty))
+-- a source that was repeated, and put
+pub repeat-step : (shares : Bool) (old new : List SlotState) (s t n : ℕ) (was made : SlotState) → slot_fault old s ≡ None → slot_fault old t ≡ None → t < length old → was ≡ state_at old s
+    → new ≡ slice_set old t made → made.is_text ≡ was.is_text → RepeatAnswers was.handle n (Ok made.handle) → Step shares old (Repeat s t n) Done new
+repeat-step shares old new s t n was made there_s there_t within is put flag answers =
+    let at = subst (λ (slot : SlotState). RepeatAnswers slot.handle n (Ok made.handle)) is answers in
+    let fits : length_fault (n * length (slot_at old s).items) ≡ None = ap (λ b. if b then None else Some TooLong) (lt-ltb _ _ at.1) in
+    performed shares old (Repeat s t n) Done new (neither _ _ there_s (neither _ _ there_t fits)) (replaced old new t made _ _ within put (flag ∙ ap (λ (slot : SlotState). slot.is_text) is) at.0)

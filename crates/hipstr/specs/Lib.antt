@@ -1,7 +1,6 @@
 pub mod Amortised
 pub mod Cut
 pub mod Little
-pub mod Parted
 pub mod Parts
 pub mod Slot
 pub mod Step
@@ -42,6 +41,7 @@ pub use Rattle.hip_match.specs.Draw
 pub use Rattle.hip_match.specs.Joined
 pub use Rattle.hip_match.specs.Leftmost
 pub use Rattle.hip_match.specs.Occurrence
+pub use Rattle.hip_match.specs.Parted
 pub use Rattle.hip_match.specs.Pieces
 pub use Rattle.hip_match.specs.Ready
 pub use Rattle.hip_match.specs.Rightmost
@@ -50,3 +50,4 @@ pub use Rattle.hip_match.specs.Texts
 pub use Rattle.hip_match.specs.Trims
 pub use Rattle.hip_cuts.specs.Cut as Trimmed
 pub use Rattle.hip_cuts.specs.Piece
+pub use Rattle.hip_cuts.specs.Laws

@@ -1,6 +1,6 @@
 -- One step of the list machine: what a command may answer, what it leaves of the slots, and how many bytes it copies at most.
 -- `shares` says whether owners are shared.
-use Rattle.std.specs.Prelude.{◌≡◌, ℕ, ◌+◌, ◌-◌, ◌*◌, ◌^◌, ◌<◌, ◌≤◌, ◌⊎◌, Bool, true, false, ◌&&◌, List, [], ◌∷◌, ◌++◌, length, map, take, drop, max, Option, Some, None, is_none, if◌then◌else◌, nat_le, nat_lt, slice_set, MatchOption, codes, refl}
+use Rattle.std.specs.Prelude.{◌≡◌, ℕ, ◌+◌, ◌-◌, ◌*◌, ◌^◌, ◌<◌, ◌≤◌, ◌⊎◌, Bool, true, false, ◌&&◌, List, [], ◌∷◌, ◌++◌, length, map, take, drop, max, Option, Some, None, is_none, if◌then◌else◌, nat_le, nat_lt, slice_set, MatchOption, Result, Ok, Err, codes, refl}
 use Rattle.std.specs.Char.{is_whitespace, to_ascii_lowercase, to_ascii_uppercase}
 use Rattle.std.specs.Cmp.Lexicographic.{slice_cmp}
 use Rattle.std.specs.List.{join_by, repeat}
@@ -27,8 +27,9 @@ use Rattle.hip_match.specs.Draw.{draw}
 use Rattle.hip_match.specs.declared.draw.End.{End}
 use Rattle.hip_names.specs.Components.{path_order}
 use Rattle.hipstr.specs.Cut.{Leaves, PutsParts, SomeNeedsMemory, has_back, has_one_end, occurrences, parted, pieces_of, stripped, trims_one_end}
+use Rattle.hip_bytes.specs.Handle.{Handle}
 use Rattle.hipstr.specs.Reason.{reason_of, text_reason_of}
-use Rattle.hipstr.specs.Slot.{SlotState, empty_slot, slot_at, text_at, Replaces}
+use Rattle.hipstr.specs.Slot.{SlotState, empty_slot, slot_at, state_at, text_at, Replaces}
 use Rattle.hipstr.specs.declared.command.Command.{Command}
 use Rattle.hipstr.specs.declared.command.Command.TheVariants.{New, Inline, Borrow, Copy, Room, Clone, Slice, Push, Pop, Truncate, Clear, Shrink, Upper, Lower, Set, Repeat, Join, Mutate, Owned, Text, Bytes, Trim, TrimMatches, Strip, Pieces, Once, Compare, ComparePath, Len, Kind, Capacity}
 use Rattle.hipstr.specs.declared.command.Answer.{Answer}
@@ -51,26 +52,33 @@ range_fault slots s low high =
     else option_map reason_of (slice_fault low high (length (slot_at slots s).items))
 
 -- a slot that is a text, or is none, where the command is for the other
-abbrev pub not_bytes_fault : List SlotState → ℕ → Option Reason
-not_bytes_fault slots t = if text_at slots t then Some NotBytes else None
+abbrev pub not_bytes_fault : SlotState → Option Reason
+not_bytes_fault slot = if slot.is_text then Some NotBytes else None
 
-abbrev pub not_text_fault : List SlotState → ℕ → Option Reason
-not_text_fault slots t = if text_at slots t then None else Some NotText
+abbrev pub not_text_fault : SlotState → Option Reason
+not_text_fault slot = if slot.is_text then None else Some NotText
 
 -- bytes that are no text
 abbrev pub utf8_fault : List ℕ → Option Reason
 utf8_fault bytes = if is_utf8 bytes then None else Some NotUtf8
 
 -- an addition to a text that is none
-abbrev pub addition_fault : List SlotState → ℕ → List ℕ → Option Reason
-addition_fault slots t bytes = if text_at slots t then utf8_fault bytes else None
+abbrev pub addition_fault : SlotState → List ℕ → Option Reason
+addition_fault slot bytes = if slot.is_text then utf8_fault bytes else None
 
 -- a text that is to end within a character
 abbrev pub within_fault : List ℕ → ℕ → Option Reason
 within_fault text n = if nat_le n (length text) then (if is_boundary text n then None else Some EndNotACharBoundary) else None
 
-abbrev pub end_fault : List SlotState → ℕ → ℕ → Option Reason
-end_fault slots t n = if text_at slots t then within_fault (slot_at slots t).items n else None
+abbrev pub end_fault : SlotState → ℕ → Option Reason
+end_fault slot n = if slot.is_text then within_fault slot.handle.items n else None
+
+-- a byte that is to be set in a text, or past the bytes; and bytes that are to be a text, and are one already or none
+abbrev pub set_fault : SlotState → ℕ → Option Reason
+set_fault slot i = option_or (not_bytes_fault slot) (if nat_lt i (length slot.handle.items) then None else Some OutOfRange)
+
+abbrev pub text_fault : SlotState → Option Reason
+text_fault slot = option_or (not_bytes_fault slot) (utf8_fault slot.handle.items)
 
 -- a length that is no `usize`
 abbrev pub length_fault : ℕ → Option Reason
@@ -123,37 +131,35 @@ fault_of slots (Room t capacity) = slot_fault slots t
 fault_of slots (Clone s t) = option_or (slot_fault slots s) (slot_fault slots t)
 fault_of slots (Slice s t low high) =
     option_or (slot_fault slots s) (option_or (slot_fault slots t) (range_fault slots s low high))
-fault_of slots (Push t bytes) = option_or (slot_fault slots t) (addition_fault slots t bytes.now)
+fault_of slots (Push t bytes) = option_or (slot_fault slots t) (addition_fault (state_at slots t) bytes.now)
 fault_of slots (Pop t) = slot_fault slots t
-fault_of slots (Truncate t n) = option_or (slot_fault slots t) (end_fault slots t n)
+fault_of slots (Truncate t n) = option_or (slot_fault slots t) (end_fault (state_at slots t) n)
 fault_of slots (Clear t) = slot_fault slots t
 fault_of slots (Shrink t least) = slot_fault slots t
 fault_of slots (Upper t) = slot_fault slots t
 fault_of slots (Lower t) = slot_fault slots t
 fault_of slots (Set t i byte) =
-    option_or (slot_fault slots t) (option_or (not_bytes_fault slots t)
-    (if nat_lt i (length (slot_at slots t).items) then None else Some OutOfRange))
+    option_or (slot_fault slots t) (set_fault (state_at slots t) i)
 fault_of slots (Repeat s t n) =
     option_or (slot_fault slots s) (option_or (slot_fault slots t) (length_fault (n * length (slot_at slots s).items)))
 fault_of slots (Join first count sep t) =
     option_or (slots_fault slots first count) (option_or (slot_fault slots t)
     (length_fault (length (joined_slots slots first count sep.now))))
-fault_of slots (Mutate t bytes) = option_or (slot_fault slots t) (addition_fault slots t bytes.now)
+fault_of slots (Mutate t bytes) = option_or (slot_fault slots t) (addition_fault (state_at slots t) bytes.now)
 fault_of slots (Owned t) = slot_fault slots t
-fault_of slots (Text t) =
-    option_or (slot_fault slots t) (option_or (not_bytes_fault slots t) (utf8_fault (slot_at slots t).items))
-fault_of slots (Bytes t) = option_or (slot_fault slots t) (not_text_fault slots t)
-fault_of slots (Trim s t side) = option_or (slot_fault slots s) (option_or (slot_fault slots t) (not_text_fault slots s))
+fault_of slots (Text t) = option_or (slot_fault slots t) (text_fault (state_at slots t))
+fault_of slots (Bytes t) = option_or (slot_fault slots t) (not_text_fault (state_at slots t))
+fault_of slots (Trim s t side) = option_or (slot_fault slots s) (option_or (slot_fault slots t) (not_text_fault (state_at slots s)))
 fault_of slots (TrimMatches s t side pattern) =
-    option_or (slot_fault slots s) (option_or (slot_fault slots t) (option_or (not_text_fault slots s)
+    option_or (slot_fault slots s) (option_or (slot_fault slots t) (option_or (not_text_fault (state_at slots s))
     (one_end_fault (trims_one_end side pattern))))
-fault_of slots (Strip s t end pattern) = option_or (slot_fault slots s) (option_or (slot_fault slots t) (not_text_fault slots s))
+fault_of slots (Strip s t end pattern) = option_or (slot_fault slots s) (option_or (slot_fault slots t) (not_text_fault (state_at slots s)))
 fault_of slots (Pieces s how script first) =
     option_or (slot_fault slots s) (option_or (slots_fault slots first (length script.now)) (option_or (overlap_fault s first (length script.now))
-    (option_or (not_text_fault slots s) (one_end_fault (has_one_end how && has_back script.now)))))
+    (option_or (not_text_fault (state_at slots s)) (one_end_fault (has_one_end how && has_back script.now)))))
 fault_of slots (Once s t u end pattern) =
     option_or (slot_fault slots s) (option_or (slot_fault slots t) (option_or (slot_fault slots u) (option_or (overlap_fault t u 1)
-    (not_text_fault slots s))))
+    (not_text_fault (state_at slots s)))))
 fault_of slots (Compare s t) = option_or (slot_fault slots s) (slot_fault slots t)
 fault_of slots (ComparePath s t) = option_or (slot_fault slots s) (slot_fault slots t)
 fault_of slots (Len t) = slot_fault slots t
@@ -260,10 +266,37 @@ abbrev pub Step : Bool → List SlotState → Command → Answer → List SlotSt
 Step shares old command answer new =
     MatchOption (fault_of old command) (Performs shares old command answer new) (λ reason. (answer ≡ Refused reason) × (new ≡ old))
 
+-- A call on one slot may answer this, and go on from the old slot to the new: its fault; or that it is done, and then the slot is a text or
+-- bytes, of whose handle P holds; or want of memory where it may want some. Where it is refused the slot is as it was.
+abbrev pub SlotAnswers : Option Reason → Type 0 → Bool → (Handle → Type 0) → SlotState → Result Answer Reason → SlotState → Type 0
+SlotAnswers fault Needs is_text P old (Ok answer) new = (fault ≡ None) × (answer ≡ Done) × (new.is_text ≡ is_text) × P new.handle
+SlotAnswers fault Needs is_text P old (Err reason) new = MatchOption fault ((reason ≡ Memory) × Needs) (λ first. reason ≡ first) × (new ≡ old)
+
+-- a Mutate of one slot: where it is refused for memory the slot is as it was, or holds its old items by length, or is empty
+abbrev pub IsHalfMutated : Handle → Handle → Type 0
+IsHalfMutated old new = (new ≡ old) ⊎ (HoldsByLength new old.items ⊎ IsEmptyInline new)
+
+abbrev pub SlotMutates : List ℕ → SlotState → Result Answer Reason → SlotState → Type 0
+SlotMutates bytes old (Ok answer) new =
+    (addition_fault old bytes ≡ None) × (answer ≡ Done) × (new.is_text ≡ old.is_text) × HoldsByLength new.handle (old.handle.items ++ bytes)
+SlotMutates bytes old (Err reason) new =
+    MatchOption (addition_fault old bytes) ((reason ≡ Memory) × (new.is_text ≡ old.is_text) × IsHalfMutated old.handle new.handle) (λ first. (reason ≡ first) × (new ≡ old))
+
+-- a slot's last byte or character is taken off, where there is one
+abbrev pub SlotPops : SlotState → Answer → SlotState → Type 0
+SlotPops old (Byte byte) new = (old.is_text ≡ false) × (new.is_text ≡ false) × PopAnswers old.handle (Some byte) new.handle
+SlotPops old (Char c) new = (old.is_text ≡ true) × (new.is_text ≡ true) × PopCharAnswers old.handle (Some c) new.handle
+SlotPops old Nothing new = (old.handle.items ≡ []) × (new ≡ old)
+SlotPops old answer new = ⊥
+
 -- what is made at most where there is something to make
 abbrev pub option_cost : {A : Type 0} → (A → ℕ) → Option A → ℕ
 option_cost cost None = 0
 option_cost cost (Some a) = cost a
+
+-- what a Mutate copies at most: all bytes out of the slot, and in again
+abbrev pub mutate_cost : Bool → ℕ → ℕ → ℕ
+mutate_cost shares len added = len + (if shares then INLINE_CAPACITY else len + added)
 
 -- how many bytes a command without a fault copies at most. What a trim copies, `Costs` says
 abbrev pub copies_of : Bool → List SlotState → Command → ℕ
@@ -281,9 +314,7 @@ copies_of shares slots (Lower t) = write_cost shares (slot_at slots t).kind (len
 copies_of shares slots (Set t i byte) = write_cost shares (slot_at slots t).kind (length (slot_at slots t).items)
 copies_of shares slots (Repeat s t n) = repeat_cost shares (slot_at slots s).kind (length (slot_at slots s).items) n
 copies_of shares slots (Join first count sep t) = join_cost shares (length (joined_slots slots first count sep.now))
-copies_of shares slots (Mutate t bytes) =
-    let len = length (slot_at slots t).items in
-    len + (if shares then INLINE_CAPACITY else len + length bytes.now)
+copies_of shares slots (Mutate t bytes) = mutate_cost shares (length (slot_at slots t).items) (length bytes.now)
 copies_of shares slots (Owned t) = owned_cost shares (slot_at slots t).kind (length (slot_at slots t).items)
 copies_of shares slots (Strip s t end pattern) = option_cost (part_cost shares (slot_at slots s)) (stripped_slot slots s end pattern)
 copies_of shares slots (Pieces s how script first) = parts_cost shares (slot_at slots s) (drawn_of slots s how script.now)
@@ -292,9 +323,13 @@ copies_of shares slots (Once s t u end pattern) =
 -- any other copies none
 copies_of shares slots command = 0
 
+-- what is copied unless there is a fault, and then none
+abbrev pub unless : Option Reason → ℕ → ℕ
+unless fault copied = if is_none fault then copied else 0
+
 -- the cost of a command: how many bytes it copies at most; one with a fault copies none
 abbrev pub cost_of : Bool → List SlotState → Command → ℕ
-cost_of shares slots command = if is_none (fault_of slots command) then copies_of shares slots command else 0
+cost_of shares slots command = unless (fault_of slots command) (copies_of shares slots command)
 
 -- so many bytes does a command copy at most: a trim as many as the part that it leaves, any other its cost
 abbrev pub Costs : Bool → List SlotState → Command → ℕ → Type 0

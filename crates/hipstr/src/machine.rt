@@ -17,6 +17,7 @@ mod join;
 mod make;
 mod parts;
 mod pieces;
+mod slot;
 mod tell;
 mod write;
 

@@ -1,12 +1,13 @@
-ghost use Rattle.std.specs.Prelude.{◌≡◌, ◌≤◌, ◌<◌, ◌==◌, ◌↔◌, replicate, length, map, slice_set, Err, is_ok, IfOk, OnErr, IfSome, IsSome};
+ghost use Rattle.std.specs.Prelude.{◌≡◌, ◌+◌, ◌^◌, ◌≤◌, ◌<◌, ◌==◌, ◌↔◌, replicate, length, map, slice_set};
+ghost use Rattle.std.specs.Prelude.{Err, None, Some, IfOk, OnErr, OnOk, IfSome, IsSome};
 ghost use Rattle.hipstr.specs.declared.command.Reason.{Reason};
-ghost use Rattle.hipstr.specs.Slot.{state_of, state_at, slot_at, text_at, empty_slot};
+ghost use Rattle.hipstr.specs.Slot.{state_of, state_at, empty_slot};
+ghost use Rattle.hipstr.specs.Step.{not_text_fault, slot_fault, slots_fault};
 
 use crate::command::Reason;
 use hip_text::{Backend, HipByt, HipStr, Kind};
 use std::alloc::{AllocError, Global};
 use std::marker::Model;
-use std::mem;
 
 /// The greatest number of slots in a pool.
 pub const MAX_SLOTS: usize = 4096;
@@ -59,6 +60,21 @@ impl<'b, B: Backend> Slot<'b, B> {
         match self {
             Slot::Bytes(bytes) => bytes.kind(),
             Slot::Text(text) => text.kind(),
+        }
+    }
+
+    /// The slot's text, if it is one.
+    #[inline]
+    pub(crate) fn text(&self) -> Result<&HipStr<'b, B>, Reason>
+        ensures text { IfOk result (λ text. text.now ≡ (state_of self.now).handle) }
+        ensures found { OnOk result (not_text_fault (state_of self.now) ≡ None) }
+        ensures not_text { OnErr result
+            (not_text_fault (state_of self.now) ≡ Some Reason.NotText) }
+        ensures reason { OnErr result (result ≡ Err Reason.NotText) }
+    {
+        match self {
+            Slot::Bytes(_) => Err(Reason::NotText),
+            Slot::Text(text) => Ok(text),
         }
     }
 
@@ -123,11 +139,39 @@ impl<'b, B: Backend> Pool<'b, B> {
 
     /// The slot at a position.
     #[inline]
+    #[tactic(auto, using(crate::proofs::Places::in_place))]
     pub fn slot(&self, i: usize) -> Option<&Slot<'b, B>>
         ensures found { IsSome result ↔ (i < length self.now) }
         ensures slot { IfSome result (λ slot. state_of slot.now ≡ state_at self.now i) }
     {
         self.slots.get(i)
+    }
+
+    /// The slot at a position, or that there is none.
+    #[inline]
+    pub(crate) fn find(&self, i: usize) -> Result<&Slot<'b, B>, Reason>
+        ensures slot { IfOk result (λ slot. state_of slot.now ≡ state_at self.now i) }
+        ensures within { OnOk result (i < length self.now) }
+        ensures found { OnOk result (slot_fault self.now i ≡ None) }
+        ensures missing { OnErr result (slot_fault self.now i ≡ Some Reason.NoSlot) }
+        ensures reason { OnErr result (result ≡ Err Reason.NoSlot) }
+    {
+        self.slot(i).ok_or(Reason::NoSlot)
+    }
+
+    /// Finds `count` slots from `first` on, or that they aren't all there.
+    pub(crate) fn find_all(&self, first: usize, count: usize) -> Result<(), Reason>
+        ensures within { OnOk result (first + count ≤ length self.now) }
+        ensures fits { OnOk result (first + count < 2 ^ 64) }
+        ensures found { OnOk result (slots_fault self.now first count ≡ None) }
+        ensures missing { OnErr result (slots_fault self.now first count ≡ Some Reason.NoSlot) }
+        ensures reason { OnErr result (result ≡ Err Reason.NoSlot) }
+    {
+        if first <= self.len() && count <= self.len() - first {
+            Ok(())
+        } else {
+            Err(Reason::NoSlot)
+        }
     }
 
     /// The slot at a position that is there.
@@ -139,33 +183,9 @@ impl<'b, B: Backend> Pool<'b, B> {
         &self.slots[i]
     }
 
-    /// The text at a position that is there, if it is one.
-    #[inline]
-    pub(crate) fn text(&self, i: usize) -> Result<&HipStr<'b, B>, Reason>
-        requires { i < length self.now }
-        ensures flag { text_at self.now i ≡ is_ok result }
-        ensures text { IfOk result (λ text. text.now ≡ slot_at self.now i) }
-        ensures not_text { OnErr result (result ≡ Err Reason.NotText) }
-    {
-        match self.at(i) {
-            Slot::Bytes(_) => Err(Reason::NotText),
-            Slot::Text(text) => Ok(text),
-        }
-    }
-
-    /// Takes the slot at a position, and leaves an empty one.
-    #[inline]
-    pub(crate) fn take(&mut self, i: usize) -> Slot<'b, B>
-        requires { i < length self.old }
-        ensures handle { (state_of result).handle ≡ slot_at self.old i }
-        ensures flag { (state_of result).is_text ≡ text_at self.old i }
-        ensures emptied { self.new ≡ slice_set self.old i empty_slot }
-    {
-        mem::replace(&mut self.slots[i], Slot::empty())
-    }
-
     /// Puts a slot in the place of the one at a position, which is dropped.
     #[inline]
+    #[tactic(auto, using(crate::proofs::Places::in_place))]
     pub(crate) fn put(&mut self, i: usize, slot: Slot<'b, B>)
         requires { i < length self.old }
         ensures { self.new ≡ slice_set self.old i (state_of slot.entry) }

@@ -6,13 +6,12 @@ ghost use Rattle.hipstr.specs.Reason.{answer_of};
 ghost use Rattle.hipstr.specs.Step.{Step, cost_of};
 
 use crate::command::{Answer, Reason};
-use crate::pool::{Pool, Slot};
-use crate::text::text_of;
+use crate::pool::Pool;
 use hip_bytes::{Backend, Meter};
 use std::alloc::Global;
 
 impl<'b, B: Backend> Pool<'b, B> {
-    #[tactic(auto, using(crate::proofs::Places::put_back))]
+    #[tactic(auto, using(crate::proofs::Places::in_place))]
     pub(super) fn push(
         &mut self,
         alloc: Global,
@@ -27,48 +26,21 @@ impl<'b, B: Backend> Pool<'b, B> {
         ensures paid { PushesArePaid B.SHARES self.old
             (Command.Push t addition.entry) self.new meter.old meter.new }
     {
-        if t >= self.len() {
-            return Err(Reason::NoSlot);
-        }
-        match self.take(t) {
-            Slot::Bytes(mut bytes) => {
-                let outcome = bytes.push_slice_metered(alloc, addition, meter);
-                self.put(t, Slot::Bytes(bytes));
-                outcome?;
-                Ok(Answer::Done)
-            }
-            Slot::Text(mut text) => {
-                let Some(addition) = text_of(addition) else {
-                    self.put(t, Slot::Text(text));
-                    return Err(Reason::NotUtf8);
-                };
-                let outcome = text.push_str_metered(alloc, addition, meter);
-                self.put(t, Slot::Text(text));
-                outcome?;
-                Ok(Answer::Done)
-            }
-        }
+        self.find(t)?;
+        self.slots[t].push(alloc, addition, meter)
     }
 
-    #[tactic(auto, using(crate::proofs::Places::put_back))]
+    #[tactic(auto, using(crate::proofs::Places::in_place))]
     pub(super) fn pop(&mut self, t: usize, meter: &mut Meter) -> Result<Answer, Reason>
         ensures step { Step B.SHARES self.old (Command.Pop t) (answer_of result) self.new }
         ensures counted { RisesAtMost meter.old meter.new
             (cost_of B.SHARES self.old (Command.Pop t)) }
     {
-        if t >= self.len() {
-            return Err(Reason::NoSlot);
-        }
-        let mut slot = self.take(t);
-        let popped = match &mut slot {
-            Slot::Bytes(bytes) => bytes.pop_metered(meter).map(Answer::Byte),
-            Slot::Text(text) => text.pop_metered(meter).map(Answer::Char),
-        };
-        self.put(t, slot);
-        Ok(popped.unwrap_or(Answer::Nothing))
+        self.find(t)?;
+        Ok(self.slots[t].pop(meter))
     }
 
-    #[tactic(auto, using(crate::proofs::Places::put_back))]
+    #[tactic(auto, using(crate::proofs::Places::in_place))]
     pub(super) fn truncate(
         &mut self,
         t: usize,
@@ -79,46 +51,22 @@ impl<'b, B: Backend> Pool<'b, B> {
         ensures counted { RisesAtMost meter.old meter.new
             (cost_of B.SHARES self.old (Command.Truncate t n)) }
     {
-        if t >= self.len() {
-            return Err(Reason::NoSlot);
-        }
-        match self.take(t) {
-            Slot::Bytes(mut bytes) => {
-                bytes.truncate_metered(n, meter);
-                self.put(t, Slot::Bytes(bytes));
-                Ok(Answer::Done)
-            }
-            Slot::Text(mut text) => {
-                if n <= text.len() && !text.as_str().is_char_boundary(n) {
-                    self.put(t, Slot::Text(text));
-                    return Err(Reason::EndNotACharBoundary);
-                }
-                text.truncate_metered(n, meter);
-                self.put(t, Slot::Text(text));
-                Ok(Answer::Done)
-            }
-        }
+        self.find(t)?;
+        self.slots[t].truncate(n, meter)
     }
 
-    #[tactic(auto, using(crate::proofs::Places::put_back))]
+    #[tactic(auto, using(crate::proofs::Places::in_place))]
     pub(super) fn clear(&mut self, t: usize, meter: &mut Meter) -> Result<Answer, Reason>
         ensures step { Step B.SHARES self.old (Command.Clear t) (answer_of result) self.new }
         ensures counted { RisesAtMost meter.old meter.new
             (cost_of B.SHARES self.old (Command.Clear t)) }
     {
-        if t >= self.len() {
-            return Err(Reason::NoSlot);
-        }
-        let mut slot = self.take(t);
-        match &mut slot {
-            Slot::Bytes(bytes) => bytes.clear_metered(meter),
-            Slot::Text(text) => text.clear_metered(meter),
-        }
-        self.put(t, slot);
+        self.find(t)?;
+        self.slots[t].clear(meter);
         Ok(Answer::Done)
     }
 
-    #[tactic(auto, using(crate::proofs::Places::put_back))]
+    #[tactic(auto, using(crate::proofs::Places::in_place))]
     pub(super) fn shrink(
         &mut self,
         alloc: Global,
@@ -130,16 +78,8 @@ impl<'b, B: Backend> Pool<'b, B> {
         ensures counted { RisesAtMost meter.old meter.new
             (cost_of B.SHARES self.old (Command.Shrink t least)) }
     {
-        if t >= self.len() {
-            return Err(Reason::NoSlot);
-        }
-        let mut slot = self.take(t);
-        let outcome = match &mut slot {
-            Slot::Bytes(bytes) => bytes.shrink_to_metered(alloc, least, meter),
-            Slot::Text(text) => text.shrink_to_metered(alloc, least, meter),
-        };
-        self.put(t, slot);
-        outcome?;
+        self.find(t)?;
+        self.slots[t].shrink(alloc, least, meter)?;
         Ok(Answer::Done)
     }
 }

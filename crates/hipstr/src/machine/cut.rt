@@ -29,10 +29,9 @@ impl<'b, B: Backend> Pool<'b, B> {
         ensures counted { (cost : ℕ) × Costs B.SHARES self.old (Command.Trim s t side) cost
             × RisesAtMost meter.old meter.new cost }
     {
-        if s >= self.len() || t >= self.len() {
-            return Err(Reason::NoSlot);
-        }
-        let text = self.text(s)?;
+        let source = self.find(s)?;
+        self.find(t)?;
+        let text = source.text()?;
         let left = trimmed(alloc, text, side, meter)?;
         self.put(t, Slot::Text(left));
         Ok(Answer::Done)
@@ -53,10 +52,9 @@ impl<'b, B: Backend> Pool<'b, B> {
             × Costs B.SHARES self.old (Command.TrimMatches s t side pattern.entry) cost
             × RisesAtMost meter.old meter.new cost }
     {
-        if s >= self.len() || t >= self.len() {
-            return Err(Reason::NoSlot);
-        }
-        let text = self.text(s)?;
+        let source = self.find(s)?;
+        self.find(t)?;
+        let text = source.text()?;
         if trims_one_end(side, pattern) {
             return Err(Reason::OneEnd);
         }
@@ -79,10 +77,9 @@ impl<'b, B: Backend> Pool<'b, B> {
         ensures counted { RisesAtMost meter.old meter.new
             (cost_of B.SHARES self.old (Command.Strip s t end pattern.entry)) }
     {
-        if s >= self.len() || t >= self.len() {
-            return Err(Reason::NoSlot);
-        }
-        let text = self.text(s)?;
+        let source = self.find(s)?;
+        self.find(t)?;
+        let text = source.text()?;
         let Some(left) = stripped(alloc, text, end, pattern, meter)? else {
             return Ok(Answer::Nothing);
         };
@@ -105,13 +102,13 @@ impl<'b, B: Backend> Pool<'b, B> {
         ensures counted { RisesAtMost meter.old meter.new
             (cost_of B.SHARES self.old (Command.Once s t u end pattern.entry)) }
     {
-        if s >= self.len() || t >= self.len() || u >= self.len() {
-            return Err(Reason::NoSlot);
-        }
+        let source = self.find(s)?;
+        self.find(t)?;
+        self.find(u)?;
         if t == u {
             return Err(Reason::Overlap);
         }
-        let text = self.text(s)?;
+        let text = source.text()?;
         let Some((front, back)) = parted(alloc, text, end, pattern, meter)? else {
             return Ok(Answer::Nothing);
         };

@@ -28,19 +28,11 @@ impl<'b, B: Backend> Pool<'b, B> {
         ensures counted { RisesAtMost meter.old meter.new
             (cost_of B.SHARES self.old (Command.Join first count sep.entry t)) }
     {
-        if !self.has_slots(first, count) || t >= self.len() {
-            return Err(Reason::NoSlot);
-        }
+        self.find_all(first, count)?;
+        self.find(t)?;
         let handle = self.joined(alloc, first, count, sep, meter)?;
         self.put(t, Slot::Bytes(handle));
         Ok(Answer::Done)
-    }
-
-    /// Whether there are `count` slots from `first` on.
-    pub(super) fn has_slots(&self, first: usize, count: usize) -> bool
-        ensures { result ≡ nat_le (first + count) (length self.now) }
-    {
-        first <= self.len() && count <= self.len() - first
     }
 
     /// The items of the slots, with the separator between each two. The length is tried before any memory is asked for.

@@ -14,9 +14,7 @@ impl<'b, B: Backend> Pool<'b, B> {
     pub(super) fn make_new(&mut self, t: usize) -> Result<Answer, Reason>
         ensures step { Step B.SHARES self.old (Command.New t) (answer_of result) self.new }
     {
-        if t >= self.len() {
-            return Err(Reason::NoSlot);
-        }
+        self.find(t)?;
         self.put(t, Slot::empty());
         Ok(Answer::Done)
     }
@@ -32,9 +30,7 @@ impl<'b, B: Backend> Pool<'b, B> {
         ensures counted { RisesAtMost meter.old meter.new
             (cost_of B.SHARES self.old (Command.Inline t bytes.entry)) }
     {
-        if t >= self.len() {
-            return Err(Reason::NoSlot);
-        }
+        self.find(t)?;
         let Some(handle) = HipByt::try_inline_metered(bytes, meter) else {
             return Err(Reason::TooLong);
         };
@@ -46,9 +42,7 @@ impl<'b, B: Backend> Pool<'b, B> {
         ensures step { Step B.SHARES self.old (Command.Borrow t bytes.entry)
             (answer_of result) self.new }
     {
-        if t >= self.len() {
-            return Err(Reason::NoSlot);
-        }
+        self.find(t)?;
         self.put(t, Slot::Bytes(HipByt::borrowed(bytes)));
         Ok(Answer::Done)
     }
@@ -65,9 +59,7 @@ impl<'b, B: Backend> Pool<'b, B> {
         ensures counted { RisesAtMost meter.old meter.new
             (cost_of B.SHARES self.old (Command.Copy t bytes.entry)) }
     {
-        if t >= self.len() {
-            return Err(Reason::NoSlot);
-        }
+        self.find(t)?;
         let handle = HipByt::from_slice_metered(alloc, bytes, meter)?;
         self.put(t, Slot::Bytes(handle));
         Ok(Answer::Done)
@@ -82,9 +74,7 @@ impl<'b, B: Backend> Pool<'b, B> {
         ensures step { Step B.SHARES self.old (Command.Room t capacity)
             (answer_of result) self.new }
     {
-        if t >= self.len() {
-            return Err(Reason::NoSlot);
-        }
+        self.find(t)?;
         let handle = HipByt::with_capacity(alloc, capacity)?;
         self.put(t, Slot::Bytes(handle));
         Ok(Answer::Done)
@@ -101,10 +91,9 @@ impl<'b, B: Backend> Pool<'b, B> {
         ensures counted { RisesAtMost meter.old meter.new
             (cost_of B.SHARES self.old (Command.Clone s t)) }
     {
-        if s >= self.len() || t >= self.len() {
-            return Err(Reason::NoSlot);
-        }
-        let made = match self.at(s) {
+        let source = self.find(s)?;
+        self.find(t)?;
+        let made = match source {
             Slot::Bytes(bytes) => Slot::Bytes(bytes.clone_metered(alloc, meter)?),
             Slot::Text(text) => Slot::Text(text.clone_metered(alloc, meter)?),
         };
@@ -126,10 +115,9 @@ impl<'b, B: Backend> Pool<'b, B> {
         ensures counted { RisesAtMost meter.old meter.new
             (cost_of B.SHARES self.old (Command.Slice s t low high)) }
     {
-        if s >= self.len() || t >= self.len() {
-            return Err(Reason::NoSlot);
-        }
-        let made = match self.at(s) {
+        let source = self.find(s)?;
+        self.find(t)?;
+        let made = match source {
             Slot::Bytes(bytes) => Slot::Bytes(bytes.try_slice_bounds_metered(
                 alloc, low, high, meter,
             )?),
@@ -151,10 +139,9 @@ impl<'b, B: Backend> Pool<'b, B> {
         ensures counted { RisesAtMost meter.old meter.new
             (cost_of B.SHARES self.old (Command.Repeat s t n)) }
     {
-        if s >= self.len() || t >= self.len() {
-            return Err(Reason::NoSlot);
-        }
-        let made = match self.at(s) {
+        let source = self.find(s)?;
+        self.find(t)?;
+        let made = match source {
             Slot::Bytes(bytes) => Slot::Bytes(bytes.repeat_metered(alloc, n, meter)?),
             Slot::Text(text) => Slot::Text(text.repeat_metered(alloc, n, meter)?),
         };

@@ -290,6 +290,7 @@ fn make_drawn<'h, 'b, B: Backend, I: Unnumbered + Drop, E: Ends<I>>(
 }
 
 /// Puts a text into a slot.
+#[tactic(auto, using(crate::proofs::Places::in_place))]
 fn put_text<'b, B: Backend>(slots: &mut [Slot<'b, B>], i: usize, text: HipStr<'b, B>)
     requires { i < length slots.old }
     ensures { map state_of slots.new
@@ -299,7 +300,7 @@ fn put_text<'b, B: Backend>(slots: &mut [Slot<'b, B>], i: usize, text: HipStr<'b
 }
 
 /// Makes all slots empty.
-fn empty_all<'b, B: Backend>(slots: &mut [Slot<'b, B>])
+pub(super) fn empty_all<'b, B: Backend>(slots: &mut [Slot<'b, B>])
     ensures { map state_of slots.new ≡ replicate (length slots.old) empty_slot }
 {
     for i in 0..slots.len() {

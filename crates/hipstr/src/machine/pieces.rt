@@ -10,14 +10,13 @@ ghost use Rattle.hipstr.specs.Reason.{answer_of};
 ghost use Rattle.hipstr.specs.Slot.{state_of, slot_at, text_at, empty_slot};
 ghost use Rattle.hipstr.specs.Step.{Step, cost_of};
 
-use super::parts::make_parts;
+use super::parts::{empty_all, make_parts};
 use crate::command::{Answer, How, Pat, Reason};
 use crate::pool::{Pool, Slot};
 use hip_bytes::{Backend, Meter};
 use hip_match::draw::End;
 use hip_text::HipStr;
 use std::alloc::Global;
-use std::mem;
 
 impl<'b, B: Backend> Pool<'b, B> {
     pub(super) fn make_pieces(
@@ -34,13 +33,12 @@ impl<'b, B: Backend> Pool<'b, B> {
         ensures counted { RisesAtMost meter.old meter.new
             (cost_of B.SHARES self.old (Command.Pieces s how.entry script.entry first)) }
     {
-        if s >= self.len() || !self.has_slots(first, script.len()) {
-            return Err(Reason::NoSlot);
-        }
+        self.find(s)?;
+        self.find_all(first, script.len())?;
         if is_among(s, first, script.len()) {
             return Err(Reason::Overlap);
         }
-        let text = text_in(&self.slots, s)?;
+        let text = self.slots[s].text()?;
         if lacks_back(how, script) {
             return Err(Reason::OneEnd);
         }
@@ -56,22 +54,6 @@ fn is_among(s: usize, first: usize, count: usize) -> bool
     ensures { result ≡ (nat_le first s && nat_lt s (first + count)) }
 {
     first <= s && s - first < count
-}
-
-/// The text in a slot, if it is one.
-fn text_in<'a, 'b, B: Backend>(
-    slots: &'a [Slot<'b, B>],
-    i: usize,
-) -> Result<&'a HipStr<'b, B>, Reason>
-    requires { i < length slots.now }
-    ensures flag { text_at (map state_of slots.now) i ≡ is_ok result }
-    ensures text { IfOk result (λ text. text.now ≡ slot_at (map state_of slots.now) i) }
-    ensures not_text { OnErr result (result ≡ Err Reason.NotText) }
-{
-    match &slots[i] {
-        Slot::Bytes(_) => Err(Reason::NotText),
-        Slot::Text(text) => Ok(text),
-    }
 }
 
 /// Whether a script draws from the back what comes from the front alone.
@@ -133,7 +115,6 @@ fn put_parts<'b, B: Backend>(
     ensures emptied { map state_of spare.new
         ≡ replicate count empty_slot ++ drop count (map state_of spare.old) }
 {
-    for i in 0..count {
-        slots[first + i] = mem::replace(&mut spare[i], Slot::empty());
-    }
+    slots[first..first + count].swap_with_slice(&mut spare[..count]);
+    empty_all(&mut spare[..count]);
 }

@@ -12,46 +12,33 @@ impl<'b, B: Backend> Pool<'b, B> {
     pub(super) fn tell_len(&self, t: usize) -> Result<Answer, Reason>
         ensures step { Step B.SHARES self.now (Command.Len t) (answer_of result) self.now }
     {
-        if t >= self.len() {
-            return Err(Reason::NoSlot);
-        }
-        Ok(Answer::Number(self.at(t).as_bytes().len()))
+        Ok(Answer::Number(self.find(t)?.as_bytes().len()))
     }
 
     pub(super) fn tell_kind(&self, t: usize) -> Result<Answer, Reason>
         ensures step { Step B.SHARES self.now (Command.Kind t) (answer_of result) self.now }
     {
-        if t >= self.len() {
-            return Err(Reason::NoSlot);
-        }
-        Ok(Answer::Kind(self.at(t).kind()))
+        Ok(Answer::Kind(self.find(t)?.kind()))
     }
 
     pub(super) fn tell_capacity(&self, t: usize) -> Result<Answer, Reason>
         ensures step { Step B.SHARES self.now (Command.Capacity t) (answer_of result) self.now }
     {
-        if t >= self.len() {
-            return Err(Reason::NoSlot);
-        }
-        Ok(Answer::Number(self.at(t).capacity()))
+        Ok(Answer::Number(self.find(t)?.capacity()))
     }
 
     pub(super) fn compare(&self, s: usize, t: usize) -> Result<Answer, Reason>
         ensures step { Step B.SHARES self.now (Command.Compare s t) (answer_of result) self.now }
     {
-        if s >= self.len() || t >= self.len() {
-            return Err(Reason::NoSlot);
-        }
-        Ok(Answer::Order(self.at(s).as_bytes().cmp(self.at(t).as_bytes())))
+        let (source, target) = (self.find(s)?, self.find(t)?);
+        Ok(Answer::Order(source.as_bytes().cmp(target.as_bytes())))
     }
 
     pub(super) fn compare_path(&self, s: usize, t: usize) -> Result<Answer, Reason>
         ensures step { Step B.SHARES self.now (Command.ComparePath s t)
             (answer_of result) self.now }
     {
-        if s >= self.len() || t >= self.len() {
-            return Err(Reason::NoSlot);
-        }
-        Ok(Answer::Order(path_cmp(self.at(s).as_bytes(), self.at(t).as_bytes())))
+        let (source, target) = (self.find(s)?, self.find(t)?);
+        Ok(Answer::Order(path_cmp(source.as_bytes(), target.as_bytes())))
     }
 }

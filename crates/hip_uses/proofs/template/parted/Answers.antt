@@ -1,5 +1,5 @@
 use Rattle.std.proofs.Common.{ℕ, List, subst, sym}
-use Rattle.hipstr.specs.Parted.{PartedAs}
+use Rattle.hipstr.specs.Trimmed.{PartedAs}
 use Rattle.hip_uses.proofs.template.parted.Goals as goal
 
 pub returns : goal.returns

@@ -1,29 +1,18 @@
-use Rattle.std.proofs.Common.{◌≤◌, ◌<◌, ◌+◌, ◌∙◌, length, map, ap, sym, arith}
-use Rattle.std.proofs.lemmas.Grind.{common_steps}
-use Rattle.std.proofs.Math.ListN.{get_or-map}
-use Rattle.std.proofs.lemmas.List.{length-map, map-set}
-use Rattle.hipstr.specs.Slot.{state_of}
-use Rattle.hipstr.proofs.Parts.{empties-front-on, puts-on}
+use Rattle.std.proofs.Common.{◌≡◌, ◌≤◌, ◌∙◌, ◌++◌, length, map, drop, replicate, ap, refl, arith, length-append, length-take-le}
+use Rattle.std.proofs.lemmas.List.{drop-map, map-append}
+use Rattle.std.proofs.lemmas.Slice.{drop-append-drop}
+use Rattle.hipstr.specs.Slot.{empty_slot, state_of}
+use Rattle.hipstr.proofs.Parts.{parts-swapped}
 use Rattle.hipstr.proofs.machine.pieces.put_parts.Goals as goal
 
-pub loop-i-preserved : goal.loop-i-preserved
-loop-i-preserved g c =
-    let state = state_of {B = g.row.B.Denot} {S = g.row.B-Sole.Denot} {P = g.row.B-Start.Denot} in
-    let within : c.args.count ≤ length (map state c.args.spare.now) = omega (arith, c.requires.made, length-map c.args.spare.now state) in
-    let there : c.loop-i.i < length (map state c.args.spare.now) = omega (arith, c.loop-i-test.true, within) in
-    record {
-      put = rw (map-set state c.loop-i.slots (c.args.first + c.loop-i.i) c.replace.result)
-          (puts-on (map state c.args.spare.now) (map state c.loop-i.slots) (map state c.loop-i.spare) _ c.args.first c.loop-i.i c.args.count (state c.index-spare-i.result) (state c.replace.result)
-          c.loop-i-test.true within c.loop-i.invariant.emptied (ap state c.replace.ensures.value ∙ sym (get_or-map state c.loop-i.spare c.loop-i.i c.index-spare-i.result)) c.loop-i.invariant.put);
-      emptied = rw (map-set state c.loop-i.spare c.loop-i.i c.replace.new.dest)
-          (empties-front-on (map state c.args.spare.now) (map state c.loop-i.spare) c.loop-i.i (state c.replace.new.dest) there (ap state c.replace.ensures.after ∙ c.empty.ensures) c.loop-i.invariant.emptied);
-    }
-
-pub offset_bounds-spare-i : goal.offset_bounds-spare-i
-offset_bounds-spare-i g c = grind (arith, common_steps)
-
-pub offset_bounds-slots-first : goal.offset_bounds-slots-first
-offset_bounds-slots-first g c = grind (arith, common_steps)
-
 pub returns-clause-put : goal.returns-clause-put
-returns-clause-put g c = grind (arith, common_steps)
+returns-clause-put g c =
+    rw c.swap_with_slice.ensures.after (parts-swapped (state_of {B = g.row.B.Denot} {S = g.row.B-Sole.Denot} {P = g.row.B-Start.Denot}) c.args.slots.now c.args.spare.now c.args.first _ c.args.count (omega arith) c.requires.made c.requires.room)
+
+pub returns-clause-emptied : goal.returns-clause-emptied
+returns-clause-emptied g c =
+    let state = state_of {B = g.row.B.Denot} {S = g.row.B-Sole.Denot} {P = g.row.B-Start.Denot} in
+    let long : length c.swap_with_slice.new.other ≡ c.args.count = c.swap_with_slice.ensures.other_len ∙ length-take-le c.args.count c.args.spare.now c.requires.made in
+    let within : c.args.count ≤ length (c.swap_with_slice.new.other ++ drop c.args.count c.args.spare.now) = omega (arith, long, length-append c.swap_with_slice.new.other (drop c.args.count c.args.spare.now)) in
+    let empty : map state c.empty_all.new.slots ≡ replicate c.args.count empty_slot = c.empty_all.ensures ∙ ap (λ n. replicate n empty_slot) (length-take-le c.args.count _ within) in
+    rw (map-append state c.empty_all.new.slots _, empty, drop-append-drop c.args.count c.args.spare.now c.swap_with_slice.new.other c.args.count (omega arith) long, drop-map state c.args.count c.args.spare.now) refl

@@ -1,0 +1,16 @@
+mod bytes;
+mod comparisons;
+mod conversions;
+mod cuts;
+mod errors;
+mod faults;
+mod guards;
+mod hip_byt;
+mod joins;
+mod makers;
+mod maps;
+mod owned_room;
+mod spaces;
+mod suite;
+mod support;
+mod writes;

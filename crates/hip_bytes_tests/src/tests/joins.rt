@@ -1,0 +1,162 @@
+//! Repetitions, joins and room that is given back.
+use super::bytes::Bytes;
+use super::suite::{Suite, on};
+use super::support::{LETTERS, holds, is, must};
+use hip_bytes::{GrowFault, Kind, Meter, Rc, Unique};
+use std::alloc::Global;
+use std::process::Abort;
+
+/// Bytes, how often they are repeated, and what that makes, and where.
+const REPEATED: &[(&[u8], usize, &[u8], Kind)] = &[
+    (b"ab", 0, b"", Kind::Inline),
+    (b"ab", 3, b"ababab", Kind::Inline),
+    (b"ab", 12, b"abababababababababababab", Kind::Allocated),
+    (b"", usize::MAX, b"", Kind::Inline),
+];
+
+fn repetitions<H: Bytes>(rt: &impl Abort, alloc: Global) {
+    for (bytes, count, items, kind) in REPEATED {
+        let handle = must(rt, H::from_slice(alloc, bytes));
+        let repeated = must(rt, handle.repeat(alloc, *count));
+        is(rt, repeated, items, *kind);
+    }
+}
+
+fn too_long<H: Bytes>(rt: &impl Abort, alloc: Global) {
+    let handle = must(rt, H::inline(b"ab"));
+    assert_eq!(rt;
+        handle.repeat(alloc, usize::MAX).err(),
+        Some(GrowFault::TooLong)
+    );
+}
+
+fn once<H: Bytes>(rt: &impl Abort, alloc: Global) {
+    let once = must(rt, H::borrowed(LETTERS).repeat(alloc, 1));
+    is(rt, once, LETTERS, Kind::Borrowed);
+}
+
+/// Asserts the length of a value, and how many bytes were copied for it: what is gathered in a vector is copied to an owner that can't be
+/// shared.
+fn is_counted<H: Bytes>(rt: &impl Abort, counted: H, meter: &Meter, len: usize) {
+    let copied = if H::SHARES {
+        len
+    } else {
+        len.saturating_mul(2)
+    };
+    assert_eq!(rt; (counted.len(), meter.copied()), (len, copied as u128));
+}
+
+fn twice<H: Bytes>(rt: &impl Abort, alloc: Global) {
+    let mut meter = Meter::new();
+    let twice = must(
+        rt,
+        H::borrowed(LETTERS).repeat_metered(alloc, 2, &mut meter),
+    );
+    is_counted(rt, twice, &meter, 52);
+}
+
+const PIECES: [&[u8]; 3] = [b"ab", b"", b"c"];
+
+fn joined_slices<H: Bytes>(rt: &impl Abort, alloc: Global) {
+    let whole = must(rt, H::concat_slices(alloc, &PIECES));
+    is(rt, whole, b"abc", Kind::Inline);
+    let joined = must(rt, H::join_slices(alloc, &PIECES, b"-"));
+    is(rt, joined, b"ab--c", Kind::Inline);
+    let none = must(rt, H::join_slices(alloc, &[], b"-"));
+    is(rt, none, b"", Kind::Inline);
+}
+
+fn joined_pieces<H: Bytes>(rt: &impl Abort, alloc: Global) {
+    let whole = must(rt, H::concat(alloc, PIECES));
+    is(rt, whole, b"abc", Kind::Inline);
+    let joined = must(rt, H::join(alloc, PIECES, b"-"));
+    is(rt, joined, b"ab--c", Kind::Inline);
+}
+
+const LINES: [&[u8]; 2] = [LETTERS, LETTERS];
+
+const LETTERS_TWICE: &[u8] = b"abcdefghijklmnopqrstuvwxyz, abcdefghijklmnopqrstuvwxyz";
+
+fn long_joins<H: Bytes>(rt: &impl Abort, alloc: Global) {
+    let joined = must(rt, H::join_two(alloc, LINES, b", "));
+    holds(rt, &joined, LETTERS_TWICE, Kind::Allocated);
+    let part = must(rt, joined.try_slice(alloc, 26..30));
+    is(rt, part, b", ab", Kind::Inline);
+    let again = must(rt, H::join_slices(alloc, &LINES, b", "));
+    assert!(rt; joined == again);
+}
+
+fn counted_joins<H: Bytes>(rt: &impl Abort, alloc: Global) {
+    let mut meter = Meter::new();
+    let counted = must(rt, H::join_slices_metered(alloc, &LINES, b", ", &mut meter));
+    is_counted(rt, counted, &meter, 54);
+}
+
+fn counted_pieces<H: Bytes>(rt: &impl Abort, alloc: Global) {
+    let mut meter = Meter::new();
+    let counted = must(rt, H::join_two_metered(alloc, LINES, b", ", &mut meter));
+    is_counted(rt, counted, &meter, 54);
+}
+
+/// The letters, in room that was 200 bytes and was given back to 100.
+fn roomy<H: Bytes>(rt: &impl Abort, alloc: Global) -> H {
+    let mut room = must(rt, H::with_capacity(alloc, 200));
+    must(rt, room.push_slice(alloc, LETTERS));
+    must(rt, room.shrink_to(alloc, 100));
+    room
+}
+
+fn shrinks<H: Bytes>(rt: &impl Abort, alloc: Global) {
+    let mut room = roomy::<H>(rt, alloc);
+    let before = room.capacity();
+    must(rt, room.shrink_to_fit(alloc));
+    assert_eq!(rt;
+        (before >= 100, before <= 200, room.capacity() < 100),
+        (true, true, true)
+    );
+    is(rt, room, LETTERS, Kind::Allocated);
+}
+
+fn shrinks_into_the_handle<H: Bytes>(rt: &impl Abort, alloc: Global) {
+    let mut room = roomy::<H>(rt, alloc);
+    must(rt, room.shrink_to_fit(alloc));
+    room.truncate(23);
+    must(rt, room.shrink_to_fit(alloc));
+    is(rt, room, &LETTERS[..23], Kind::Inline);
+}
+
+fn repetitions_on<H: Bytes>(rt: &impl Abort, alloc: Global) {
+    repetitions::<H>(rt, alloc);
+    too_long::<H>(rt, alloc);
+    once::<H>(rt, alloc);
+    twice::<H>(rt, alloc);
+}
+
+fn joins_on<H: Bytes>(rt: &impl Abort, alloc: Global) {
+    joined_slices::<H>(rt, alloc);
+    joined_pieces::<H>(rt, alloc);
+    long_joins::<H>(rt, alloc);
+    counted_joins::<H>(rt, alloc);
+    counted_pieces::<H>(rt, alloc);
+}
+
+struct Joins;
+
+impl Suite for Joins {
+    fn run<H: Bytes>(rt: &impl Abort, alloc: Global) {
+        repetitions_on::<H>(rt, alloc);
+        joins_on::<H>(rt, alloc);
+        shrinks::<H>(rt, alloc);
+        shrinks_into_the_handle::<H>(rt, alloc);
+    }
+}
+
+#[test]
+fn joins_on_rc(rt: HostRuntime) {
+    on::<Joins, Rc>(&rt, rt.alloc());
+}
+
+#[test]
+fn joins_on_unique(rt: HostRuntime) {
+    on::<Joins, Unique>(&rt, rt.alloc());
+}

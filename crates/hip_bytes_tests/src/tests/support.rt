@@ -1,0 +1,47 @@
+//! What ends a test, and what several modules assert.
+use super::bytes::Bytes;
+use hip_bytes::Kind;
+use std::alloc::{AllocError, Global};
+use std::fmt;
+use std::process::Abort;
+
+pub(crate) const LETTERS: &[u8] = b"abcdefghijklmnopqrstuvwxyz";
+
+/// The value, or the end of the test where it was refused. A test with no way out but this is a straight line, and cheap to prove.
+pub(crate) fn must<T, E: Drop>(rt: &impl Abort, outcome: Result<T, E>) -> T {
+    match outcome {
+        Ok(value) => value,
+        Err(_) => panic!(rt; "a call was refused"),
+    }
+}
+
+/// Asserts what a handle holds, and where.
+pub(crate) fn holds<H: Bytes>(rt: &impl Abort, handle: &H, items: &[u8], kind: Kind) {
+    assert_eq!(rt;
+        (
+            handle.as_slice(),
+            handle.len(),
+            handle.is_empty(),
+            handle.kind()
+        ),
+        (items, items.len(), items.is_empty(), kind)
+    );
+}
+
+/// The same of a handle that nothing else is asked of.
+pub(crate) fn is<H: Bytes>(rt: &impl Abort, handle: H, items: &[u8], kind: Kind) {
+    holds(rt, &handle, items, kind);
+}
+
+/// What a refused call answers, or the end of the test where it wasn't refused.
+pub(crate) fn must_refuse<T: Drop, E>(rt: &impl Abort, outcome: Result<T, E>) -> E {
+    match outcome {
+        Ok(_) => panic!(rt; "a call wasn't refused"),
+        Err(error) => error,
+    }
+}
+
+/// A value as `Debug` shows it.
+pub(crate) fn text_of<T: fmt::Debug>(alloc: Global, value: &T) -> Result<String, AllocError> {
+    format!(in alloc; "{value:?}")
+}

@@ -1,0 +1,99 @@
+//! Bytes that are lent for writing, and ASCII case.
+use super::bytes::Bytes;
+use super::suite::{Suite, on};
+use super::support::{LETTERS, holds, is, must};
+use hip_bytes::{Kind, Meter, Rc, Unique};
+use std::alloc::Global;
+use std::process::Abort;
+
+const CAPITALS: &[u8] = b"ABCDEFGHIJKLMNOPQRSTUVWXYZ";
+
+/// Turns the bytes round where they are lent for writing, which they are where no other handle shares them.
+fn turns_round<H: Bytes>(rt: &impl Abort, handle: &mut H) {
+    let is_sole = !H::SHARES;
+    assert_eq!(rt;
+        (
+            handle.as_mut_slice().is_some(),
+            handle.with_mut_slice_reverse().is_some()
+        ),
+        (is_sole, is_sole)
+    );
+}
+
+/// Writes over the bytes, in a copy where they are shared, and says how many were copied.
+fn written_over<H: Bytes>(rt: &impl Abort, alloc: Global, handle: &mut H) -> u128 {
+    let mut meter = Meter::new();
+    must(
+        rt,
+        handle.with_to_mut_slice_metered_uppercase(alloc, &mut meter),
+    );
+    let bytes = must(rt, handle.to_mut_slice(alloc));
+    if let Some(first) = bytes.first_mut() {
+        *first = b'!';
+    }
+    meter.copied()
+}
+
+/// What is written through one handle doesn't show in its clone.
+fn beside_a_clone<H: Bytes>(rt: &impl Abort, alloc: Global) {
+    let mut whole = must(rt, H::from_slice(alloc, LETTERS));
+    let clone = must(rt, whole.clone(alloc));
+    turns_round(rt, &mut whole);
+    let copied = written_over(rt, alloc, &mut whole);
+    let (wanted, wanted_copied): (&[u8], u128) = if H::SHARES {
+        (b"!BCDEFGHIJKLMNOPQRSTUVWXYZ", 26)
+    } else {
+        (b"!YXWVUTSRQPONMLKJIHGFEDCBA", 0)
+    };
+    assert_eq!(rt; copied, wanted_copied);
+    is(rt, whole, wanted, Kind::Allocated);
+    is(rt, clone, LETTERS, Kind::Allocated);
+}
+
+fn other_case<H: Bytes>(rt: &impl Abort, alloc: Global) {
+    let letters = must(rt, H::from_slice(alloc, LETTERS));
+    let upper = must(rt, letters.to_ascii_uppercase(alloc));
+    let lower = must(rt, upper.to_ascii_lowercase(alloc));
+    is(rt, upper, CAPITALS, Kind::Allocated);
+    is(rt, lower, LETTERS, Kind::Allocated);
+    is(rt, letters, LETTERS, Kind::Allocated);
+}
+
+fn case_of_lent_bytes<H: Bytes>(rt: &impl Abort, alloc: Global) {
+    let mut lent = H::borrowed(b"[a\xE9Z]");
+    assert!(rt; lent.as_mut_slice().is_none());
+    must(rt, lent.make_ascii_uppercase(alloc));
+    holds(rt, &lent, b"[A\xE9Z]", Kind::Inline);
+    must(rt, lent.make_ascii_lowercase(alloc));
+    is(rt, lent, b"[a\xE9z]", Kind::Inline);
+}
+
+fn in_the_handle<H: Bytes>(rt: &impl Abort) {
+    let mut short = must(rt, H::inline(b"abc"));
+    match short.as_mut_slice() {
+        Some(bytes) => bytes.reverse(),
+        None => panic!(rt; "bytes in the handle are lent"),
+    }
+    is(rt, short, b"cba", Kind::Inline);
+}
+
+struct Writes;
+
+impl Suite for Writes {
+    fn run<H: Bytes>(rt: &impl Abort, alloc: Global) {
+        beside_a_clone::<H>(rt, alloc);
+        other_case::<H>(rt, alloc);
+        case_of_lent_bytes::<H>(rt, alloc);
+        in_the_handle::<H>(rt);
+    }
+}
+
+#[test]
+fn writes_on_rc(rt: HostRuntime) {
+    on::<Writes, Rc>(&rt, rt.alloc());
+}
+
+#[test]
+fn writes_on_unique(rt: HostRuntime) {
+    on::<Writes, Unique>(&rt, rt.alloc());
+}

@@ -1,6 +1,0 @@
-use Rattle.hip_match_tests.proofs.by_closures.without_wanted.Given as goal
-use Rattle.std.specs.Prelude.{◌==◌}
-use Rattle.hip_match_tests.specs.contracts.by_closures.fn.without_wanted.new as closure
-
-abbrev pub ghost-new : goal.ghost-new
-ghost-new a = λ c. c == (closure.captures a.test).wanted

@@ -1,4 +1,0 @@
-use Rattle.hip_match_tests.proofs.scripts.follows.Given as goal
-
-abbrev pub invariant-loop-step : goal.invariant-loop-step
-invariant-loop-step g l = g.R.Ranges.ready l.ranges

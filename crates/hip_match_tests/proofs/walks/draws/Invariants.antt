@@ -1,5 +1,0 @@
-use Rattle.std.proofs.Common.{◌≡◌}
-use Rattle.hip_match_tests.proofs.walks.draws.Given as goal
-
-abbrev pub invariant-loop-end : goal.invariant-loop-end
-invariant-loop-end g l = g.R.Ranges.ready l.ranges × (g.R.Ranges.text l.ranges ≡ l.text)

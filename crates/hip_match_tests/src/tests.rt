@@ -1,0 +1,12 @@
+mod by_both_ends;
+mod by_characters;
+mod by_closures;
+mod by_texts;
+mod clones;
+mod cuts;
+mod each_way;
+mod lanes;
+mod laws;
+mod scripts;
+mod walks;
+mod white_space;

@@ -1,0 +1,177 @@
+//! What they ask of an OS string.
+use super::handle::{Handle, Json};
+use super::name::{Name, OsStr};
+use super::support::kind_of;
+use hip_bytes::RefMut;
+use hip_names::{Backend, HipByt, HipOsStr, HipPath, JsonFault, Kind};
+use serde_json::Value;
+use std::alloc::{AllocError, Global};
+use std::borrow::CowSlice;
+use std::cmp::Ordering;
+
+impl<B: Backend> Handle for HipOsStr<'static, B> {
+    fn lent(bytes: &'static [u8]) -> Result<Self, &'static str> {
+        Ok(HipOsStr::from(HipByt::borrowed(bytes)))
+    }
+
+    fn bytes(&self) -> &[u8] {
+        self.as_os_str()
+    }
+
+    fn kind(&self) -> Option<Kind> {
+        kind_of(self.is_inline(), self.is_borrowed(), self.is_allocated())
+    }
+}
+
+impl<B: Backend> Name for HipOsStr<'static, B> {
+    const IS_PATH: bool = false;
+
+    fn new() -> Self {
+        HipOsStr::new()
+    }
+
+    fn default() -> Self {
+        Default::default()
+    }
+
+    fn inline_capacity() -> usize {
+        HipOsStr::<B>::inline_capacity()
+    }
+
+    fn borrowed(text: &'static str) -> Self {
+        HipOsStr::borrowed(text)
+    }
+
+    fn from_static(text: &'static str) -> Self {
+        HipOsStr::from_static(text)
+    }
+
+    fn from_str(alloc: Global, text: &str) -> Result<Self, AllocError> {
+        HipOsStr::from_str(alloc, text)
+    }
+
+    fn from_string(alloc: Global, string: String) -> Result<Self, String> {
+        HipOsStr::from_string(alloc, string)
+    }
+
+    fn clone(&self, alloc: Global) -> Result<Self, AllocError> {
+        self.clone(alloc)
+    }
+
+    fn into_owned(self, alloc: Global) -> Result<Self, Self> {
+        self.into_owned(alloc)
+    }
+
+    fn capacity(&self) -> usize {
+        self.capacity()
+    }
+
+    fn as_borrowed(&self) -> Option<&'static [u8]> {
+        self.as_borrowed()
+    }
+
+    fn into_borrowed(self) -> Result<&'static [u8], Self> {
+        self.into_borrowed()
+    }
+
+    fn into_vec(self, alloc: Global) -> Result<Vec<u8>, Self> {
+        self.into_os_string(alloc)
+    }
+
+    fn into_vec_copied(self, alloc: Global) -> Result<Vec<u8>, AllocError> {
+        let bytes = HipByt::from(self);
+        bytes.into_vec_copied(alloc).or(Err(AllocError))
+    }
+
+    fn into_str_into_os_string(self, alloc: Global) -> Result<Vec<u8>, Self> {
+        HipOsStr::from(self.into_str()?).into_os_string(alloc)
+    }
+
+    fn mutate(&mut self, alloc: Global) -> Result<RefMut<'_, Self>, AllocError> {
+        self.mutate(alloc)
+    }
+
+    fn shrink_to(&mut self, alloc: Global, least: usize) -> Result<(), AllocError> {
+        self.shrink_to(alloc, least)
+    }
+
+    fn shrink_to_fit(&mut self, alloc: Global) -> Result<(), AllocError> {
+        self.shrink_to_fit(alloc)
+    }
+
+    fn os_str_eq(&self, other: &[u8]) -> bool {
+        self.os_str_eq(other)
+    }
+
+    fn path_eq(&self, other: &[u8]) -> bool {
+        self.path_eq(other)
+    }
+
+    fn path_cmp(&self, other: &[u8]) -> Ordering {
+        self.path_cmp(other)
+    }
+
+    fn there_and_back(self) -> Self {
+        HipOsStr::from(HipByt::from(HipOsStr::from(HipPath::from(self))))
+    }
+
+    fn borrowed_into_owned(alloc: Global, text: &str) -> Result<Self, AllocError> {
+        HipOsStr::borrowed(text)
+            .into_owned(alloc)
+            .or(Err(AllocError))
+    }
+
+    fn with_capacity_push(alloc: Global, capacity: usize, text: &str) -> Result<Self, AllocError> {
+        let mut name = HipOsStr::with_capacity(alloc, capacity)?;
+        name.push(alloc, text)?;
+        Ok(name)
+    }
+
+    fn into_cow(self, alloc: Global) -> Result<CowSlice<'static, u8>, AllocError> {
+        self.into_bytes().into_cow(alloc).or(Err(AllocError))
+    }
+
+    fn into_str(self) -> Result<&'static [u8], Self> {
+        Ok(self.into_str()?.as_borrowed().unwrap_or("").as_bytes())
+    }
+}
+
+impl<B: Backend> OsStr for HipOsStr<'static, B> {
+    fn len(&self) -> usize {
+        self.len()
+    }
+
+    fn is_empty(&self) -> bool {
+        self.is_empty()
+    }
+
+    fn push(&mut self, alloc: Global, addition: &str) -> Result<(), AllocError> {
+        self.push(alloc, addition)
+    }
+
+    fn os_str_cmp(&self, other: &[u8]) -> Ordering {
+        self.os_str_cmp(other)
+    }
+
+    fn to_str(&self, alloc: Global) -> Result<Option<String>, AllocError> {
+        match self.to_str(alloc)? {
+            Some(text) => Ok(Some(String::from_str(alloc, text.as_str())?)),
+            None => Ok(None),
+        }
+    }
+
+    fn to_str_lossy(&self, alloc: Global) -> Result<(String, bool), AllocError> {
+        let text = self.to_str_lossy(alloc)?;
+        Ok((String::from_str(alloc, text.as_str())?, text.is_borrowed()))
+    }
+}
+
+impl<B: Backend> Json for HipOsStr<'static, B> {
+    fn to_json(&self, alloc: Global) -> Result<Value, JsonFault> {
+        self.to_json(alloc).or(Err(JsonFault::Memory))
+    }
+
+    fn from_json(alloc: Global, value: &Value) -> Result<Self, JsonFault> {
+        HipOsStr::from_json(alloc, value)
+    }
+}

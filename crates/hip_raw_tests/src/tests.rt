@@ -1,0 +1,7 @@
+mod allocated;
+mod blocks;
+mod copies;
+mod fuses;
+mod handles;
+mod owners;
+mod support;

@@ -1,0 +1,55 @@
+//! Counted copies, and vectors that are filled.
+use super::support::must;
+use hip_raw::{Filling, Meter, copy_counted, copy_with_capacity, extend_counted, fill_counted};
+use std::alloc::Global;
+use std::process::Abort;
+
+#[test]
+fn room_is_filled(rt: HostRuntime) {
+    let mut meter = Meter::default();
+    let mut room = [0; 3];
+    fill_counted(&mut room, b"abc", &mut meter);
+    assert_eq!(rt; (room, meter.copied()), ([97, 98, 99], 3));
+}
+
+#[test]
+fn copies_are_counted(rt: HostRuntime) {
+    let stars = [b'*'; 42];
+    let mut meter = Meter::new();
+    fill_counted(&mut [0; 3], b"abc", &mut meter);
+    let vec = must(&rt, copy_counted(rt.alloc(), &stars, &mut meter));
+    assert_eq!(rt; (vec.as_slice(), meter.copied()), (stars.as_slice(), 45));
+    let mut roomy = must(&rt, copy_with_capacity(rt.alloc(), b"abc", 30, &mut meter));
+    must(&rt, extend_counted(&mut roomy, b"de", &mut meter));
+    assert_eq!(rt;
+        (roomy.as_slice(), roomy.capacity() >= 30, meter.copied()),
+        (b"abcde".as_slice(), true, 50)
+    );
+}
+
+/// Six bytes, in room for six.
+fn filled(rt: &impl Abort, alloc: Global, meter: &mut Meter) -> Filling {
+    let mut filling = must(rt, Filling::with_capacity(alloc, 6));
+    filling.push_slice_within(b"abc", meter);
+    filling.push_front_within(2, meter);
+    must(rt, filling.push_behind(b"", b"!", meter));
+    filling
+}
+
+#[test]
+fn a_vector_is_filled(rt: HostRuntime) {
+    let mut meter = Meter::new();
+    let mut filling = filled(&rt, rt.alloc(), &mut meter);
+    assert_eq!(rt; (filling.len(), filling.capacity() >= 6), (6, true));
+    must(
+        &rt,
+        filling.push_behind(b", ", b"and more than six", &mut meter),
+    );
+    let mut sum = Meter::new();
+    sum.add(&meter);
+    sum.add(&meter);
+    assert_eq!(rt;
+        (filling.into_vec().as_slice(), sum.copied()),
+        (b"abcab!, and more than six".as_slice(), 50)
+    );
+}

@@ -1,5 +1,0 @@
-use Rattle.std.specs.Char.{is_ascii_digit}
-use Rattle.hip_text_tests.proofs.closures.chosen_digits.Given as goal
-
-abbrev pub ghost-choose_by : goal.ghost-choose_by
-ghost-choose_by a = is_ascii_digit

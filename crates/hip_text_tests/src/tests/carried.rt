@@ -1,0 +1,231 @@
+//! What hipstr's own tests ask of texts, and the worked rows.
+use super::suite::{Suite, on};
+use super::support::{is, must, reads};
+use super::text::{Bytes, Text};
+use hip_text::{Backend, HipStr, Kind, Meter, Rc, Unique};
+use std::alloc::Global;
+use std::borrow::CowStr;
+use std::cmp::Ordering;
+use std::process::Abort;
+
+/// How a text is made.
+#[derive(Clone, Copy)]
+enum Way {
+    Taken,
+    Copied,
+    Lent,
+}
+
+const LETTERS: &str = "abcdefghijklmnopqrstuvwxyz";
+
+const LONG: &str = "aaaaaaaaaaaaaaaaaaaaaaaaaaaaaaaaaaaaaaaaaa";
+
+/// A way, the text that it makes here, and where its bytes lie then.
+const WAYS: &[(Way, &str, Kind)] = &[
+    (Way::Taken, LONG, Kind::Allocated),
+    (Way::Taken, LETTERS, Kind::Allocated),
+    (Way::Copied, "abc", Kind::Inline),
+    (Way::Lent, "abc", Kind::Borrowed),
+];
+
+/// A text that was made in that way.
+fn made<T: Text>(rt: &impl Abort, alloc: Global, way: Way, text: &'static str) -> T {
+    match way {
+        Way::Taken => must(
+            rt,
+            T::from_string(alloc, must(rt, String::from_str(alloc, text))),
+        ),
+        Way::Copied => must(rt, T::from_str(alloc, text)),
+        Way::Lent => T::borrowed(text),
+    }
+}
+
+fn into_strings<T: Text>(rt: &impl Abort, alloc: Global) {
+    for (way, text, kind) in WAYS {
+        let value = made::<T>(rt, alloc, *way, text);
+        assert_eq!(rt; value.kind(), *kind);
+        let string = must(rt, value.into_string_copied(alloc));
+        reads(rt, string.as_str(), text);
+    }
+}
+
+/// Asserts what bytes hold, and where.
+fn has<T: Text>(rt: &impl Abort, bytes: T::Bytes, text: &str, kind: Kind) {
+    assert_eq!(rt; (bytes.as_slice(), bytes.kind()), (text.as_bytes(), kind));
+}
+
+/// By the call of that name, and by `From`.
+fn into_bytes<T: Text>(rt: &impl Abort, alloc: Global) {
+    for (way, text, kind) in WAYS {
+        has::<T>(
+            rt,
+            made::<T>(rt, alloc, *way, text).into_bytes(),
+            text,
+            *kind,
+        );
+        let bytes = made::<T>(rt, alloc, *way, text).into();
+        assert_eq!(rt; bytes.kind(), *kind);
+        let vec = must(rt, bytes.into_vec_copied(alloc));
+        let wanted = text.as_bytes();
+        assert_eq!(rt; vec.as_slice(), wanted);
+    }
+}
+
+fn into_cows<T: Text>(rt: &impl Abort, alloc: Global) {
+    match must(rt, T::from_static("abc").into_cow(alloc)) {
+        CowStr::Borrowed(lent) => reads(rt, lent, "abc"),
+        CowStr::Owned(_) => panic!(rt; "it was copied"),
+    }
+    match must(rt, must(rt, T::from_str(alloc, "abc")).into_cow(alloc)) {
+        CowStr::Owned(owned) => reads(rt, owned.as_str(), "abc"),
+        CowStr::Borrowed(_) => panic!(rt; "it wasn't copied"),
+    }
+}
+
+fn from_bytes<T: Text>(rt: &impl Abort, alloc: Global) {
+    let lent = T::Bytes::borrowed(LETTERS.as_bytes());
+    let text = must(rt, T::from_utf8(must(rt, lent.clone(alloc))));
+    is(rt, text, LETTERS, Kind::Borrowed);
+    is(rt, must(rt, T::from_utf8(lent)), LETTERS, Kind::Borrowed);
+}
+
+fn from_slices<T: Text>(rt: &impl Abort, alloc: Global) {
+    let copied = must(rt, T::try_from_slice(alloc, LETTERS.as_bytes()));
+    is(rt, copied, LETTERS, Kind::Allocated);
+}
+
+fn from_vectors<T: Text>(rt: &impl Abort, alloc: Global) {
+    let vec = must(rt, Vec::from_slice(alloc, LONG.as_bytes()));
+    let taken = must(rt, T::try_from_vec(alloc, vec));
+    is(rt, taken, LONG, Kind::Allocated);
+}
+
+/// Texts compare by their bytes, wherever these lie.
+fn order<T: Text>(rt: &impl Abort, alloc: Global) {
+    let bb = T::borrowed("bb");
+    let string = must(rt, String::from_str(alloc, "bc"));
+    let bc = string.as_str();
+    assert_eq!(rt;
+        (bb.cmp(&bb), T::cmp_borrowed("bb", bc)),
+        (Ordering::Equal, Ordering::Less)
+    );
+    assert_eq!(rt;
+        (T::cmp_borrowed(bc, "bb"), bb.str_cmp(bc)),
+        (Ordering::Greater, Ordering::Less)
+    );
+}
+
+fn equality<T: Text>(rt: &impl Abort, alloc: Global) {
+    for (way, text, _) in WAYS {
+        let value = made::<T>(rt, alloc, *way, text);
+        let clone = must(rt, value.clone(alloc));
+        assert_eq!(rt; (value == clone, value.eq_with(text)), (true, true));
+    }
+}
+
+/// A slice outlives its source, and copies what fits the handle.
+fn outlives<T: Text>(rt: &impl Abort, alloc: Global) {
+    let source = must(rt, T::from_str(alloc, "Hello John"));
+    let mut meter = Meter::new();
+    let name = must(rt, source.slice_metered_from(alloc, 6, &mut meter));
+    drop(source);
+    assert_eq!(rt; meter.copied(), 4);
+    is(rt, name, "John", Kind::Inline);
+}
+
+/// The example of hipstr's own README.
+fn example<T: Text>(rt: &impl Abort, alloc: Global) {
+    let hello = T::from_static("Hello world");
+    let clone = must(rt, hello.clone(alloc));
+    is(rt, clone, "Hello world", Kind::Borrowed);
+    let string = must(rt, String::from_str(alloc, "Hello John"));
+    let source = must(rt, T::from_string(alloc, string));
+    let name = must(rt, source.slice(alloc, 6..10));
+    drop(source);
+    assert_eq!(rt; name.as_str().chars().count(), 4);
+    is(rt, name, "John", Kind::Inline);
+}
+
+/// What is pushed at the limit of the handle, how long the text is then, and where it lies.
+type Pushed = (usize, char, usize, Kind);
+
+const AT_THE_LIMIT: &[Pushed] = &[
+    (19, '😀', 23, Kind::Inline),
+    (21, 'é', 23, Kind::Inline),
+    (20, '😀', 24, Kind::Allocated),
+    (22, 'é', 24, Kind::Allocated),
+];
+
+fn pushes<T: Text>(rt: &impl Abort, alloc: Global) {
+    for (count, c, len, kind) in AT_THE_LIMIT {
+        let mut text = must(rt, T::borrowed("a").repeat(alloc, *count));
+        must(rt, text.push(alloc, *c));
+        assert_eq!(rt;
+            (text.len(), text.kind(), text.pop()),
+            (*len, *kind, Some(*c))
+        );
+    }
+}
+
+fn shortens<T: Text>(rt: &impl Abort, alloc: Global) {
+    let mut text = must(rt, T::from_str(alloc, "aé😀"));
+    for len in [9, 7] {
+        must(rt, text.truncate(len));
+        reads(rt, text.as_str(), "aé😀");
+    }
+    for last in [Some('😀'), Some('é'), Some('a'), None] {
+        assert_eq!(rt; text.pop(), last);
+    }
+    let mut text = must(rt, T::from_str(alloc, "aé😀"));
+    must(rt, text.truncate(3));
+    reads(rt, text.as_str(), "aé");
+}
+
+struct Carried;
+
+impl Suite for Carried {
+    fn run<T: Text>(rt: &impl Abort, alloc: Global) {
+        into_strings::<T>(rt, alloc);
+        into_bytes::<T>(rt, alloc);
+        into_cows::<T>(rt, alloc);
+        from_bytes::<T>(rt, alloc);
+        from_slices::<T>(rt, alloc);
+        from_vectors::<T>(rt, alloc);
+        order::<T>(rt, alloc);
+        equality::<T>(rt, alloc);
+        outlives::<T>(rt, alloc);
+        example::<T>(rt, alloc);
+        pushes::<T>(rt, alloc);
+        shortens::<T>(rt, alloc);
+    }
+}
+
+#[test]
+fn on_rc(rt: HostRuntime) {
+    on::<Carried, Rc>(&rt, rt.alloc());
+}
+
+#[test]
+fn on_unique(rt: HostRuntime) {
+    on::<Carried, Unique>(&rt, rt.alloc());
+}
+
+/// What borrows from a string stays borrowed, beside what borrows from elsewhere.
+fn stays_borrowed<B: Backend>(rt: &impl Abort, alloc: Global) {
+    let string = must(rt, String::from_str(alloc, "abc"));
+    let text = must(
+        rt,
+        HipStr::<B>::from_cow(alloc, CowStr::Borrowed(string.as_str())),
+    );
+    let both = (text, HipStr::<B>::borrowed("abc"));
+    assert_eq!(rt;
+        (both.0.is_borrowed(), both.1.is_borrowed(), both.0.as_str()),
+        (true, true, "abc")
+    );
+}
+
+#[test]
+fn borrowed_from_a_string(rt: HostRuntime) {
+    stays_borrowed::<Rc>(&rt, rt.alloc());
+    stays_borrowed::<Unique>(&rt, rt.alloc());
+}

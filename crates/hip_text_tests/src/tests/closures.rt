@@ -1,0 +1,104 @@
+//! Patterns that are closures.
+ghost use Rattle.std.specs.Prelude.{◌≡◌, ◌==◌, ℕ};
+ghost use Rattle.std.specs.Char.{IsScalar, is_ascii_digit};
+ghost use Rattle.hip_match.specs.Answers.{answer_at};
+
+use super::places::{draws_digits, draws_digits_back};
+use super::walks::gives;
+use hip_cuts::hip_match::chosen::Chosen;
+use hip_cuts::hip_match::pattern::Pattern;
+use hip_cuts::hip_match::predicate::{CharPred, choose_by};
+use hip_cuts::hip_match::ranges::{Ranges, RangesBack};
+use hip_cuts::hip_match::split::Split;
+use hip_cuts::{Backend, HipStr, PiecesAt, Rc, TextCuts, Unique, Walk};
+use std::alloc::{AllocError, Global};
+
+/// That the digits pass.
+fn chosen_digits() -> Chosen
+    ensures { (c : ℕ) → IsScalar c → answer_at result.answers c ≡ is_ascii_digit c }
+{
+    choose_by(&())
+}
+
+/// That `wanted` alone passes.
+pub(crate) fn chosen_for(wanted: char) -> Chosen
+    ensures { (c : ℕ) → IsScalar c → answer_at result.answers c ≡ (c == wanted) }
+{
+    choose_by(&wanted)
+}
+
+/// Whether the parts between the digits are these.
+fn splits_by<B: Backend, P: Pattern>(alloc: Global, pattern: P) -> bool
+    requires { P.can_search pattern }
+{
+    let source = HipStr::<B>::borrowed("a1b22c");
+    gives(source.split(alloc, pattern), &["a", "b", "", "c"])
+}
+
+fn splits<B: Backend>(alloc: Global) -> bool {
+    let pattern = CharPred::with(|c| c.is_ascii_digit(), chosen_digits());
+    splits_by::<B, _>(alloc, pattern)
+}
+
+/// The places of the pieces that are left, as the digits of a number.
+pub(crate) fn places_of<'h, 'b, B: Backend, I: Ranges + Drop>(
+    pieces: PiecesAt<'h, HipStr<'b, B>, I>,
+) -> Result<u64, AllocError>
+    requires { ⟦<PiecesAt<'h, HipStr<'b, B>, I> as Walk>⟧.ready pieces }
+{
+    let mut seen = 0u64;
+    for (place, piece) in pieces {
+        drop(piece?);
+        seen = seen.wrapping_mul(10).wrapping_add(place as u64);
+    }
+    Ok(seen)
+}
+
+/// Those of the parts between digits.
+fn places<B: Backend>(alloc: Global) -> Result<u64, AllocError> {
+    let source = HipStr::<B>::borrowed("a1b22c");
+    let pattern = CharPred::with(|c| c.is_ascii_digit(), chosen_digits());
+    places_of(source.pieces_at(alloc, Split::new(source.as_str(), pattern)))
+}
+
+/// The same from the back.
+fn places_back_of<'h, 'b, B: Backend, I: RangesBack + Drop>(
+    pieces: PiecesAt<'h, HipStr<'b, B>, I>,
+) -> Result<u64, AllocError>
+    requires { ⟦<PiecesAt<'h, HipStr<'b, B>, I> as Walk>⟧.ready pieces }
+{
+    let mut seen = 0u64;
+    for (place, part) in pieces.rev() {
+        drop(part?);
+        seen = seen.wrapping_mul(10).wrapping_add(place as u64);
+    }
+    Ok(seen)
+}
+
+fn places_back<B: Backend>(alloc: Global) -> Result<u64, AllocError> {
+    let source = HipStr::<B>::borrowed("a1b22c");
+    let pattern = CharPred::with(|c| c.is_ascii_digit(), chosen_digits());
+    places_back_of(source.pieces_at(alloc, Split::new(source.as_str(), pattern)))
+}
+
+fn goes<B: Backend>(alloc: Global) -> bool {
+    (places::<B>(alloc), places_back::<B>(alloc)) == (Ok(245), Ok(5420))
+}
+
+fn finds<B: Backend>(alloc: Global) -> bool {
+    let pattern = CharPred::with(|c| c.is_ascii_digit(), chosen_digits());
+    let from_the_end = CharPred::with(|c| c.is_ascii_digit(), chosen_digits());
+    draws_digits::<B, _>(alloc, pattern) & draws_digits_back::<B, _>(alloc, from_the_end)
+}
+
+#[test]
+fn on_rc(rt: HostRuntime) {
+    assert!(rt; splits::<Rc>(rt.alloc()) & finds::<Rc>(rt.alloc()) & goes::<Rc>(rt.alloc()));
+}
+
+#[test]
+fn on_unique(rt: HostRuntime) {
+    assert!(rt;
+        splits::<Unique>(rt.alloc()) & finds::<Unique>(rt.alloc()) & goes::<Unique>(rt.alloc())
+    );
+}

@@ -1,0 +1,58 @@
+//! The kinds of fields, and how many bytes are copied for them.
+use crate::tests::support::must;
+use hip_cuts::{Backend, HipStr, Kind, Meter, Rc, Unique};
+use hip_fields::records_metered;
+use std::alloc::Global;
+use std::process::Abort;
+
+/// One line of two fields, of 40 bytes and of 2.
+const LINE: &str = "aaaaaaaaaaaaaaaaaaaaaaaaaaaaaaaaaaaaaaaa,bc\n";
+
+/// The length and the kind of a field.
+type Seen = (usize, Kind);
+
+/// What is seen of a field, or of none.
+fn seen<B: Backend>(field: Option<&HipStr<'_, B>>) -> Option<Seen> {
+    field.map(|field| (field.len(), field.kind()))
+}
+
+/// Asserts the kinds of the two fields of [`LINE`], and how many bytes were copied for them.
+fn are<B: Backend>(
+    rt: &impl Abort,
+    alloc: Global,
+    source: &HipStr<'_, B>,
+    wanted: (Kind, Kind, u128),
+) {
+    let mut meter = Meter::new();
+    let records = must(rt, records_metered(alloc, source, ',', &mut meter));
+    let fields: &[HipStr<'_, B>] = records.first().map_or(&[], |fields| fields.as_slice());
+    assert_eq!(rt;
+        (records.len(), fields.len(), meter.copied()),
+        (1, 2, wanted.2)
+    );
+    assert_eq!(rt;
+        (seen(fields.first()), seen(fields.last())),
+        (Some((40, wanted.0)), Some((2, wanted.1)))
+    );
+}
+
+fn copied<B: Backend>(rt: &impl Abort, alloc: Global) -> HipStr<'static, B> {
+    must(rt, HipStr::from_str(alloc, LINE))
+}
+
+/// The 40 bytes share the text's owner, where owners are shared; the 2 are copied into the field itself.
+#[test]
+fn allocated(rt: HostRuntime) {
+    let wanted = (Kind::Allocated, Kind::Inline, 2);
+    are::<Rc>(&rt, rt.alloc(), &copied(&rt, rt.alloc()), wanted);
+    let wanted = (Kind::Allocated, Kind::Inline, 42);
+    are::<Unique>(&rt, rt.alloc(), &copied(&rt, rt.alloc()), wanted);
+}
+
+/// None copies any of a borrowed text.
+#[test]
+fn borrowed(rt: HostRuntime) {
+    let wanted = (Kind::Borrowed, Kind::Borrowed, 0);
+    are::<Rc>(&rt, rt.alloc(), &HipStr::borrowed(LINE), wanted);
+    are::<Unique>(&rt, rt.alloc(), &HipStr::borrowed(LINE), wanted);
+}

@@ -1,0 +1,56 @@
+//! What ends a test, and what several modules assert.
+use super::text::{FromUtf8Error, Text};
+use hip_text::Kind;
+use std::alloc::{AllocError, Global};
+use std::fmt;
+use std::process::Abort;
+
+/// The value, or the end of the test where it was refused. A test with no way out but this is a straight line, and cheap to prove.
+pub(crate) fn must<T, E: Drop>(rt: &impl Abort, outcome: Result<T, E>) -> T {
+    match outcome {
+        Ok(value) => value,
+        Err(_) => panic!(rt; "a call was refused"),
+    }
+}
+
+/// Asserts what a text holds, and where.
+pub(crate) fn holds<T: Text>(rt: &impl Abort, text: &T, items: &str, kind: Kind) {
+    assert_eq!(rt;
+        (text.as_str(), text.len(), text.kind()),
+        (items, items.len(), kind)
+    );
+}
+
+/// The same of a text that nothing else is asked of.
+pub(crate) fn is<T: Text>(rt: &impl Abort, text: T, items: &str, kind: Kind) {
+    holds(rt, &text, items, kind);
+}
+
+/// What a refused call answers, or the end of the test where it wasn't refused.
+pub(crate) fn must_refuse<T: Drop, E>(rt: &impl Abort, outcome: Result<T, E>) -> E {
+    match outcome {
+        Ok(_) => panic!(rt; "a call wasn't refused"),
+        Err(error) => error,
+    }
+}
+
+/// Asserts how a string reads.
+pub(crate) fn reads(rt: &impl Abort, string: &str, wanted: &str) {
+    assert_eq!(rt; string, wanted);
+}
+
+/// Where the longest front that is UTF-8 ends, and how long what is wrong there is, where it doesn't just end.
+pub(crate) fn cause_of<E: FromUtf8Error>(error: &E) -> (usize, Option<usize>) {
+    let cause = error.utf8_error();
+    (cause.valid_up_to(), cause.error_len())
+}
+
+/// A value as `Display` shows it.
+pub(crate) fn shown<T: fmt::Display>(alloc: Global, value: &T) -> Result<String, AllocError> {
+    format!(in alloc; "{value}")
+}
+
+/// A value as `Debug` shows it.
+pub(crate) fn debugged<T: fmt::Debug>(alloc: Global, value: &T) -> Result<String, AllocError> {
+    format!(in alloc; "{value:?}")
+}

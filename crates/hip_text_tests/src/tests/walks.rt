@@ -1,0 +1,112 @@
+//! Pieces that are drawn without a meter, from either end. Each walk's pieces, counted, are those of `hipstr::run` (`ways` of hip_checks).
+use super::fields::{has_fields, longest_drawn, longest_field};
+use hip_cuts::hip_match::ranges::RangesBack;
+use hip_cuts::{Backend, HipStr, IterWrapper, Rc, TextCuts, Unique, Unnumbered};
+use std::alloc::{AllocError, Global};
+
+/// Whether this piece was drawn.
+fn is_piece<B: Backend>(drawn: Option<Result<HipStr<'_, B>, AllocError>>, want: &str) -> bool {
+    match drawn {
+        Some(Ok(piece)) => piece.str_eq(want),
+        _ => false,
+    }
+}
+
+/// Whether this piece is drawn from the front.
+fn draws_first<'h, 'b, B: Backend, I: Unnumbered>(
+    pieces: &mut IterWrapper<'h, 'b, B, I>,
+    want: &str,
+) -> bool {
+    is_piece(pieces.next(), want)
+}
+
+/// Whether the pieces are these texts, from the front, and then none.
+pub(crate) fn gives<'h, 'b, B: Backend, I: Unnumbered + Drop>(
+    mut pieces: IterWrapper<'h, 'b, B, I>,
+    want: &[&str],
+) -> bool {
+    let mut is_same = true;
+    for text in want {
+        is_same &= draws_first(&mut pieces, text);
+    }
+    is_same & pieces.next().is_none()
+}
+
+/// Whether this piece is the last.
+fn gives_last<'h, 'b, B: Backend, I: Unnumbered + RangesBack + Drop>(
+    mut pieces: IterWrapper<'h, 'b, B, I>,
+    want: &str,
+) -> bool {
+    is_piece(pieces.next_back(), want)
+}
+
+/// Whether this was drawn, or nothing.
+fn is_drawn<B: Backend>(
+    drawn: Option<Result<HipStr<'_, B>, AllocError>>,
+    want: Option<&str>,
+) -> bool {
+    match want {
+        Some(want) => is_piece(drawn, want),
+        None => drawn.is_none(),
+    }
+}
+
+/// Whether the script, a bit for each end, draws these pieces, and none again and again once none is left.
+fn follows<'h, 'b, B: Backend, I: Unnumbered + RangesBack + Drop>(
+    mut pieces: IterWrapper<'h, 'b, B, I>,
+    script: u8,
+    mut left: &[&str],
+) -> bool {
+    let mut is_same = true;
+    for step in [1u8, 2, 4, 8, 16, 32] {
+        if script & step == 0 {
+            is_same &= is_drawn(pieces.next(), left.first().copied());
+            left = left.get(1..).unwrap_or_default();
+        } else {
+            is_same &= is_drawn(pieces.next_back(), left.last().copied());
+            left = left.get(..left.len().saturating_sub(1)).unwrap_or_default();
+        }
+    }
+    for _ in 0..3 {
+        is_same &= pieces.next().is_none() & pieces.next_back().is_none();
+    }
+    is_same
+}
+
+/// Whether every script of six ends draws the pieces of a copied text.
+fn follows_all<B: Backend>(alloc: Global) -> bool {
+    let Ok(source) = HipStr::<B>::from_str(alloc, "a,b,c,d") else {
+        return false;
+    };
+    let mut is_same = true;
+    for script in 0..64 {
+        is_same &= follows(source.split(alloc, ','), script, &["a", "b", "c", "d"]);
+    }
+    is_same
+}
+
+fn draws<B: Backend>(alloc: Global) -> bool {
+    let source = HipStr::<B>::borrowed("a,bc,,é");
+    gives(source.split(alloc, ','), &["a", "bc", "", "é"])
+        & gives_last(source.split(alloc, ','), "é")
+}
+
+fn reads_fields<B: Backend>(alloc: Global) -> bool {
+    let line = HipStr::<B>::borrowed("a,bcd,,é");
+    (longest_field(&line, alloc) == Ok(3))
+        & (longest_drawn(&line, alloc) == 3)
+        & (has_fields(&line, 4, alloc) == Ok(true))
+        & (has_fields(&line, 3, alloc) == Ok(false))
+}
+
+#[test]
+fn on_rc(rt: HostRuntime) {
+    assert!(rt; draws::<Rc>(rt.alloc()) & reads_fields::<Rc>(rt.alloc()));
+    assert!(rt; follows_all::<Rc>(rt.alloc()));
+}
+
+#[test]
+fn on_unique(rt: HostRuntime) {
+    assert!(rt; draws::<Unique>(rt.alloc()) & reads_fields::<Unique>(rt.alloc()));
+    assert!(rt; follows_all::<Unique>(rt.alloc()));
+}

@@ -1,0 +1,136 @@
+//! Why a use gave nothing.
+ghost use Rattle.std.specs.Prelude.{◌≡◌};
+ghost use Rattle.hip_uses.specs.declared.fault.InternFault.TheVariants.{Memory as intern_memory};
+ghost use Rattle.hip_uses.specs.declared.fault.PublishFault.TheVariants.{Memory as publish_memory};
+ghost use Rattle.hip_uses.specs.declared.fault.TableFault.TheVariants.{Memory as table_memory};
+ghost use Rattle.hip_uses.specs.declared.fault.TemplateFault.TheVariants.{Memory as template_memory};
+
+use hipstr::Backend;
+use hipstr::string::HipStr;
+use std::alloc::{AllocError, AllocFailed};
+use std::fmt;
+
+/// Why a text got no number.
+#[derive(Clone, Copy, Debug, PartialEq, Eq)]
+pub enum InternFault {
+    /// There are as many texts as numbers.
+    TooMany,
+    Memory,
+}
+
+impl From<AllocError> for InternFault {
+    ghost from_gives = { λ _ fault. fault ≡ intern_memory };
+
+    fn from(_: AllocError) -> Self {
+        InternFault::Memory
+    }
+}
+
+impl<T: Drop> From<AllocFailed<T>> for InternFault {
+    ghost from_gives = { λ _ fault. fault ≡ intern_memory };
+
+    fn from(_: AllocFailed<T>) -> Self {
+        InternFault::Memory
+    }
+}
+
+impl fmt::Display for InternFault {
+    fn fmt<W: fmt::Write>(&self, f: &mut fmt::Formatter<W>) -> fmt::Result {
+        f.write_str(match self {
+            InternFault::TooMany => "too many different texts",
+            InternFault::Memory => "out of memory",
+        })
+    }
+}
+
+/// Why a message was not taken.
+#[derive(Clone, Copy, Debug, PartialEq, Eq)]
+pub enum PublishFault {
+    /// A subscriber has as many messages waiting as it may.
+    Full,
+    Memory,
+}
+
+impl From<AllocError> for PublishFault {
+    ghost from_gives = { λ _ fault. fault ≡ publish_memory };
+
+    fn from(_: AllocError) -> Self {
+        PublishFault::Memory
+    }
+}
+
+impl fmt::Display for PublishFault {
+    fn fmt<W: fmt::Write>(&self, f: &mut fmt::Formatter<W>) -> fmt::Result {
+        f.write_str(match self {
+            PublishFault::Full => "a queue is full",
+            PublishFault::Memory => "out of memory",
+        })
+    }
+}
+
+/// Why a text is no table.
+#[derive(Clone, Copy, Debug, PartialEq, Eq)]
+pub enum TableFault {
+    /// It has no line.
+    Empty,
+    /// This line, counted from 1, has another number of fields than the header.
+    Ragged(usize),
+    Memory,
+}
+
+impl From<AllocError> for TableFault {
+    ghost from_gives = { λ _ fault. fault ≡ table_memory };
+
+    fn from(_: AllocError) -> Self {
+        TableFault::Memory
+    }
+}
+
+impl fmt::Display for TableFault {
+    fn fmt<W: fmt::Write>(&self, f: &mut fmt::Formatter<W>) -> fmt::Result {
+        match self {
+            TableFault::Empty => f.write_str("no header"),
+            TableFault::Ragged(line) => write!(
+                f,
+                "line {line}: another number of fields than the header"
+            ),
+            TableFault::Memory => f.write_str("out of memory"),
+        }
+    }
+}
+
+/// Why a template gave no text.
+#[derive(Drop)]
+pub enum TemplateFault<'b, B: Backend> {
+    /// No `}}` follows a `{{`. Holds the text behind it.
+    Unclosed(HipStr<'b, B>),
+    /// Nothing goes under this name.
+    Unknown(HipStr<'b, B>),
+    Memory,
+}
+
+impl<'b, B: Backend> From<AllocError> for TemplateFault<'b, B> {
+    ghost from_gives = { λ _ fault. fault ≡ template_memory };
+
+    fn from(_: AllocError) -> Self {
+        TemplateFault::Memory
+    }
+}
+
+impl<'b, B: Backend, T: Drop> From<AllocFailed<T>> for TemplateFault<'b, B> {
+    ghost from_gives = { λ _ fault. fault ≡ template_memory };
+
+    fn from(_: AllocFailed<T>) -> Self {
+        TemplateFault::Memory
+    }
+}
+
+impl<'b, B: Backend> fmt::Display for TemplateFault<'b, B> {
+    fn fmt<W: fmt::Write>(&self, f: &mut fmt::Formatter<W>) -> fmt::Result {
+        match self {
+            TemplateFault::Unclosed(text) => write!(f, "no `}}}}` in `{text}`"),
+            TemplateFault::Unknown(name) => write!(f, "nothing under `{name}`"),
+            TemplateFault::Memory => f.write_str("out of memory"),
+        }
+    }
+}

@@ -1,0 +1,124 @@
+-- Commands that are a call on one slot, which changes where it stands.
+use Rattle.std.proofs.Common.{◌≡◌, ◌∙◌, ℕ, ◌<◌, inl, inr, Bool, true, false, List, length, map, get_or, slice_set, Option, Some, None, Result, Ok, Err, MatchOption, ap, refl, subst, sym}
+use Rattle.std.proofs.Math.ListN.{get_or-map}
+use Rattle.std.proofs.lemmas.List.{get_or_default}
+use Rattle.std.specs.Borrow.{Bor}
+use Rattle.std.specs.Option.{option_or}
+use Rattle.hip_bytes.specs.Change.{IsPushed, IsRewritten, IsShortened}
+use Rattle.hip_bytes.specs.Cost.{OwnNeedsMemory, PushNeedsMemory, WriteNeedsMemory}
+use Rattle.hip_bytes.specs.Handle.{Handle}
+use Rattle.hip_bytes.specs.Made.{IsOwned}
+use Rattle.hipstr.proofs.Places.{put-is}
+use Rattle.hipstr.proofs.Steps.{as-it-was, faulted, neither, no-other, performed, replaced, slot-there}
+use Rattle.hipstr.specs.Reason.{answer_of}
+use Rattle.hipstr.specs.Slot.{Replaces, SlotState, empty_slot, slot_at, state_at, state_of, text_at}
+use Rattle.hipstr.specs.Step.{IsHalfMutated, Performs, SlotAnswers, SlotMutates, SlotPops, Step, addition_fault, end_fault, fault_of, not_text_fault, set_fault, slot_fault, text_fault}
+use Rattle.hipstr.specs.declared.command.Answer.{Answer}
+use Rattle.hipstr.specs.declared.command.Answer.TheVariants.{Byte, Char, Done, Nothing, Refused}
+use Rattle.hipstr.specs.declared.command.Command.{Command}
+use Rattle.hipstr.specs.declared.command.Command.TheVariants.{Bytes, Mutate, Owned, Pop, Push, Set, Text, Truncate}
+use Rattle.hipstr.specs.declared.command.Reason.{Reason}
+use Rattle.hipstr.specs.declared.command.Reason.TheVariants.{Memory}
+use Rattle.hipstr.specs.declared.pool.Slot.{Slot}
+
+-- the slot at t became another, and no other slot did
+pub record InPlace (old new : List SlotState) (t : ℕ) (was slot : SlotState) : Type 0 where
+  pub within : t < length old
+  pub is_was : was ≡ state_at old t
+  pub put : new ≡ slice_set old t slot
+
+pub in-place : {B S P : Type 0} (items : List (Slot B S P)) (old : List SlotState) (t : ℕ) (now changed : Slot B S P) → map state_of items ≡ old → t < length old → now ≡ get_or items t now
+    → InPlace old (map state_of (slice_set items t changed)) t (state_of now) (state_of changed)
+in-place items old t now changed view within is = record {
+  within = within;
+  is_was = ap state_of is ∙ sym (get_or-map state_of items t now) ∙ ap (λ l. get_or l t (state_of now)) view ∙ get_or_default old t (state_of now) empty_slot within;
+  put = put-is items old t changed view;
+}
+
+-- a call that may be refused
+slot-step : (shares : Bool) {old new : List SlotState} {t : ℕ} {was slot : SlotState} (at : InPlace old new t was slot) (command : Command) (fault : SlotState → Option Reason) (Needs : SlotState → Type 0)
+    (is_text : SlotState → Bool) (P : Handle → Handle → Type 0) (result : Result Answer Reason) → fault_of old command ≡ option_or (slot_fault old t) (fault (state_at old t))
+    → SlotAnswers (fault was) (Needs was) (is_text was) (P was.handle) was result slot
+    → (Replaces old new t (is_text (state_at old t)) (P (slot_at old t)) → Performs shares old command Done new) → (Needs (state_at old t) → new ≡ old → Performs shares old command (Refused Memory) new)
+    → Step shares old command (answer_of result) new
+slot-step shares {old} {new} {t} {was} {slot} at command fault Needs is_text P result is answers done refused =
+    by-result result (fault (state_at old t)) is (subst (λ (s : SlotState). SlotAnswers (fault s) (Needs s) (is_text s) (P s.handle) s result slot) at.is_was answers) where
+      there : slot_fault old t ≡ None
+      there = slot-there old t at.within
+
+      by-result : (result : Result Answer Reason) (first : Option Reason) → fault_of old command ≡ option_or (slot_fault old t) first
+          → SlotAnswers first (Needs (state_at old t)) (is_text (state_at old t)) (P (slot_at old t)) (state_at old t) result slot → Step shares old command (answer_of result) new
+      by-result (Ok answer) first is answers =
+          subst (λ (answer : Answer). Step shares old command answer new) (sym answers.1)
+          (performed shares old command Done new (is ∙ neither (slot_fault old t) first there answers.0) (done (replaced old new t slot _ _ at.within at.put answers.2 answers.3)))
+      by-result (Err reason) None is answers =
+          subst (λ (reason : Reason). Step shares old command (Refused reason) new) (sym answers.0.0)
+          (performed shares old command (Refused Memory) new (is ∙ neither (slot_fault old t) None there refl) (refused answers.0.1 (as-it-was old new t slot at.put answers.1)))
+      by-result (Err reason) (Some first) is answers =
+          subst (λ (reason : Reason). Step shares old command (Refused reason) new) (sym answers.0)
+          (faulted shares old new command first (is ∙ ap (λ (none : Option Reason). option_or none (Some first)) there) (as-it-was old new t slot at.put answers.1))
+
+-- what a refused Mutate leaves of a slot, by its fault
+abbrev AfterRefusal : SlotState → SlotState → Reason → Option Reason → Type 0
+AfterRefusal old new reason fault =
+    MatchOption fault ((reason ≡ Memory) × (new.is_text ≡ old.is_text) × IsHalfMutated old.handle new.handle) (λ first. (reason ≡ first) × (new ≡ old))
+
+module _ (shares : Bool) {old new : List SlotState} {t : ℕ} {was slot : SlotState} (at : InPlace old new t was slot) where
+  pub push-step : (bytes : Bor (List ℕ)) (result : Result Answer Reason) → SlotAnswers (addition_fault was bytes.now)
+      (PushNeedsMemory shares was.handle.kind was.handle.capacity (length was.handle.items) (length bytes.now)) was.is_text (λ new. IsPushed shares was.handle new bytes.now) was result slot
+      → Step shares old (Push t bytes) (answer_of result) new
+  push-step bytes result answers =
+      slot-step shares at (Push t bytes) (λ slot. addition_fault slot bytes.now) (λ slot. PushNeedsMemory shares slot.handle.kind slot.handle.capacity (length slot.handle.items) (length bytes.now))
+      (λ slot. slot.is_text) (λ was now. IsPushed shares was now bytes.now) result refl answers (λ done. done) (λ needs same. (needs, same))
+
+  pub truncate-step : (n : ℕ) (result : Result Answer Reason) → SlotAnswers (end_fault was n) ⊥ was.is_text (λ new. IsShortened was.handle new n) was result slot → Step shares old (Truncate t n) (answer_of result) new
+  truncate-step n result answers = slot-step shares at (Truncate t n) (λ slot. end_fault slot n) (λ slot. ⊥) (λ slot. slot.is_text) (λ was now. IsShortened was now n) result refl answers (λ done. done) (λ never same. absurd never)
+
+  pub set-step : (i byte : ℕ) (result : Result Answer Reason) → SlotAnswers (set_fault was i) (WriteNeedsMemory shares was.handle.kind (length was.handle.items)) false
+      (λ new. IsRewritten shares was.handle new (slice_set was.handle.items i byte)) was result slot → Step shares old (Set t i byte) (answer_of result) new
+  set-step i byte result answers =
+      slot-step shares at (Set t i byte) (λ slot. set_fault slot i) (λ slot. WriteNeedsMemory shares slot.handle.kind (length slot.handle.items)) (λ slot. false)
+      (λ was now. IsRewritten shares was now (slice_set was.items i byte)) result refl answers (λ done. done) (λ needs same. (needs, same))
+
+  pub owned-step : (result : Result Answer Reason) → SlotAnswers None (OwnNeedsMemory was.handle.kind (length was.handle.items)) was.is_text (IsOwned was.handle) was result slot → Step shares old (Owned t) (answer_of result) new
+  owned-step result answers =
+      slot-step shares at (Owned t) (λ slot. None) (λ slot. OwnNeedsMemory slot.handle.kind (length slot.handle.items)) (λ slot. slot.is_text) IsOwned result (no-other (slot_fault old t)) answers
+      (λ done. done) (λ needs same. (needs, same))
+
+  pub text-step : (result : Result Answer Reason) → SlotAnswers (text_fault was) ⊥ true (λ new. new ≡ was.handle) was result slot → Step shares old (Text t) (answer_of result) new
+  text-step result answers = slot-step shares at (Text t) text_fault (λ slot. ⊥) (λ slot. true) (λ was now. now ≡ was) result refl answers (λ done. done) (λ never same. absurd never)
+
+  pub bytes-step : (result : Result Answer Reason) → SlotAnswers (not_text_fault was) ⊥ false (λ new. new ≡ was.handle) was result slot → Step shares old (Bytes t) (answer_of result) new
+  bytes-step result answers = slot-step shares at (Bytes t) not_text_fault (λ slot. ⊥) (λ slot. false) (λ was now. now ≡ was) result refl answers (λ done. done) (λ never same. absurd never)
+
+  pub mutate-step : (bytes : Bor (List ℕ)) (result : Result Answer Reason) → SlotMutates bytes.now was result slot → Step shares old (Mutate t bytes) (answer_of result) new
+  mutate-step bytes result answers =
+      by-result result (addition_fault (state_at old t) bytes.now) refl (subst (λ (s : SlotState). SlotMutates bytes.now s result slot) at.is_was answers) where
+        there : slot_fault old t ≡ None
+        there = slot-there old t at.within
+
+        half : slot.is_text ≡ text_at old t → IsHalfMutated (slot_at old t) slot.handle → Performs shares old (Mutate t bytes) (Refused Memory) new
+        half flag (inl same) = inl (as-it-was old new t slot at.put (λ i. record { is_text = flag i; handle = same i }))
+        half flag (inr (inl holds)) = inr (inl (replaced old new t slot _ _ at.within at.put flag holds))
+        half flag (inr (inr empty)) = inr (inr (replaced old new t slot _ _ at.within at.put flag empty))
+
+        by-result : (result : Result Answer Reason) (first : Option Reason) → addition_fault (state_at old t) bytes.now ≡ first → SlotMutates bytes.now (state_at old t) result slot → Step shares old (Mutate t bytes) (answer_of result) new
+        by-result (Ok answer) first is answers =
+            subst (λ (answer : Answer). Step shares old (Mutate t bytes) answer new) (sym answers.1)
+            (performed shares old (Mutate t bytes) Done new (neither (slot_fault old t) _ there answers.0) (replaced old new t slot _ _ at.within at.put answers.2 answers.3))
+        by-result (Err reason) None is answers =
+            let left = subst (AfterRefusal (state_at old t) slot reason) is answers in
+            subst (λ (reason : Reason). Step shares old (Mutate t bytes) (Refused reason) new) (sym left.0)
+            (performed shares old (Mutate t bytes) (Refused Memory) new (neither (slot_fault old t) _ there is) (half left.1 left.2))
+        by-result (Err reason) (Some first) is answers =
+            let kept = subst (AfterRefusal (state_at old t) slot reason) is answers in
+            subst (λ (reason : Reason). Step shares old (Mutate t bytes) (Refused reason) new) (sym kept.0)
+            (faulted shares old new (Mutate t bytes) first (ap (λ (none : Option Reason). option_or none (addition_fault (state_at old t) bytes.now)) there ∙ is) (as-it-was old new t slot at.put kept.1))
+
+  pub pop-step : (answer : Answer) → SlotPops was answer slot → Step shares old (Pop t) answer new
+  pop-step answer pops = performed shares old (Pop t) answer new (slot-there old t at.within) (by-answer answer (subst (λ (s : SlotState). SlotPops s answer slot) at.is_was pops)) where
+    by-answer : (answer : Answer) → SlotPops (state_at old t) answer slot → Performs shares old (Pop t) answer new
+    by-answer (Byte byte) pops = (pops.0, replaced old new t slot _ _ at.within at.put pops.1 pops.2)
+    by-answer (Char c) pops = (pops.0, replaced old new t slot _ _ at.within at.put pops.1 pops.2)
+    by-answer Nothing pops = (pops.0, as-it-was old new t slot at.put pops.1)
+    by-answer answer pops = absurd pops
