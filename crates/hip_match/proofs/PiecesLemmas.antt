@@ -42,30 +42,17 @@ InOrderBack-le (m ∷ ms) i n h =
     let later : i ≤ m.0 = InOrderBack-le ms i m.0 h.2 in
     omega arith
 
--- a range that comes unless a test holds, and none behind it
-pub unless-first : (test : Bool) (part : ℕ × ℕ) (l new : List (ℕ × ℕ)) (r : Option (ℕ × ℕ)) → l ≡ (if test then [] else part ∷ []) → r ≡ (if test then None else Some part) → new ≡ []
-    → MatchOption r ((l ≡ []) × (new ≡ [])) (λ first. l ≡ first ∷ new)
-unless-first true part l new r left given none = rw given (left, none)
-unless-first false part l new r left given none = rw given (left ∙ ap (λ m. part ∷ m) (sym none))
-
-pub unless-holds : (test : Bool) (part : ℕ × ℕ) (r : Option (ℕ × ℕ)) (P : ℕ × ℕ → Type 0) → r ≡ (if test then None else Some part) → P part → IfSome r P
-unless-holds true part r P given holds = rw given _
-unless-holds false part r P given holds = rw given holds
-
 -- the last range that is given
-pub at_most_to-none : (count n : ℕ) (rs : List (ℕ × ℕ)) → count ≡ 0 → at_most_to count rs n ≡ []
-at_most_to-none count n rs over = ap (λ k. at_most_to k rs n) over
+pub at_most_to-one : (count i n : ℕ) (ms : List (ℕ × ℕ)) → ¬ (count ≡ 0) → count ≤ 1 → at_most_to count (gaps i ms n) n ≡ (i, n) ∷ []
+at_most_to-one zero i n ms some few = absurd (some refl)
+at_most_to-one (suc zero) i n [] some few = refl
+at_most_to-one (suc zero) i n (m ∷ ms) some few = refl
+at_most_to-one (suc (suc k)) i n ms some few = absurd (omega arith)
 
-pub at_most_to-few : (count i n : ℕ) (ms : List (ℕ × ℕ)) → count ≤ 1 → at_most_to count (gaps i ms n) n ≡ (if count == 0 then [] else (i, n) ∷ [])
-at_most_to-few zero i n ms few = refl
-at_most_to-few (suc zero) i n [] few = refl
-at_most_to-few (suc zero) i n (m ∷ ms) few = refl
-at_most_to-few (suc (suc k)) i n ms few = absurd (omega arith)
-
-pub at_most_to-end : (count i n : ℕ) (ms : List (ℕ × ℕ)) → ms ≡ [] → at_most_to count (gaps i ms n) n ≡ (if count == 0 then [] else (i, n) ∷ [])
-at_most_to-end zero i n ms h = refl
-at_most_to-end (suc zero) i n ms h = ap (λ l. at_most_to 1 (gaps i l n) n) h
-at_most_to-end (suc (suc k)) i n ms h = ap (λ l. at_most_to (suc (suc k)) (gaps i l n) n) h ∙ sym (cond-false _ _ _ (ne_eqb (suc (suc k)) 0 (omega arith)))
+pub at_most_to-end : (count i n : ℕ) (ms : List (ℕ × ℕ)) → ¬ (count ≡ 0) → ms ≡ [] → at_most_to count (gaps i ms n) n ≡ (i, n) ∷ []
+at_most_to-end zero i n ms some h = absurd (some refl)
+at_most_to-end (suc zero) i n ms some h = ap (λ l. at_most_to 1 (gaps i l n) n) h
+at_most_to-end (suc (suc k)) i n ms some h = ap (λ l. at_most_to (suc (suc k)) (gaps i l n) n) h
 
 -- a range, and fewer after it
 pub at_most_to-more : (count i n : ℕ) (m : ℕ × ℕ) (ms ls : List (ℕ × ℕ)) → 1 < count → ms ≡ m ∷ ls
@@ -77,10 +64,10 @@ at_most_to-more (suc (suc k)) i n m ms ls more h =
     ap (λ l. at_most_to (suc (suc k)) (gaps i l n) n) h ∙ ap (λ c. (i, m.0) ∷ at_most_to c (gaps m.1 ls n) n) (sym same)
 
 -- the same from the back
-pub at_most_from-end : (count i n : ℕ) (ms : List (ℕ × ℕ)) → ms ≡ [] → at_most_from count (gaps_back i ms n) i ≡ (if count == 0 then [] else (i, n) ∷ [])
-at_most_from-end zero i n ms h = refl
-at_most_from-end (suc zero) i n ms h = ap (λ l. at_most_from 1 (gaps_back i l n) i) h
-at_most_from-end (suc (suc k)) i n ms h = ap (λ l. at_most_from (suc (suc k)) (gaps_back i l n) i) h ∙ sym (cond-false _ _ _ (ne_eqb (suc (suc k)) 0 (omega arith)))
+pub at_most_from-end : (count i n : ℕ) (ms : List (ℕ × ℕ)) → ¬ (count ≡ 0) → ms ≡ [] → at_most_from count (gaps_back i ms n) i ≡ (i, n) ∷ []
+at_most_from-end zero i n ms some h = absurd (some refl)
+at_most_from-end (suc zero) i n ms some h = ap (λ l. at_most_from 1 (gaps_back i l n) i) h
+at_most_from-end (suc (suc k)) i n ms some h = ap (λ l. at_most_from (suc (suc k)) (gaps_back i l n) i) h
 
 pub at_most_from-more : (count i n : ℕ) (m : ℕ × ℕ) (ms ls : List (ℕ × ℕ)) → 1 < count → ms ≡ m ∷ ls
     → at_most_from count (gaps_back i ms n) i ≡ (m.1, n) ∷ at_most_from (count - 1) (gaps_back i ls m.0) i
@@ -90,14 +77,11 @@ at_most_from-more (suc (suc k)) i n m ms ls more h =
     let same : suc (suc k) - 1 ≡ suc k = omega arith in
     ap (λ l. at_most_from (suc (suc k)) (gaps_back i l n) i) h ∙ ap (λ c. (m.1, n) ∷ at_most_from c (gaps_back i ls m.0) i) (sym same)
 
-pub at_most_from-none : (count i : ℕ) (rs : List (ℕ × ℕ)) → count ≡ 0 → at_most_from count rs i ≡ []
-at_most_from-none count i rs over = ap (λ k. at_most_from k rs i) over
-
-pub at_most_from-few : (count i n : ℕ) (ms : List (ℕ × ℕ)) → count ≤ 1 → at_most_from count (gaps_back i ms n) i ≡ (if count == 0 then [] else (i, n) ∷ [])
-at_most_from-few zero i n ms few = refl
-at_most_from-few (suc zero) i n [] few = refl
-at_most_from-few (suc zero) i n (m ∷ ms) few = refl
-at_most_from-few (suc (suc k)) i n ms few = absurd (omega arith)
+pub at_most_from-one : (count i n : ℕ) (ms : List (ℕ × ℕ)) → ¬ (count ≡ 0) → count ≤ 1 → at_most_from count (gaps_back i ms n) i ≡ (i, n) ∷ []
+at_most_from-one zero i n ms some few = absurd (some refl)
+at_most_from-one (suc zero) i n [] some few = refl
+at_most_from-one (suc zero) i n (m ∷ ms) some few = refl
+at_most_from-one (suc (suc k)) i n ms some few = absurd (omega arith)
 
 -- a last empty piece, left out
 without_empty_last-gaps : (x : ℕ × ℕ) (i n : ℕ) (ms : List (ℕ × ℕ)) → without_empty_last (x ∷ gaps i ms n) ≡ x ∷ without_empty_last (gaps i ms n)
@@ -206,6 +190,9 @@ TakesLastCut-at old mid new n m (Some y) is full ge later some i h =
       omega arith,
       InOrder-widen new i y.0 y.1 inner.0 (omega arith),
     )
+
+pub ended-nil : (i n : ℕ) → i ≤ n → n ≤ i → ended i [] n ≡ []
+ended-nil i n low high = cond-true _ _ _ (eq-eqb i n (omega arith))
 
 -- the ranges that hold something, but for one at an end
 pub nonempty-append : (l : List (ℕ × ℕ)) (x : ℕ × ℕ) → nonempty (l ++ x ∷ []) ≡ nonempty l ++ nonempty (x ∷ [])

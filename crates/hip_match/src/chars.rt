@@ -106,7 +106,7 @@ pub(crate) fn char_before(text: &str, to: usize) -> Option<(char, usize)>
 }
 
 /// A set of characters. It occurs in a text at each character that belongs.
-pub(crate) trait CharSet: Drop {
+pub(crate) trait CharSet {
     /// What a test asks of the set.
     ghost can_test: { Self → Type 0 } = { λ _. Unit {0} };
 

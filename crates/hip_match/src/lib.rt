@@ -7,8 +7,8 @@
 //!   clones of a [`ClonePattern`] are found where it is.
 //! - [`Ranges`] is a walk from its front, [`RangesBack`] from both ends, and the clones of [`CloneRanges`] give what they do: [`Split`],
 //!   [`SplitInclusive`], [`SplitTerminator`], [`SplitN`], [`Matches`] and [`MatchIndices`] from a text's front, [`RSplit`],
-//!   [`RSplitTerminator`], [`RSplitN`], [`RMatches`] and [`RMatchIndices`] from its end (both kinds of [`Indices`] are one struct),
-//!   [`Lines`], [`SplitWhitespace`] and [`SplitAsciiWhitespace`].
+//!   [`RSplitTerminator`], [`RSplitN`], [`RMatches`] and [`RMatchIndices`] from its end, [`Lines`], [`SplitWhitespace`] and
+//!   [`SplitAsciiWhitespace`].
 //! - [`trim_start`], [`trim_end`], [`trim::trim`] and [`trim_matches`] with its kin, [`strip_prefix`], [`strip_suffix`], [`split_once`]
 //!   and [`rsplit_once`] give one range or two.
 //! - [`draw_into`] draws a walk by a script of [`End`]s.
@@ -28,7 +28,6 @@ mod ascii_space;
 mod boundaries;
 mod chars;
 pub mod chosen;
-mod cut_off;
 pub mod draw;
 pub mod laws;
 pub mod lines;
@@ -43,12 +42,11 @@ pub mod split;
 pub mod texts;
 pub mod trim;
 pub mod white_space;
-mod window;
 
 pub use chosen::Chosen;
 pub use draw::{End, draw_into};
 pub use lines::Lines;
-pub use matches::{Indices, MatchIndices, Matches};
+pub use matches::{MatchIndices, Matches};
 pub use pattern::{ClonePattern, DoubleEndedPattern, OneChar, Pattern, ReversePattern};
 pub use predicate::{CharPred, choose_by};
 pub use ranges::{CloneRanges, Ranges, RangesBack};

@@ -8,7 +8,6 @@ ghost use Rattle.hip_match.specs.Ready.{IsFrontWindow, IsBetween, TakesLast, Tak
 use crate::boundaries::boundary_after;
 use crate::pattern::{ClonePattern, OneChar, Pattern};
 use crate::ranges::{CloneRanges, Ranges, RangesBack};
-use crate::window::Window;
 use std::alloc::AllocError;
 
 /// The occurrences of a pattern in a text, leftmost first, no two overlapping.
@@ -17,7 +16,9 @@ pub struct Matches<'h, P: Pattern> {
     text: &'h str,
     pattern: P,
     searcher: P::Searcher,
-    window: Window,
+    from: usize,
+    to: usize,
+    done: bool,
 }
 
 // The searcher is prepared anew, so that nothing but the pattern's clone may want memory.
@@ -34,7 +35,9 @@ impl<'h, P: Pattern + Clone> Clone for Matches<'h, P> {
             text: self.text,
             pattern,
             searcher,
-            window: self.window,
+            from: self.from,
+            to: self.to,
+            done: self.done,
         })
     }
 }
@@ -58,39 +61,41 @@ impl<'h, P: Pattern> Matches<'h, P> {
             text,
             pattern,
             searcher,
-            window: Window::over(text),
+            from: 0,
+            to: text.len(),
+            done: false,
         }
     }
 }
 
 impl<'h, P: Pattern> Ranges for Matches<'h, P> {
-    ghost ready = { λ s. IsFrontWindow (P.can_search s.pattern × P.is_searcher s.pattern s.searcher) s.text.now (P.ends s.pattern s.text.now) s.window.from s.window.to };
+    ghost ready = { λ s. IsFrontWindow (P.can_search s.pattern × P.is_searcher s.pattern s.searcher) s.text.now (P.ends s.pattern s.text.now) s.from s.to };
 
     ghost text = { λ s. s.text.now };
 
-    ghost rest = { λ s. if s.window.done then [] else leftmost_between (P.ends s.pattern s.text.now) s.window.from s.window.to };
+    ghost rest = { λ s. if s.done then [] else leftmost_between (P.ends s.pattern s.text.now) s.from s.to };
 
     #[inline(always)]
     fn next(&mut self) -> Option<(usize, usize)> {
-        if self.window.done {
+        if self.done {
             return None;
         }
         match self
             .pattern
-            .next_match_by(&self.searcher, self.text, self.window.from)
+            .next_match_by(&self.searcher, self.text, self.from)
         {
-            Some((start, end)) if end <= self.window.to => {
+            Some((start, end)) if end <= self.to => {
                 if start < end {
-                    self.window.from = end;
-                } else if end < self.window.to {
-                    self.window.from = boundary_after(self.text, end);
+                    self.from = end;
+                } else if end < self.to {
+                    self.from = boundary_after(self.text, end);
                 } else {
-                    self.window.done = true;
+                    self.done = true;
                 }
                 Some((start, end))
             }
             _ => {
-                self.window.done = true;
+                self.done = true;
                 None
             }
         }
@@ -105,21 +110,23 @@ impl<'h, P: OneChar> Matches<'h, P> {
         ensures taken { Takes ⟦<Matches<'h, P> as Ranges>⟧ TakesLast self.old result self.new }
         ensures holds { IfSome result (λ r. r.0 < r.1) }
     {
-        if self.window.done {
+        if self.done {
             return None;
         }
-        match self.pattern.last_match(self.text, self.window.to) {
-            Some((start, end)) if self.window.from <= start => {
-                self.window.to = start;
+        match self.pattern.last_match(self.text, self.to) {
+            Some((start, end)) if self.from <= start => {
+                self.to = start;
                 Some((start, end))
             }
             _ => {
-                self.window.done = true;
+                self.done = true;
                 None
             }
         }
     }
+}
 
+impl<'h, P: OneChar> Matches<'h, P> {
     // The last match that ends before `end`. One that ends there is passed.
     #[inline]
     pub(crate) fn last_before(&mut self, end: usize) -> Option<(usize, usize)>
@@ -142,38 +149,15 @@ impl<'h, P: OneChar> RangesBack for Matches<'h, P> {
     }
 }
 
-/// The ranges of matches, as a walk that gives them with their places.
-#[derive(Clone, Drop)]
-pub struct Indices<M> {
-    pub(crate) matches: M,
-}
-
-impl<M: CloneRanges> CloneRanges for Indices<M> {
-    ghost clone_keeps = { λ s copy is. M.clone_keeps s.matches copy.matches is };
-}
-
-impl<M: Ranges> Ranges for Indices<M> {
-    ghost ready = { λ s. M.ready s.matches };
-
-    ghost text = { λ s. M.text s.matches };
-
-    ghost rest = { λ s. M.rest s.matches };
-
-    #[inline]
-    fn next(&mut self) -> Option<(usize, usize)> {
-        self.matches.next()
-    }
-}
-
-impl<M: RangesBack> RangesBack for Indices<M> {
-    #[inline]
-    fn next_back(&mut self) -> Option<(usize, usize)> {
-        self.matches.next_back()
-    }
-}
-
 /// The ranges of the occurrences of a pattern in a text, leftmost first: those of [`Matches`].
-pub type MatchIndices<'h, P> = Indices<Matches<'h, P>>;
+#[derive(Clone, Drop)]
+pub struct MatchIndices<'h, P: Pattern> {
+    matches: Matches<'h, P>,
+}
+
+impl<'h, P: ClonePattern> CloneRanges for MatchIndices<'h, P> {
+    ghost clone_keeps = { λ _ _ is. is P.clones_keep };
+}
 
 impl<'h, P: Pattern> MatchIndices<'h, P> {
     /// The ranges of the occurrences of `pattern` in `text`.
@@ -183,8 +167,28 @@ impl<'h, P: Pattern> MatchIndices<'h, P> {
         ensures ranges { Gives ⟦<MatchIndices<'h, P> as Ranges>⟧ result text.now
             (leftmost (P.ends pattern text.now) (length text.now)) }
     {
-        Indices {
+        MatchIndices {
             matches: Matches::new(text, pattern),
         }
+    }
+}
+
+impl<'h, P: Pattern> Ranges for MatchIndices<'h, P> {
+    ghost ready = { λ s. ⟦<Matches<'h, P> as Ranges>⟧.ready s.matches };
+
+    ghost text = { λ s. s.matches.text.now };
+
+    ghost rest = { λ s. ⟦<Matches<'h, P> as Ranges>⟧.rest s.matches };
+
+    #[inline]
+    fn next(&mut self) -> Option<(usize, usize)> {
+        self.matches.next()
+    }
+}
+
+impl<'h, P: OneChar> RangesBack for MatchIndices<'h, P> {
+    #[inline]
+    fn next_back(&mut self) -> Option<(usize, usize)> {
+        self.matches.next_back()
     }
 }

@@ -32,7 +32,6 @@ pub trait Pattern: Drop {
         ensures { IsNextMatch (ends self.now text.now) from result };
 
     /// The same, by what was prepared.
-    #[inline]
     fn next_match_by(
         &self,
         searcher: &Self::Searcher,
@@ -42,11 +41,7 @@ pub trait Pattern: Drop {
         requires can { can_search self.now }
         requires prepared { is_searcher self.now searcher.now }
         requires boundary { IsCharBoundary text.now from }
-        ensures { IsNextMatch (ends self.now text.now) from result }
-    {
-        let _ = searcher;
-        self.next_match(text, from)
-    }
+        ensures { IsNextMatch (ends self.now text.now) from result };
 
     /// The end of the occurrence that starts at `at`.
     fn match_at(&self, text: &str, at: usize) -> Option<usize>
@@ -61,12 +56,8 @@ pub trait Pattern: Drop {
 /// A pattern that can be looked for from a text's end too. It occurs at most once to a given end.
 pub trait ReversePattern: Pattern {
     /// Prepares the searches of a walk from the end.
-    #[inline]
     fn reverse_searcher(&self) -> Self::Searcher
-        ensures { Self.is_searcher self.now result }
-    {
-        self.searcher()
-    }
+        ensures { Self.is_searcher self.now result };
 
     /// The occurrence that ends last at or before `to`, as its start and end.
     fn last_match(&self, text: &str, to: usize) -> Option<(usize, usize)>
@@ -75,7 +66,6 @@ pub trait ReversePattern: Pattern {
         ensures { IsLastMatch (Self.ends self.now text.now) to result };
 
     /// The same, by what was prepared.
-    #[inline]
     fn last_match_by(
         &self,
         searcher: &Self::Searcher,
@@ -85,11 +75,7 @@ pub trait ReversePattern: Pattern {
         requires can { Self.can_search self.now }
         requires prepared { Self.is_searcher self.now searcher.now }
         requires boundary { IsCharBoundary text.now to }
-        ensures { IsLastMatch (Self.ends self.now text.now) to result }
-    {
-        let _ = searcher;
-        self.last_match(text, to)
-    }
+        ensures { IsLastMatch (Self.ends self.now text.now) to result };
 
     /// The start of the occurrence that ends at `to`.
     fn match_before(&self, text: &str, to: usize) -> Option<usize>
@@ -104,27 +90,19 @@ pub trait ReversePattern: Pattern {
 /// A pattern that may be trimmed from both ends of a text at once.
 pub trait DoubleEndedPattern: ReversePattern {
     /// Whether an occurrence starts at `at`.
-    #[inline]
     fn starts_at(&self, text: &str, at: usize) -> bool
         requires can { Self.can_search self.now }
         requires boundary { IsCharBoundary text.now at }
-        ensures { result ≡ is_some (Self.ends self.now text.now at) }
-    {
-        self.match_at(text, at).is_some()
-    }
+        ensures { result ≡ is_some (Self.ends self.now text.now at) };
 }
 
 /// A pattern each of whose occurrences is one character, so that the rightmost matches are the leftmost ones reversed.
 pub trait OneChar: ReversePattern {
     /// Whether an occurrence ends at `to`.
-    #[inline]
     fn ends_at(&self, text: &str, to: usize) -> bool
         requires can { Self.can_search self.now }
         requires boundary { IsCharBoundary text.now to }
-        ensures { result ≡ is_some (start_of (Self.ends self.now text.now) to) }
-    {
-        self.match_before(text, to).is_some()
-    }
+        ensures { result ≡ is_some (start_of (Self.ends self.now text.now) to) };
 
     /// Each occurrence is one character.
     ghost one_char: { (p : Self) (t : List ℕ) (a b : ℕ) → IsUtf8 t → Self.ends p t a ≡ Some b → IsOneChar t (a, b) };

@@ -3,10 +3,11 @@ ghost use Rattle.std.specs.Prelude.{◌≡◌, ℕ, Bool};
 ghost use Rattle.std.specs.Char.{IsScalar};
 ghost use Rattle.hip_match.specs.Answers.{answer_at};
 ghost use Rattle.hip_match.specs.Characters.{char_ends};
+ghost use Rattle.hip_match.specs.CharLaws.{char_ends-spans, char_ends-one_start, char_ends-one_char};
 
-use crate::chars::CharSet;
+use crate::chars::{CharSet, end_of, first_of, last_of, start_before};
 use crate::chosen::{Chosen, choose};
-use crate::pattern::{DoubleEndedPattern, Pattern};
+use crate::pattern::{DoubleEndedPattern, OneChar, Pattern, ReversePattern};
 
 /// The characters that a closure answers yes for.
 #[derive(Clone, Drop)]
@@ -66,4 +67,68 @@ impl<F: Fn(char) -> bool> CharSet for CharPred<F> {
     }
 }
 
-impl<F: Fn(char) -> bool> DoubleEndedPattern for CharPred<F> {}
+impl<F: Fn(char) -> bool> Pattern for CharPred<F> {
+    type Searcher = ();
+
+    ghost can_search = { λ p. (c : ℕ) → IsScalar c → F.pre p.test c × ((answer : Bool) → F.post p.test c answer → answer ≡ answer_at p.chosen.answers c) };
+
+    ghost ends = { λ p. char_ends (λ c. answer_at p.chosen.answers c) };
+
+    #[inline]
+    fn searcher(&self) {}
+
+    #[inline]
+    fn next_match(&self, text: &str, from: usize) -> Option<(usize, usize)> {
+        first_of(self, text, from)
+    }
+
+    #[inline]
+    fn next_match_by(&self, _searcher: &(), text: &str, from: usize) -> Option<(usize, usize)> {
+        first_of(self, text, from)
+    }
+
+    #[inline]
+    fn match_at(&self, text: &str, at: usize) -> Option<usize> {
+        end_of(self, text, at)
+    }
+
+    ghost spans = { λ p. char_ends-spans (λ c. answer_at p.chosen.answers c) };
+}
+
+impl<F: Fn(char) -> bool> ReversePattern for CharPred<F> {
+    #[inline]
+    fn reverse_searcher(&self) {}
+
+    #[inline]
+    fn last_match(&self, text: &str, to: usize) -> Option<(usize, usize)> {
+        last_of(self, text, to)
+    }
+
+    #[inline]
+    fn last_match_by(&self, _searcher: &(), text: &str, to: usize) -> Option<(usize, usize)> {
+        last_of(self, text, to)
+    }
+
+    #[inline]
+    fn match_before(&self, text: &str, to: usize) -> Option<usize> {
+        start_before(self, text, to)
+    }
+
+    ghost one_start = { λ p. char_ends-one_start (λ c. answer_at p.chosen.answers c) };
+}
+
+impl<F: Fn(char) -> bool> DoubleEndedPattern for CharPred<F> {
+    #[inline]
+    fn starts_at(&self, text: &str, at: usize) -> bool {
+        self.match_at(text, at).is_some()
+    }
+}
+
+impl<F: Fn(char) -> bool> OneChar for CharPred<F> {
+    #[inline]
+    fn ends_at(&self, text: &str, to: usize) -> bool {
+        self.match_before(text, to).is_some()
+    }
+
+    ghost one_char = { λ p. char_ends-one_char (λ c. answer_at p.chosen.answers c) };
+}

@@ -6,10 +6,8 @@ ghost use Rattle.hip_match.specs.Rightmost.{rightmost, rightmost_between};
 ghost use Rattle.hip_match.specs.Ready.{IsBackWindow, IsBetweenBack};
 
 use crate::boundaries::boundary_before;
-use crate::matches::Indices;
 use crate::pattern::{ClonePattern, OneChar, ReversePattern};
 use crate::ranges::{CloneRanges, Ranges, RangesBack};
-use crate::window::Window;
 use std::alloc::AllocError;
 
 /// The occurrences of a pattern in a text, rightmost first, no two overlapping.
@@ -18,7 +16,9 @@ pub struct RMatches<'h, P: ReversePattern> {
     text: &'h str,
     pattern: P,
     searcher: P::Searcher,
-    window: Window,
+    from: usize,
+    to: usize,
+    done: bool,
 }
 
 // The searcher is prepared anew, so that nothing but the pattern's clone may want memory.
@@ -35,7 +35,9 @@ impl<'h, P: ReversePattern + Clone> Clone for RMatches<'h, P> {
             text: self.text,
             pattern,
             searcher,
-            window: self.window,
+            from: self.from,
+            to: self.to,
+            done: self.done,
         })
     }
 }
@@ -59,39 +61,41 @@ impl<'h, P: ReversePattern> RMatches<'h, P> {
             text,
             pattern,
             searcher,
-            window: Window::over(text),
+            from: 0,
+            to: text.len(),
+            done: false,
         }
     }
 }
 
 impl<'h, P: ReversePattern> Ranges for RMatches<'h, P> {
-    ghost ready = { λ s. IsBackWindow (P.can_search s.pattern × P.is_searcher s.pattern s.searcher) s.text.now (P.ends s.pattern s.text.now) s.window.from s.window.to };
+    ghost ready = { λ s. IsBackWindow (P.can_search s.pattern × P.is_searcher s.pattern s.searcher) s.text.now (P.ends s.pattern s.text.now) s.from s.to };
 
     ghost text = { λ s. s.text.now };
 
-    ghost rest = { λ s. if s.window.done then [] else rightmost_between (P.ends s.pattern s.text.now) s.window.from s.window.to };
+    ghost rest = { λ s. if s.done then [] else rightmost_between (P.ends s.pattern s.text.now) s.from s.to };
 
     #[inline]
     fn next(&mut self) -> Option<(usize, usize)> {
-        if self.window.done {
+        if self.done {
             return None;
         }
         match self
             .pattern
-            .last_match_by(&self.searcher, self.text, self.window.to)
+            .last_match_by(&self.searcher, self.text, self.to)
         {
-            Some((start, end)) if self.window.from <= start => {
+            Some((start, end)) if self.from <= start => {
                 if start < end {
-                    self.window.to = start;
-                } else if self.window.from < start {
-                    self.window.to = boundary_before(self.text, start);
+                    self.to = start;
+                } else if self.from < start {
+                    self.to = boundary_before(self.text, start);
                 } else {
-                    self.window.done = true;
+                    self.done = true;
                 }
                 Some((start, end))
             }
             _ => {
-                self.window.done = true;
+                self.done = true;
                 None
             }
         }
@@ -101,16 +105,16 @@ impl<'h, P: ReversePattern> Ranges for RMatches<'h, P> {
 impl<'h, P: OneChar> RangesBack for RMatches<'h, P> {
     #[inline]
     fn next_back(&mut self) -> Option<(usize, usize)> {
-        if self.window.done {
+        if self.done {
             return None;
         }
-        match self.pattern.next_match(self.text, self.window.from) {
-            Some((start, end)) if end <= self.window.to => {
-                self.window.from = end;
+        match self.pattern.next_match(self.text, self.from) {
+            Some((start, end)) if end <= self.to => {
+                self.from = end;
                 Some((start, end))
             }
             _ => {
-                self.window.done = true;
+                self.done = true;
                 None
             }
         }
@@ -118,7 +122,14 @@ impl<'h, P: OneChar> RangesBack for RMatches<'h, P> {
 }
 
 /// The ranges of the rightmost occurrences of a pattern in a text, last first: those of [`RMatches`].
-pub type RMatchIndices<'h, P> = Indices<RMatches<'h, P>>;
+#[derive(Clone, Drop)]
+pub struct RMatchIndices<'h, P: ReversePattern> {
+    matches: RMatches<'h, P>,
+}
+
+impl<'h, P: ReversePattern + ClonePattern> CloneRanges for RMatchIndices<'h, P> {
+    ghost clone_keeps = { λ _ _ is. is P.clones_keep };
+}
 
 impl<'h, P: ReversePattern> RMatchIndices<'h, P> {
     /// The ranges of the rightmost occurrences of `pattern` in `text`.
@@ -128,8 +139,28 @@ impl<'h, P: ReversePattern> RMatchIndices<'h, P> {
         ensures ranges { Gives ⟦<RMatchIndices<'h, P> as Ranges>⟧ result text.now
             (rightmost (P.ends pattern text.now) (length text.now)) }
     {
-        Indices {
+        RMatchIndices {
             matches: RMatches::new(text, pattern),
         }
+    }
+}
+
+impl<'h, P: ReversePattern> Ranges for RMatchIndices<'h, P> {
+    ghost ready = { λ s. ⟦<RMatches<'h, P> as Ranges>⟧.ready s.matches };
+
+    ghost text = { λ s. s.matches.text.now };
+
+    ghost rest = { λ s. ⟦<RMatches<'h, P> as Ranges>⟧.rest s.matches };
+
+    #[inline]
+    fn next(&mut self) -> Option<(usize, usize)> {
+        self.matches.next()
+    }
+}
+
+impl<'h, P: OneChar> RangesBack for RMatchIndices<'h, P> {
+    #[inline]
+    fn next_back(&mut self) -> Option<(usize, usize)> {
+        self.matches.next_back()
     }
 }

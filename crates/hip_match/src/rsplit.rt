@@ -7,7 +7,6 @@ ghost use Rattle.hip_match.specs.Pieces.{rsplit, rsplit_terminator, rsplitn};
 ghost use Rattle.hip_match.specs.Pieces.{at_most_from, from_terminator, gaps_back};
 ghost use Rattle.hip_match.specs.Ready.{IsBetweenBack};
 
-use crate::cut_off::{cut_back, cut_front, cut_last};
 use crate::pattern::{ClonePattern, OneChar, ReversePattern};
 use crate::ranges::{CloneRanges, Ranges, RangesBack};
 use crate::rmatches::RMatches;
@@ -55,7 +54,11 @@ impl<'h, P: ReversePattern> Ranges for RSplit<'h, P> {
             return None;
         }
         match self.matches.next() {
-            Some(found) => Some(cut_back(&mut self.end, found)),
+            Some((start, end)) => {
+                let last = (end, self.end);
+                self.end = start;
+                Some(last)
+            }
             None => {
                 self.done = true;
                 Some((self.start, self.end))
@@ -71,7 +74,11 @@ impl<'h, P: OneChar> RangesBack for RSplit<'h, P> {
             return None;
         }
         match self.matches.next_back() {
-            Some(found) => Some(cut_front(&mut self.start, found)),
+            Some((start, end)) => {
+                let first = (self.start, start);
+                self.start = end;
+                Some(first)
+            }
             None => {
                 self.done = true;
                 Some((self.start, self.end))
@@ -181,16 +188,24 @@ impl<'h, P: ReversePattern> Ranges for RSplitN<'h, P> {
 
     #[inline]
     fn next(&mut self) -> Option<(usize, usize)> {
-        if self.count <= 1 {
-            return cut_last(&mut self.count, (self.start, self.end));
+        if self.count == 0 {
+            return None;
+        }
+        if self.count == 1 {
+            self.count = 0;
+            return Some((self.start, self.end));
         }
         match self.matches.next() {
-            Some(found) => {
-                let piece = cut_back(&mut self.end, found);
+            Some((start, end)) => {
+                let piece = (end, self.end);
+                self.end = start;
                 self.count -= 1;
                 Some(piece)
             }
-            None => cut_last(&mut self.count, (self.start, self.end)),
+            None => {
+                self.count = 0;
+                Some((self.start, self.end))
+            }
         }
     }
 }

@@ -8,57 +8,12 @@ use crate::chars::{CharSet, end_of, first_of, last_of, start_before};
 use crate::pattern::{ClonePattern, DoubleEndedPattern, OneChar, Pattern, ReversePattern};
 use crate::texts::{find_char, rfind_char};
 
-impl<S: CharSet> Pattern for S {
-    type Searcher = ();
-
-    ghost can_search = { λ s. S.can_test s };
-
-    ghost ends = { λ s. char_ends (S.belongs s) };
-
-    #[inline]
-    fn searcher(&self) {}
-
-    #[inline]
-    fn next_match(&self, text: &str, from: usize) -> Option<(usize, usize)> {
-        first_of(self, text, from)
-    }
-
-    #[inline]
-    fn match_at(&self, text: &str, at: usize) -> Option<usize> {
-        end_of(self, text, at)
-    }
-
-    ghost spans = { λ s. char_ends-spans (S.belongs s) };
-}
-
-impl<S: CharSet> ReversePattern for S {
-    #[inline]
-    fn last_match(&self, text: &str, to: usize) -> Option<(usize, usize)> {
-        last_of(self, text, to)
-    }
-
-    #[inline]
-    fn match_before(&self, text: &str, to: usize) -> Option<usize> {
-        start_before(self, text, to)
-    }
-
-    ghost one_start = { λ s. char_ends-one_start (S.belongs s) };
-}
-
-impl<S: CharSet> OneChar for S {
-    ghost one_char = { λ s. char_ends-one_char (S.belongs s) };
-}
-
-// The set of one character.
-#[derive(Clone, Copy)]
-struct Only(char);
-
-impl CharSet for Only {
-    ghost belongs = { λ only c. c == only.0 };
+impl CharSet for char {
+    ghost belongs = { λ c d. d == c };
 
     #[inline]
     fn has(&self, c: char) -> bool {
-        c == self.0
+        c == *self
     }
 }
 
@@ -82,7 +37,7 @@ impl Pattern for char {
 
     #[inline]
     fn match_at(&self, text: &str, at: usize) -> Option<usize> {
-        end_of(&Only(*self), text, at)
+        end_of(self, text, at)
     }
 
     ghost spans = { λ c. char_ends-spans (λ d. d == c) };
@@ -96,21 +51,39 @@ impl ClonePattern for char {
 
 impl ReversePattern for char {
     #[inline]
+    fn reverse_searcher(&self) {}
+
+    #[inline]
     fn last_match(&self, text: &str, to: usize) -> Option<(usize, usize)> {
         rfind_char(text, *self, to)
     }
 
     #[inline]
+    fn last_match_by(&self, _searcher: &(), text: &str, to: usize) -> Option<(usize, usize)> {
+        rfind_char(text, *self, to)
+    }
+
+    #[inline]
     fn match_before(&self, text: &str, to: usize) -> Option<usize> {
-        start_before(&Only(*self), text, to)
+        start_before(self, text, to)
     }
 
     ghost one_start = { λ c. char_ends-one_start (λ d. d == c) };
 }
 
-impl DoubleEndedPattern for char {}
+impl DoubleEndedPattern for char {
+    #[inline]
+    fn starts_at(&self, text: &str, at: usize) -> bool {
+        self.match_at(text, at).is_some()
+    }
+}
 
 impl OneChar for char {
+    #[inline]
+    fn ends_at(&self, text: &str, to: usize) -> bool {
+        self.match_before(text, to).is_some()
+    }
+
     ghost one_char = { λ c. char_ends-one_char (λ d. d == c) };
 }
 
@@ -138,13 +111,75 @@ impl<'a> CharSet for &'a [char] {
     }
 }
 
+impl<'a> Pattern for &'a [char] {
+    type Searcher = ();
+
+    ghost ends = { λ s. char_ends (λ d. list_any (λ c. c == d) s.now) };
+
+    #[inline]
+    fn searcher(&self) {}
+
+    #[inline]
+    fn next_match(&self, text: &str, from: usize) -> Option<(usize, usize)> {
+        first_of(self, text, from)
+    }
+
+    #[inline]
+    fn next_match_by(&self, _searcher: &(), text: &str, from: usize) -> Option<(usize, usize)> {
+        first_of(self, text, from)
+    }
+
+    #[inline]
+    fn match_at(&self, text: &str, at: usize) -> Option<usize> {
+        end_of(self, text, at)
+    }
+
+    ghost spans = { λ s. char_ends-spans (λ d. list_any (λ c. c == d) s.now) };
+}
+
 impl<'a> ClonePattern for &'a [char] {
     ghost use Rattle.std.proofs.Common.{rules};
 
     ghost clones_keep = { Prim.search rules };
 }
 
-impl<'a> DoubleEndedPattern for &'a [char] {}
+impl<'a> ReversePattern for &'a [char] {
+    #[inline]
+    fn reverse_searcher(&self) {}
+
+    #[inline]
+    fn last_match(&self, text: &str, to: usize) -> Option<(usize, usize)> {
+        last_of(self, text, to)
+    }
+
+    #[inline]
+    fn last_match_by(&self, _searcher: &(), text: &str, to: usize) -> Option<(usize, usize)> {
+        last_of(self, text, to)
+    }
+
+    #[inline]
+    fn match_before(&self, text: &str, to: usize) -> Option<usize> {
+        start_before(self, text, to)
+    }
+
+    ghost one_start = { λ s. char_ends-one_start (λ d. list_any (λ c. c == d) s.now) };
+}
+
+impl<'a> DoubleEndedPattern for &'a [char] {
+    #[inline]
+    fn starts_at(&self, text: &str, at: usize) -> bool {
+        self.match_at(text, at).is_some()
+    }
+}
+
+impl<'a> OneChar for &'a [char] {
+    #[inline]
+    fn ends_at(&self, text: &str, to: usize) -> bool {
+        self.match_before(text, to).is_some()
+    }
+
+    ghost one_char = { λ s. char_ends-one_char (λ d. list_any (λ c. c == d) s.now) };
+}
 
 impl<'a, const N: usize> CharSet for &'a [char; N] {
     ghost belongs = { λ s d. list_any (λ c. c == d) s.now };
@@ -155,8 +190,65 @@ impl<'a, const N: usize> CharSet for &'a [char; N] {
     }
 }
 
+impl<'a, const N: usize> Pattern for &'a [char; N] {
+    type Searcher = ();
+
+    ghost ends = { λ s. char_ends (λ d. list_any (λ c. c == d) s.now) };
+
+    #[inline]
+    fn searcher(&self) {}
+
+    #[inline]
+    fn next_match(&self, text: &str, from: usize) -> Option<(usize, usize)> {
+        first_of(self, text, from)
+    }
+
+    #[inline]
+    fn next_match_by(&self, _searcher: &(), text: &str, from: usize) -> Option<(usize, usize)> {
+        first_of(self, text, from)
+    }
+
+    #[inline]
+    fn match_at(&self, text: &str, at: usize) -> Option<usize> {
+        end_of(self, text, at)
+    }
+
+    ghost spans = { λ s. char_ends-spans (λ d. list_any (λ c. c == d) s.now) };
+}
+
 impl<'a, const N: usize> ClonePattern for &'a [char; N] {
     ghost use Rattle.std.proofs.Common.{rules};
 
     ghost clones_keep = { Prim.search rules };
+}
+
+impl<'a, const N: usize> ReversePattern for &'a [char; N] {
+    #[inline]
+    fn reverse_searcher(&self) {}
+
+    #[inline]
+    fn last_match(&self, text: &str, to: usize) -> Option<(usize, usize)> {
+        last_of(self, text, to)
+    }
+
+    #[inline]
+    fn last_match_by(&self, _searcher: &(), text: &str, to: usize) -> Option<(usize, usize)> {
+        last_of(self, text, to)
+    }
+
+    #[inline]
+    fn match_before(&self, text: &str, to: usize) -> Option<usize> {
+        start_before(self, text, to)
+    }
+
+    ghost one_start = { λ s. char_ends-one_start (λ d. list_any (λ c. c == d) s.now) };
+}
+
+impl<'a, const N: usize> OneChar for &'a [char; N] {
+    #[inline]
+    fn ends_at(&self, text: &str, to: usize) -> bool {
+        self.match_before(text, to).is_some()
+    }
+
+    ghost one_char = { λ s. char_ends-one_char (λ d. list_any (λ c. c == d) s.now) };
 }

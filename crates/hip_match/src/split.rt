@@ -7,7 +7,6 @@ ghost use Rattle.hip_match.specs.Pieces.{split, split_inclusive, split_terminato
 ghost use Rattle.hip_match.specs.Pieces.{at_most_to, ended, gaps, to_terminator};
 ghost use Rattle.hip_match.specs.Ready.{IsBetween};
 
-use crate::cut_off::{cut_back, cut_front, cut_last, unless_empty};
 use crate::matches::Matches;
 use crate::pattern::{ClonePattern, OneChar, Pattern};
 use crate::ranges::{CloneRanges, Ranges, RangesBack};
@@ -55,7 +54,11 @@ impl<'h, P: Pattern> Ranges for Split<'h, P> {
             return None;
         }
         match self.matches.next() {
-            Some(found) => Some(cut_front(&mut self.start, found)),
+            Some((start, end)) => {
+                let first = (self.start, start);
+                self.start = end;
+                Some(first)
+            }
             None => {
                 self.done = true;
                 Some((self.start, self.end))
@@ -71,7 +74,11 @@ impl<'h, P: OneChar> RangesBack for Split<'h, P> {
             return None;
         }
         match self.matches.next_back() {
-            Some(found) => Some(cut_back(&mut self.end, found)),
+            Some((start, end)) => {
+                let last = (end, self.end);
+                self.end = start;
+                Some(last)
+            }
             None => {
                 self.done = true;
                 Some((self.start, self.end))
@@ -130,7 +137,11 @@ impl<'h, P: Pattern> Ranges for SplitInclusive<'h, P> {
             }
             None => {
                 self.done = true;
-                unless_empty(self.start, self.end)
+                if self.start < self.end {
+                    Some((self.start, self.end))
+                } else {
+                    None
+                }
             }
         }
     }
@@ -150,7 +161,11 @@ impl<'h, P: OneChar> RangesBack for SplitInclusive<'h, P> {
             }
             None => {
                 self.done = true;
-                unless_empty(self.start, self.end)
+                if self.start < self.end {
+                    Some((self.start, self.end))
+                } else {
+                    None
+                }
             }
         }
     }
@@ -257,16 +272,24 @@ impl<'h, P: Pattern> Ranges for SplitN<'h, P> {
 
     #[inline(always)]
     fn next(&mut self) -> Option<(usize, usize)> {
-        if self.count <= 1 {
-            return cut_last(&mut self.count, (self.start, self.end));
+        if self.count == 0 {
+            return None;
+        }
+        if self.count == 1 {
+            self.count = 0;
+            return Some((self.start, self.end));
         }
         match self.matches.next() {
-            Some(found) => {
-                let piece = cut_front(&mut self.start, found);
+            Some((start, end)) => {
+                let piece = (self.start, start);
+                self.start = end;
                 self.count -= 1;
                 Some(piece)
             }
-            None => cut_last(&mut self.count, (self.start, self.end)),
+            None => {
+                self.count = 0;
+                Some((self.start, self.end))
+            }
         }
     }
 }

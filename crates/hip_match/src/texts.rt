@@ -20,7 +20,7 @@ pub struct TextSearcher<'p> {
     reverse_finder: Option<FinderRev<'p>>,
 }
 
-// What a walk by `needle` finds it by. One byte and two have ways of their own.
+// What a walk by `needle` prepares. One byte and two have ways of their own.
 #[inline]
 fn finder_of<'p>(needle: &'p str) -> Option<Finder<'p>>
     ensures { IfSome result (λ f. f ≡ needle.now) }
@@ -32,7 +32,7 @@ fn finder_of<'p>(needle: &'p str) -> Option<Finder<'p>>
     Some(Finder::new(wanted))
 }
 
-// What a walk by `needle` from the end finds it by.
+// What a walk by `needle` from the end prepares.
 #[inline]
 fn reverse_finder_of<'p>(needle: &'p str) -> Option<FinderRev<'p>>
     ensures { IfSome result (λ f. f ≡ needle.now) }
@@ -42,30 +42,6 @@ fn reverse_finder_of<'p>(needle: &'p str) -> Option<FinderRev<'p>>
         return None;
     }
     Some(FinderRev::new(wanted))
-}
-
-// What a walk by `needle` prepares.
-#[inline]
-fn searcher_of<'p>(needle: &'p str) -> TextSearcher<'p>
-    ensures finder { IfSome result.finder (λ f. f ≡ needle.now) }
-    ensures reverse_finder { IfSome result.reverse_finder (λ f. f ≡ needle.now) }
-{
-    TextSearcher {
-        finder: finder_of(needle),
-        reverse_finder: None,
-    }
-}
-
-// What a walk by `needle` from the end prepares.
-#[inline]
-fn reverse_searcher_of<'p>(needle: &'p str) -> TextSearcher<'p>
-    ensures finder { IfSome result.finder (λ f. f ≡ needle.now) }
-    ensures reverse_finder { IfSome result.reverse_finder (λ f. f ≡ needle.now) }
-{
-    TextSearcher {
-        finder: None,
-        reverse_finder: reverse_finder_of(needle),
-    }
 }
 
 // The first place of `hay` where the bytes of `needle` stand, by what was prepared of it.
@@ -285,7 +261,10 @@ impl<'p> Pattern for &'p str {
 
     #[inline]
     fn searcher(&self) -> TextSearcher<'p> {
-        searcher_of(*self)
+        TextSearcher {
+            finder: finder_of(*self),
+            reverse_finder: None,
+        }
     }
 
     #[inline]
@@ -320,7 +299,10 @@ impl<'p> ClonePattern for &'p str {
 impl<'p> ReversePattern for &'p str {
     #[inline]
     fn reverse_searcher(&self) -> TextSearcher<'p> {
-        reverse_searcher_of(*self)
+        TextSearcher {
+            finder: None,
+            reverse_finder: reverse_finder_of(*self),
+        }
     }
 
     #[inline]
@@ -355,7 +337,10 @@ impl<'p, 'q> Pattern for &'q &'p str {
 
     #[inline]
     fn searcher(&self) -> TextSearcher<'p> {
-        searcher_of(**self)
+        TextSearcher {
+            finder: finder_of(**self),
+            reverse_finder: None,
+        }
     }
 
     #[inline]
@@ -390,7 +375,10 @@ impl<'p, 'q> ClonePattern for &'q &'p str {
 impl<'p, 'q> ReversePattern for &'q &'p str {
     #[inline]
     fn reverse_searcher(&self) -> TextSearcher<'p> {
-        reverse_searcher_of(**self)
+        TextSearcher {
+            finder: None,
+            reverse_finder: reverse_finder_of(**self),
+        }
     }
 
     #[inline]
@@ -425,7 +413,10 @@ impl<'p> Pattern for &'p String {
 
     #[inline]
     fn searcher(&self) -> TextSearcher<'p> {
-        searcher_of(self.as_str())
+        TextSearcher {
+            finder: finder_of(self.as_str()),
+            reverse_finder: None,
+        }
     }
 
     #[inline]
@@ -460,7 +451,10 @@ impl<'p> ClonePattern for &'p String {
 impl<'p> ReversePattern for &'p String {
     #[inline]
     fn reverse_searcher(&self) -> TextSearcher<'p> {
-        reverse_searcher_of(self.as_str())
+        TextSearcher {
+            finder: None,
+            reverse_finder: reverse_finder_of(self.as_str()),
+        }
     }
 
     #[inline]

@@ -141,7 +141,8 @@ pub fn split_once<P: Pattern>(text: &str, pattern: P) -> Option<((usize, usize),
     ensures value { result ≡ split_once (P.ends pattern text.now) (length text.now) }
     ensures cut { IfSome result (λ parts. IsCut text.now parts.0 × IsCut text.now parts.1) }
 {
-    let (start, end) = Matches::new(text, pattern).next()?;
+    let mut matches = Matches::new(text, pattern);
+    let (start, end) = matches.next()?;
     Some(((0, start), (end, text.len())))
 }
 
@@ -155,6 +156,7 @@ pub fn rsplit_once<P: ReversePattern>(
     ensures value { result ≡ rsplit_once (P.ends pattern text.now) (length text.now) }
     ensures cut { IfSome result (λ parts. IsCut text.now parts.0 × IsCut text.now parts.1) }
 {
-    let (start, end) = RMatches::new(text, pattern).next()?;
+    let mut matches = RMatches::new(text, pattern);
+    let (start, end) = matches.next()?;
     Some(((0, start), (end, text.len())))
 }

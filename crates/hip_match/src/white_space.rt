@@ -2,13 +2,15 @@
 ghost use Rattle.std.specs.Prelude.{◌≡◌};
 ghost use Rattle.std.proofs.Common.{refl};
 ghost use Rattle.std.specs.Char.{is_whitespace};
+ghost use Rattle.hip_match.specs.Characters.{char_ends};
+ghost use Rattle.hip_match.specs.CharLaws.{char_ends-spans, char_ends-one_start, char_ends-one_char};
 ghost use Rattle.hip_match.specs.Clones.{gaps_kept, made_kept};
 ghost use Rattle.hip_match.specs.Iterators.{Gives};
 ghost use Rattle.hip_match.specs.Runs.{nonempty, split_whitespace};
 
 pub use crate::ascii_space::SplitAsciiWhitespace;
-use crate::chars::CharSet;
-use crate::pattern::{ClonePattern, DoubleEndedPattern};
+use crate::chars::{CharSet, end_of, first_of, last_of, start_before};
+use crate::pattern::{ClonePattern, DoubleEndedPattern, OneChar, Pattern, ReversePattern};
 use crate::ranges::{CloneRanges, Ranges, RangesBack};
 use crate::split::Split;
 
@@ -30,13 +32,75 @@ impl CharSet for WhiteSpace {
     }
 }
 
+impl Pattern for WhiteSpace {
+    type Searcher = ();
+
+    ghost ends = { λ _. char_ends is_whitespace };
+
+    #[inline]
+    fn searcher(&self) {}
+
+    #[inline]
+    fn next_match(&self, text: &str, from: usize) -> Option<(usize, usize)> {
+        first_of(self, text, from)
+    }
+
+    #[inline]
+    fn next_match_by(&self, _searcher: &(), text: &str, from: usize) -> Option<(usize, usize)> {
+        first_of(self, text, from)
+    }
+
+    #[inline]
+    fn match_at(&self, text: &str, at: usize) -> Option<usize> {
+        end_of(self, text, at)
+    }
+
+    ghost spans = { λ _. char_ends-spans is_whitespace };
+}
+
 impl ClonePattern for WhiteSpace {
     ghost use Rattle.std.proofs.Common.{rules};
 
     ghost clones_keep = { Prim.search rules };
 }
 
-impl DoubleEndedPattern for WhiteSpace {}
+impl ReversePattern for WhiteSpace {
+    #[inline]
+    fn reverse_searcher(&self) {}
+
+    #[inline]
+    fn last_match(&self, text: &str, to: usize) -> Option<(usize, usize)> {
+        last_of(self, text, to)
+    }
+
+    #[inline]
+    fn last_match_by(&self, _searcher: &(), text: &str, to: usize) -> Option<(usize, usize)> {
+        last_of(self, text, to)
+    }
+
+    #[inline]
+    fn match_before(&self, text: &str, to: usize) -> Option<usize> {
+        start_before(self, text, to)
+    }
+
+    ghost one_start = { λ _. char_ends-one_start is_whitespace };
+}
+
+impl DoubleEndedPattern for WhiteSpace {
+    #[inline]
+    fn starts_at(&self, text: &str, at: usize) -> bool {
+        self.match_at(text, at).is_some()
+    }
+}
+
+impl OneChar for WhiteSpace {
+    #[inline]
+    fn ends_at(&self, text: &str, to: usize) -> bool {
+        self.match_before(text, to).is_some()
+    }
+
+    ghost one_char = { λ _. char_ends-one_char is_whitespace };
+}
 
 // The ranges that are not empty.
 #[derive(Clone, Drop)]

@@ -5,8 +5,7 @@ use Rattle.hip_match.proofs.rmatches.RMatches.new.Goals as goal
 
 pub returns-clause-ranges : goal.returns-clause-ranges
 returns-clause-ranges g c =
-    let window = c.over.ensures in
-    rw (window.from, window.to, window.done) (record {
+    record {
       ready = record {
         searchable = (c.requires, c.reverse_searcher-searcher.ensures);
         window = record {
@@ -19,7 +18,7 @@ returns-clause-ranges g c =
       };
       text = refl;
       rest = refl;
-    })
+    }
 
 pub returns-clause-between : goal.returns-clause-between
 returns-clause-between g c =

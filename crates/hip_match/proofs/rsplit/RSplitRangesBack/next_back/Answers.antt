@@ -5,14 +5,14 @@ use Rattle.hip_match.proofs.rsplit.RSplitRangesBack.next_back.Goals as goal
 
 pub returns-in-Some-clause-last : goal.returns-in-Some-clause-last
 returns-in-Some-clause-last g c =
-    rw (c.if-self.false, c.cut_front.ensures.part, c.cut_front.ensures.left) (ap (λ l. gaps_back c.args.self.now.start l c.args.self.now.end) c.in-Some.ensures.last ∙ gaps_back-append _ _ _ _)
+    rw c.if-self.false (ap (λ l. gaps_back c.args.self.now.start l c.args.self.now.end) c.in-Some.ensures.last ∙ gaps_back-append _ _ _ _)
 
 pub returns-in-Some-clause-cut : goal.returns-in-Some-clause-cut
 returns-in-Some-clause-cut g c =
     let order = InOrderBack-append _ _ _ _ (subst (λ (l : List (ℕ × ℕ)). InOrderBack c.args.self.now.start l c.args.self.now.end) c.in-Some.ensures.last c.requires.1.in_order) in
-    rw c.cut_front.ensures.part (record { start = c.requires.1.start; end = c.in-Some.ensures.cut.start; ordered = order.2 })
+    record { start = c.requires.1.start; end = c.in-Some.ensures.cut.start; ordered = order.2 }
 
 pub returns-in-Some-clause-ready : goal.returns-in-Some-clause-ready
 returns-in-Some-clause-ready g c =
     let order = InOrderBack-append _ _ _ _ (subst (λ (l : List (ℕ × ℕ)). InOrderBack c.args.self.now.start l c.args.self.now.end) c.in-Some.ensures.last c.requires.1.in_order) in
-    rw c.cut_front.ensures.left (c.in-Some.ensures.ready, IsBetweenBack-moved _ _ _ _ _ c.in-Some.ensures.text (record { start = c.in-Some.ensures.cut.end; end = c.requires.1.end; in_order = order.0 }))
+    (c.in-Some.ensures.ready, IsBetweenBack-moved _ _ _ _ _ c.in-Some.ensures.text (record { start = c.in-Some.ensures.cut.end; end = c.requires.1.end; in_order = order.0 }))

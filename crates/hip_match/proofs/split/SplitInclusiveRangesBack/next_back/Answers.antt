@@ -1,20 +1,19 @@
-use Rattle.std.proofs.Common.{refl}
-use Rattle.hip_match.proofs.PiecesLemmas.{IsBetween-moved, InOrder-le, unless-first, unless-holds}
+use Rattle.std.proofs.Common.{◌∙◌, refl}
+use Rattle.hip_match.proofs.PiecesLemmas.{IsBetween-moved, InOrder-le, ended-nil}
 use Rattle.hip_match.proofs.split.SplitInclusiveRangesBack.next_back.Goals as goal
 
-pub returns-in-None-clause-last : goal.returns-in-None-clause-last
-returns-in-None-clause-last g c =
-    let taken = c.in-None.ensures.taken.list _ c.requires.1.in_order in
-    rw c.if-self.false (unless-first _ _ _ _ _ taken.0 c.unless_empty.ensures refl)
-
-pub returns-in-None-clause-cut : goal.returns-in-None-clause-cut
-returns-in-None-clause-cut g c =
-    unless-holds _ _ _ _ c.unless_empty.ensures (record { start = c.requires.1.start; end = c.requires.1.end; ordered = InOrder-le _ _ _ c.requires.1.in_order })
-
-pub returns-in-None-clause-ready : goal.returns-in-None-clause-ready
-returns-in-None-clause-ready g c =
+pub returns-then-self-2-clause-ready : goal.returns-then-self-2-clause-ready
+returns-then-self-2-clause-ready g c =
     let taken = c.in-None.ensures.taken.list _ c.requires.1.in_order in
     (c.in-None.ensures.taken.ready, IsBetween-moved _ _ _ _ _ c.in-None.ensures.taken.text (record { start = c.requires.1.start; end = c.requires.1.end; in_order = taken.1 }))
 
-pub unless_empty-requires : goal.unless_empty-requires
-unless_empty-requires g c = InOrder-le _ _ _ c.requires.1.in_order
+pub returns-else-self-2-clause-last : goal.returns-else-self-2-clause-last
+returns-else-self-2-clause-last g c =
+    let taken = c.in-None.ensures.taken.list _ c.requires.1.in_order in
+    let low = InOrder-le _ _ _ c.requires.1.in_order in
+    (rw c.if-self.false (taken.0 ∙ ended-nil _ _ low c.if-self-2.false), refl)
+
+pub returns-else-self-2-clause-ready : goal.returns-else-self-2-clause-ready
+returns-else-self-2-clause-ready g c =
+    let taken = c.in-None.ensures.taken.list _ c.requires.1.in_order in
+    (c.in-None.ensures.taken.ready, IsBetween-moved _ _ _ _ _ c.in-None.ensures.taken.text (record { start = c.requires.1.start; end = c.requires.1.end; in_order = taken.1 }))
