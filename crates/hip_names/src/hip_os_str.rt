@@ -1,14 +1,25 @@
-//! OS strings.
-use crate::name::Name;
+ghost use Rattle.std.specs.Prelude.{◌≡◌};
 
-mod change;
+use hip_bytes::{Backend, HipByt};
+use std::marker::Model;
+
 mod compare;
 mod convert;
 mod json;
+mod make;
+mod mutate;
 mod views;
 
-/// What compares names by their bytes.
-pub struct ByBytes;
+/// An OS string that is cheap to clone: a [`HipByt`] of any bytes.
+#[derive(Drop)]
+pub struct HipOsStr<'b, B: Backend> {
+    bytes: HipByt<'b, B>,
+}
 
-/// An OS string that is cheap to clone: a [`Name`] of any bytes, by which it is compared.
-pub type HipOsStr<'b, B> = Name<'b, B, ByBytes>;
+impl<'b, B: Backend> Model for HipOsStr<'b, B> {
+    ghost use Rattle.hip_bytes.specs.Handle.{Handle};
+
+    ghost Value = { Handle };
+
+    ghost view = { λ name. name.bytes };
+}

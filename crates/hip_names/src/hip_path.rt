@@ -1,13 +1,26 @@
-//! Paths.
-use crate::name::Name;
+ghost use Rattle.std.specs.Prelude.{◌≡◌};
+
+use crate::hip_os_str::HipOsStr;
+use hip_bytes::Backend;
+use std::marker::Model;
 
 mod compare;
 mod convert;
 mod json;
+mod make;
+mod mutate;
 mod views;
 
-/// What compares names by the components of a path.
-pub struct ByComponents;
+/// A path that is cheap to clone: a [`HipOsStr`] that is compared by its components.
+#[derive(Drop)]
+pub struct HipPath<'b, B: Backend> {
+    name: HipOsStr<'b, B>,
+}
 
-/// A path that is cheap to clone: a [`Name`] that is compared by its components.
-pub type HipPath<'b, B> = Name<'b, B, ByComponents>;
+impl<'b, B: Backend> Model for HipPath<'b, B> {
+    ghost use Rattle.hip_bytes.specs.Handle.{Handle};
+
+    ghost Value = { Handle };
+
+    ghost view = { λ path. path.name };
+}

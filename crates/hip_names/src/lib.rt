@@ -3,7 +3,6 @@
 //! - [`HipOsStr`] is the OS string, generic in the [`Backend`] as [`HipByt`] is. On Unix an OS string is bytes, which needn't be UTF-8.
 //! - [`HipPath`] is the path. [`HipPath::components`] gives its [`Component`]s; two paths are equal, and hash alike, where these are the
 //!   same.
-//! - Both are a [`Name`], at what it is compared by, [`ByBytes`] or [`ByComponents`].
 //! - [`path_cmp`] and [`components_eq`] compare paths that are plain bytes, without memory.
 //!
 //! The words of the contracts are those of hip_bytes, and `Components` (the components of a path, and their order), `Shown` (what is seen
@@ -15,7 +14,6 @@ mod fed;
 mod hip_os_str;
 mod hip_path;
 pub mod laws;
-mod name;
 mod order;
 
 pub use component::{Component, Components};
@@ -24,8 +22,7 @@ pub use hip_bytes::{
     JsonFault, Kind, Length, Meter, MutateFault, Rc, RefMut, Room, Source, Start, Unique, mutate,
     with_mutated,
 };
-pub use hip_os_str::{ByBytes, HipOsStr};
-pub use hip_path::{ByComponents, HipPath};
+pub use hip_os_str::HipOsStr;
+pub use hip_path::HipPath;
 pub use hip_text::HipStr;
-pub use name::Name;
 pub use order::{components_eq, path_cmp};

@@ -1,24 +1,52 @@
 //! Comparisons: they go by the bytes, whatever the kind.
-ghost use Rattle.std.specs.Prelude.{◌≡◌, nat_eq, refl, Some};
+ghost use Rattle.std.specs.Prelude.{◌≡◌, ◌↔◌, nat_eq, refl, Some, IsTrue};
 ghost use Rattle.std.specs.Ordering.{nat_cmp};
 ghost use Rattle.std.specs.Hash as fed;
 ghost use Rattle.std.specs.Cmp.Lexicographic.{pointwise, slice_cmp, nat_list_eq_equiv, nat_list_cmp_total, texts_ties, texts_po};
 ghost use Rattle.std.specs.Cmp.{partial_equiv_from_equiv, on_per, on_equiv, on_po, on_total};
 ghost use Rattle.std.specs.Cmp.Rules.{hashing};
 ghost use Rattle.std.proofs.Common.{rules};
+ghost use Rattle.hip_names.specs.Components.{components, path_order};
 
 use super::HipOsStr;
+use crate::order::{components_eq, path_cmp};
+use bstr::ByteSlice;
 use hip_bytes::Backend;
 use std::cmp::Ordering;
+use std::fmt;
 use std::hash::{Hash, Hasher};
 
 impl<'b, B: Backend> HipOsStr<'b, B> {
+    /// Whether the bytes are these.
+    #[inline]
+    pub fn os_str_eq(&self, other: &[u8]) -> bool
+        ensures { IsTrue result ↔ (self.now.items ≡ other.now) }
+    {
+        self.bytes.eq_slice(other)
+    }
+
     /// How the bytes stand to these, in the order of their numbers.
     #[inline]
     pub fn os_str_cmp(&self, other: &[u8]) -> Ordering
         ensures { result ≡ slice_cmp nat_cmp self.now.items other.now }
     {
         self.bytes.cmp_slice(other)
+    }
+
+    /// Whether the bytes are a path with the components of this one.
+    #[inline]
+    pub fn path_eq(&self, other: &[u8]) -> bool
+        ensures { IsTrue result ↔ (components self.now.items ≡ components other.now) }
+    {
+        components_eq(self.as_os_str(), other)
+    }
+
+    /// How this one, as a path, stands to the bytes, as another, in the order of their components.
+    #[inline]
+    pub fn path_cmp(&self, other: &[u8]) -> Ordering
+        ensures { result ≡ path_order self.now.items other.now }
+    {
+        path_cmp(self.as_os_str(), other)
     }
 }
 
@@ -71,5 +99,12 @@ impl<'b, B: Backend> Hash for HipOsStr<'b, B> {
     #[inline]
     fn hash<H: Hasher>(&self, state: &mut H) {
         self.bytes.hash(state);
+    }
+}
+
+/// As that of a text, bytes that aren't UTF-8 as `\xff`.
+impl<'b, B: Backend> fmt::Debug for HipOsStr<'b, B> {
+    fn fmt<W: fmt::Write>(&self, f: &mut fmt::Formatter<W>) -> fmt::Result {
+        fmt::Debug::fmt(&self.as_os_str().as_bstr(), f)
     }
 }

@@ -1,14 +1,13 @@
 //! Conversions.
-ghost use Rattle.std.specs.Prelude.{◌≡◌, IfOk, IsUtf8};
+ghost use Rattle.std.specs.Prelude.{◌≡◌, IfErr, IfOk, IsUtf8, OnOk};
 ghost use Rattle.std.specs.Str.{encode_utf8_all};
 ghost use Rattle.bstr.specs.Utf8.{lossy_chars};
 ghost use Rattle.hip_bytes.specs.Kinds.{HoldsByLength};
 ghost use Rattle.hip_bytes.specs.Made.{CloneAnswers};
-ghost use Rattle.hip_names.specs.Decode.{ToStrAnswers};
+ghost use Rattle.hip_names.specs.Decode.{IntoStrAnswers, ToStrAnswers};
 
 use super::HipOsStr;
-use crate::name::Name;
-use hip_bytes::{Backend, HipByt};
+use hip_bytes::{Backend, HipByt, Kind};
 use hip_text::HipStr;
 use simdutf8::is_utf8;
 use std::alloc::{AllocError, Global};
@@ -20,6 +19,33 @@ impl<'b, B: Backend> HipOsStr<'b, B> {
         ensures { result ≡ self.entry }
     {
         self.bytes
+    }
+
+    /// The bytes in a vector, where that takes no copy: they lie with an owner that no other handle shares. Any other value is handed
+    /// back.
+    #[inline]
+    pub fn into_os_string(self, alloc: Global) -> Result<Vec<u8>, Self>
+        ensures items { IfOk result (λ vec. vec.items ≡ self.entry.items) }
+        ensures kind { OnOk result (self.entry.kind ≡ Kind.Allocated) }
+        ensures handed_back { IfErr result (λ back. back ≡ self.entry) }
+    {
+        match self.bytes.into_vec(alloc) {
+            Ok(vec) => Ok(vec),
+            Err(bytes) => Err(HipOsStr { bytes }),
+        }
+    }
+
+    /// The text of the bytes, in the same handle, where they are UTF-8. Any other value is handed back.
+    #[inline]
+    pub fn into_str(self) -> Result<HipStr<'b, B>, Self>
+        ensures utf8 { IntoStrAnswers self.entry result }
+    {
+        match HipStr::from_utf8(self.bytes) {
+            Ok(text) => Ok(text),
+            Err(error) => Err(HipOsStr {
+                bytes: error.into_bytes(),
+            }),
+        }
     }
 
     /// A clone as a text, where the bytes are UTF-8, which is tested first.
@@ -61,7 +87,18 @@ impl<'b, B: Backend> From<HipByt<'b, B>> for HipOsStr<'b, B> {
 
     #[inline]
     fn from(bytes: HipByt<'b, B>) -> Self {
-        Name::of(bytes)
+        HipOsStr { bytes }
+    }
+}
+
+impl<'b, B: Backend> From<HipStr<'b, B>> for HipOsStr<'b, B> {
+    ghost from_gives = { λ text name. name ≡ text };
+
+    #[inline]
+    fn from(text: HipStr<'b, B>) -> Self {
+        HipOsStr {
+            bytes: text.into_bytes(),
+        }
     }
 }
 

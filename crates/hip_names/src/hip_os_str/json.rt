@@ -4,7 +4,6 @@ ghost use Rattle.serde_json.specs.View.{view};
 ghost use Rattle.hip_bytes.specs.Json.{JsonReadsUnix, json_unix, unix_of};
 
 use super::HipOsStr;
-use crate::name::Name;
 use hip_bytes::{Backend, HipByt, JsonFault};
 use serde_json::{Map, Value};
 use std::alloc::{AllocError, Global};
@@ -27,7 +26,9 @@ impl<'b, B: Backend> HipOsStr<'b, B> {
         ensures read { JsonReadsUnix (view value.now) result }
     {
         match under_unix(value) {
-            Some(inner) => Ok(Name::of(HipByt::from_json_array(alloc, inner)?)),
+            Some(inner) => Ok(HipOsStr {
+                bytes: HipByt::from_json_array(alloc, inner)?,
+            }),
             None => Err(JsonFault::NotJsonUnix),
         }
     }

@@ -1,17 +1,44 @@
 //! Comparisons: they go by the components, whatever the kind.
-ghost use Rattle.std.specs.Prelude.{◌≡◌, refl, Some};
+ghost use Rattle.std.specs.Prelude.{◌≡◌, ◌↔◌, refl, Some, IsTrue};
 ghost use Rattle.std.specs.Cmp.{partial_equiv_from_equiv, partial_order_from_total, eq_by_cmp_equiv, on_per, on_equiv, on_po, on_total};
 ghost use Rattle.std.specs.Ordering.{eq_by_cmp};
-ghost use Rattle.hip_names.specs.Components.{path_order};
+ghost use Rattle.hip_names.specs.Components.{components, path_order};
 ghost use Rattle.hip_names.specs.Fed.{path_fed};
 ghost use Rattle.hip_names.specs.PathLaws.{path_fed_same, path_order_total};
 
 use super::HipPath;
 use crate::fed::feed_path;
-use crate::order::path_cmp;
+use crate::order::{components_eq, path_cmp};
 use hip_bytes::Backend;
 use std::cmp::Ordering;
+use std::fmt;
 use std::hash::{Hash, Hasher};
+
+impl<'b, B: Backend> HipPath<'b, B> {
+    /// Whether the bytes are a path with the same components.
+    #[inline]
+    pub fn path_eq(&self, other: &[u8]) -> bool
+        ensures { IsTrue result ↔ (components self.now.items ≡ components other.now) }
+    {
+        components_eq(self.as_path(), other)
+    }
+
+    /// How this one, as a path, stands to the bytes, as another, in the order of their components.
+    #[inline]
+    pub fn path_cmp(&self, other: &[u8]) -> Ordering
+        ensures { result ≡ path_order self.now.items other.now }
+    {
+        path_cmp(self.as_path(), other)
+    }
+
+    /// Whether the bytes are these.
+    #[inline]
+    pub fn os_str_eq(&self, other: &[u8]) -> bool
+        ensures { IsTrue result ↔ (self.now.items ≡ other.now) }
+    {
+        self.name.os_str_eq(other)
+    }
+}
 
 impl<'b, B: Backend> PartialEq for HipPath<'b, B> {
     ghost eq = { λ a b. eq_by_cmp path_order a.items b.items };
@@ -62,5 +89,12 @@ impl<'b, B: Backend> Hash for HipPath<'b, B> {
     #[inline]
     fn hash<H: Hasher>(&self, state: &mut H) {
         feed_path(self.as_path(), state);
+    }
+}
+
+/// As that of the OS string.
+impl<'b, B: Backend> fmt::Debug for HipPath<'b, B> {
+    fn fmt<W: fmt::Write>(&self, f: &mut fmt::Formatter<W>) -> fmt::Result {
+        fmt::Debug::fmt(&self.name, f)
     }
 }

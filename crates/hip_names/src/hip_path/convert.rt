@@ -1,10 +1,11 @@
 //! Conversions.
 ghost use Rattle.std.specs.Prelude.{◌≡◌, IfErr, IfOk, OnOk};
+ghost use Rattle.hip_names.specs.Decode.{IntoStrAnswers};
 
 use super::HipPath;
 use crate::hip_os_str::HipOsStr;
-use crate::name::Name;
 use hip_bytes::{Backend, Kind};
+use hip_text::HipStr;
 use std::alloc::Global;
 
 impl<'b, B: Backend> HipPath<'b, B> {
@@ -13,10 +14,24 @@ impl<'b, B: Backend> HipPath<'b, B> {
     pub fn into_os_str(self) -> HipOsStr<'b, B>
         ensures { result ≡ self.entry }
     {
-        Name::of(self.bytes)
+        self.name
     }
 
-    /// [`Name::into_os_string`], as hipstr names it where a path is asked for.
+    /// The bytes in a vector, where that takes no copy: they lie with an owner that no other handle shares. Any other value is handed
+    /// back.
+    #[inline]
+    pub fn into_os_string(self, alloc: Global) -> Result<Vec<u8>, Self>
+        ensures items { IfOk result (λ vec. vec.items ≡ self.entry.items) }
+        ensures kind { OnOk result (self.entry.kind ≡ Kind.Allocated) }
+        ensures handed_back { IfErr result (λ back. back ≡ self.entry) }
+    {
+        match self.name.into_os_string(alloc) {
+            Ok(vec) => Ok(vec),
+            Err(name) => Err(HipPath { name }),
+        }
+    }
+
+    /// [`HipPath::into_os_string`], as hipstr names it where a path is asked for.
     #[inline]
     pub fn into_path_buf(self, alloc: Global) -> Result<Vec<u8>, Self>
         ensures items { IfOk result (λ vec. vec.items ≡ self.entry.items) }
@@ -25,6 +40,17 @@ impl<'b, B: Backend> HipPath<'b, B> {
     {
         self.into_os_string(alloc)
     }
+
+    /// The text of the bytes, in the same handle, where they are UTF-8. Any other value is handed back.
+    #[inline]
+    pub fn into_str(self) -> Result<HipStr<'b, B>, Self>
+        ensures utf8 { IntoStrAnswers self.entry result }
+    {
+        match self.name.into_str() {
+            Ok(text) => Ok(text),
+            Err(name) => Err(HipPath { name }),
+        }
+    }
 }
 
 impl<'b, B: Backend> From<HipOsStr<'b, B>> for HipPath<'b, B> {
@@ -32,7 +58,18 @@ impl<'b, B: Backend> From<HipOsStr<'b, B>> for HipPath<'b, B> {
 
     #[inline]
     fn from(name: HipOsStr<'b, B>) -> Self {
-        Name::of(name.bytes)
+        HipPath { name }
+    }
+}
+
+impl<'b, B: Backend> From<HipStr<'b, B>> for HipPath<'b, B> {
+    ghost from_gives = { λ text path. path ≡ text };
+
+    #[inline]
+    fn from(text: HipStr<'b, B>) -> Self {
+        HipPath {
+            name: HipOsStr::from(text),
+        }
     }
 }
 

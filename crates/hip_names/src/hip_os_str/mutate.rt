@@ -7,11 +7,11 @@ ghost use Rattle.hip_bytes.specs.Mutated.{MutateAnswers, TakesItems};
 ghost use Rattle.hip_bytes.specs.RefMut.{lender, lent_items, lent_source};
 ghost use Rattle.hip_bytes.specs.declared.kind.TheConstants.{INLINE_CAPACITY};
 
-use super::Name;
+use super::HipOsStr;
 use hip_bytes::{Backend, Block, Meter, MutateFault, RefMut, Source, mutate, with_mutated};
 use std::alloc::{AllocError, Global};
 
-impl<'b, B: Backend, C> Source for Name<'b, B, C> {
+impl<'b, B: Backend> Source for HipOsStr<'b, B> {
     ghost use Rattle.hip_bytes.specs.declared.kind.TheConstants.{INLINE_CAPACITY};
 
     ghost items = { λ name. name.items };
@@ -45,7 +45,7 @@ impl<'b, B: Backend, C> Source for Name<'b, B, C> {
     }
 }
 
-impl<'b, B: Backend, C> Name<'b, B, C> {
+impl<'b, B: Backend> HipOsStr<'b, B> {
     /// Lends the bytes out in a vector, which [`RefMut::finish`] writes back. Until then the value is empty. Where the bytes begin the
     /// list of an owner that no other handle shares, neither call takes memory of its own. A refused call changes nothing, as
     /// [`Source::lend_vec_metered`] says of its own. What a guard leaves is known in functions that are generic in the [`Source`].

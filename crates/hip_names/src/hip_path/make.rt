@@ -5,18 +5,20 @@ ghost use Rattle.hip_bytes.specs.Change.{ShrinkAnswers};
 ghost use Rattle.hip_bytes.specs.Kinds.{Holds, IsEmptyInline};
 ghost use Rattle.hip_bytes.specs.Made.{CloneAnswers, MakeAnswers, OwnedAnswers};
 
-use super::Name;
-use hip_bytes::{Backend, HipByt, Kind};
-use hip_text::HipStr;
+use super::HipPath;
+use crate::hip_os_str::HipOsStr;
+use hip_bytes::{Backend, Kind};
 use std::alloc::{AllocError, Global};
 
-impl<'b, B: Backend, C> Name<'b, B, C> {
-    /// The empty name.
+impl<'b, B: Backend> HipPath<'b, B> {
+    /// The empty path.
     #[inline]
     pub fn new() -> Self
         ensures holds { IsEmptyInline result }
     {
-        Name::of(HipByt::new())
+        HipPath {
+            name: HipOsStr::new(),
+        }
     }
 
     /// This text, no byte of it copied.
@@ -24,7 +26,9 @@ impl<'b, B: Backend, C> Name<'b, B, C> {
     pub fn borrowed(text: &'b str) -> Self
         ensures holds { Holds result Kind.Borrowed text.entry.now }
     {
-        Name::of(HipByt::borrowed(text.as_bytes()))
+        HipPath {
+            name: HipOsStr::borrowed(text),
+        }
     }
 
     /// This text, which lives as long as the program. No byte is copied.
@@ -40,7 +44,9 @@ impl<'b, B: Backend, C> Name<'b, B, C> {
     pub fn from_str(alloc: Global, text: &str) -> Result<Self, AllocError>
         ensures made { MakeAnswers text.now result }
     {
-        Ok(Name::of(HipByt::from_slice(alloc, text.as_bytes())?))
+        Ok(HipPath {
+            name: HipOsStr::from_str(alloc, text)?,
+        })
     }
 
     /// The text of a `String`, which is taken over where it is too long for the handle itself. A refused one is handed back.
@@ -49,7 +55,9 @@ impl<'b, B: Backend, C> Name<'b, B, C> {
         ensures made { MakeAnswers (string_bytes string) result }
         ensures handed_back { IfErr result (λ back. string_vec back ≡ string_vec string) }
     {
-        Ok(Name::from(HipStr::from_string(alloc, string)?))
+        Ok(HipPath {
+            name: HipOsStr::from_string(alloc, string)?,
+        })
     }
 
     /// A handle of the same bytes and kind. On a backend that shares owners no byte of an owner is copied.
@@ -57,17 +65,19 @@ impl<'b, B: Backend, C> Name<'b, B, C> {
     pub fn clone(&self, alloc: Global) -> Result<Self, AllocError>
         ensures clone { CloneAnswers self.now result }
     {
-        Ok(Name::of(self.bytes.clone(alloc)?))
+        Ok(HipPath {
+            name: self.name.clone(alloc)?,
+        })
     }
 
     /// The same bytes, which no other value lends. Only lent bytes are copied. A refused value is handed back.
     #[inline]
-    pub fn into_owned(self, alloc: Global) -> Result<Name<'static, B, C>, Self>
+    pub fn into_owned(self, alloc: Global) -> Result<HipPath<'static, B>, Self>
         ensures owned { OwnedAnswers self.entry result }
     {
-        match self.bytes.into_owned(alloc) {
-            Ok(bytes) => Ok(Name::of(bytes)),
-            Err(bytes) => Err(Name::of(bytes)),
+        match self.name.into_owned(alloc) {
+            Ok(name) => Ok(HipPath { name }),
+            Err(name) => Err(HipPath { name }),
         }
     }
 
@@ -78,19 +88,19 @@ impl<'b, B: Backend, C> Name<'b, B, C> {
         ensures shrink { ShrinkAnswers self.old
             (max least (length self.old.items)) result self.new }
     {
-        self.bytes.shrink_to(alloc, least)
+        self.name.shrink_to(alloc, least)
     }
 
-    /// [`Name::shrink_to`] as far as it goes.
+    /// [`HipPath::shrink_to`] as far as it goes.
     #[inline]
     pub fn shrink_to_fit(&mut self, alloc: Global) -> Result<(), AllocError>
         ensures shrink { ShrinkAnswers self.old (length self.old.items) result self.new }
     {
-        self.bytes.shrink_to_fit(alloc)
+        self.name.shrink_to_fit(alloc)
     }
 }
 
-impl<'b, B: Backend, C> Default for Name<'b, B, C> {
+impl<'b, B: Backend> Default for HipPath<'b, B> {
     ghost is_default = { IsEmptyInline };
 
     #[inline]
