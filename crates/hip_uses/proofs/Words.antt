@@ -1,7 +1,6 @@
 -- The words of a text get their numbers one after another.
 use Rattle.std.proofs.Common.{◌≡◌, ◌∙◌, ℕ, List, [], ◌∷◌, ◌++◌, Option, None, Some, Result, Ok, length, take, ap, sym, subst, refl, arith}
 use Rattle.std.specs.Prelude.{slice_range}
-use Rattle.std.specs.List.{AllZip}
 use Rattle.std.proofs.lemmas.List.{append-nil, append_assoc, length-take, take-append-le}
 use Rattle.std.proofs.Math.Seq.{take-length}
 use Rattle.hipstr.specs.Handle.{Handle}

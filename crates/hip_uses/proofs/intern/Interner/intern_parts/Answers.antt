@@ -1,4 +1,4 @@
-use Rattle.std.proofs.Common.{◌≡◌, ◌∙◌, length, take, ap, subst, sym, rules, arith, Some}
+use Rattle.std.proofs.Common.{◌∙◌, ap, subst, arith, Some}
 use Rattle.std.proofs.lemmas.Grind.{common_steps}
 use Rattle.std.specs.declared.alloc.AllocError.{AllocError}
 use Rattle.hipstr.specs.Piece.{DrawsFirst}
