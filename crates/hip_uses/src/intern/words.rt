@@ -1,10 +1,11 @@
 //! The numbers of the words of a text.
-ghost use Rattle.std.specs.Prelude.{◌≡◌, ℕ, IfOk, OnOk, length, take};
+ghost use Rattle.std.specs.Prelude.{◌≡◌, ◌≤◌, ◌^◌, ℕ, IfOk, IsErrOf, OnOk, length, take};
 ghost use Rattle.std.specs.Char.{IsScalar};
 ghost use Rattle.hipstr.specs.Answers.{answer_at};
 ghost use Rattle.hipstr.specs.Characters.{char_ends};
 ghost use Rattle.hip_uses.specs.Number.{AreNumbers, all_interned};
 ghost use Rattle.hip_uses.specs.Words.{is_gap, parts_between};
+ghost use Rattle.hip_uses.specs.declared.fault.InternFault.TheVariants.{TooMany};
 
 use crate::intern::{InternFault, Interner};
 use hipstr::pattern::{CharPred, Chosen, Pattern, choose_by};
@@ -40,6 +41,7 @@ impl<'b, B: Backend> Interner<'b, B> {
         ensures texts { OnOk result (self.new
             ≡ all_interned self.old (parts_between (P.ends pattern) text.now.items)) }
         ensures kept { take (length self.old) self.new ≡ self.old }
+        ensures too_many { IsErrOf result TooMany → 2 ^ 32 ≤ length self.new }
     {
         let mut numbers = Vec::new(alloc);
         for part in text.split(alloc, pattern) {
@@ -62,6 +64,7 @@ impl<'b, B: Backend> Interner<'b, B> {
         ensures texts { OnOk result (self.new
             ≡ all_interned self.old (parts_between (char_ends is_gap) text.now.items)) }
         ensures kept { take (length self.old) self.new ≡ self.old }
+        ensures too_many { IsErrOf result TooMany → 2 ^ 32 ≤ length self.new }
     {
         let gap = CharPred::with(|c| is_gap(c), chosen_gaps());
         self.intern_parts(alloc, text, gap)
