@@ -3,6 +3,7 @@ use Rattle.std.proofs.Common.{◌≡◌, ◌∙◌, ℕ, ◌+◌, ◌<◌, ◌�
 use Rattle.std.proofs.lemmas.Bool.{cases_lt}
 use Rattle.std.proofs.lemmas.Option.{get_or_from_slice_get, slice_get-get_or, slice_get-map, slice_get_within}
 use Rattle.std.specs.Option.{option_map}
+use Rattle.std.proofs.lemmas.List.{map-append}
 use Rattle.std.proofs.Math.ListN.{get_or-append}
 use Rattle.std.proofs.Math.Seq.{get_or-append_seam}
 use Rattle.std.specs.Prelude.{IfSome, MatchOption, if◌then◌else◌, cond, slice_get}
@@ -69,6 +70,22 @@ StandOnce-push word ts none once = λ number text found.
     let same : word ≡ text = sym (get_or-append_seam ts word [] text) ∙ ap (λ k. get_or all k text) last ∙ is in
     subst (λ t. number_of t all ≡ Some number) same (number_of-pushed word ts number (sym last) none))
     (cases_lt number (length ts))
+
+-- the texts and the numbers agree again when a new text stands at the end and its copy has the next number
+pub agree-added : (kept reserved pushed : List Handle) (texts : List (List ℕ)) (text copy : Handle) (number : ℕ) (before after : Handle → Option ℕ)
+    → pushed ≡ reserved ++ text ∷ [] → reserved ≡ kept → map bytes_of kept ≡ texts → number ≡ length texts → number_of text.items texts ≡ None → copy.items ≡ text.items
+    → StandOnce (map bytes_of kept) × ((key : Handle) → before key ≡ number_of key.items (map bytes_of kept))
+    → ((key : Handle) → after key ≡ cond (pointwise nat_eq copy.items key.items) (Some number) (before key))
+    → StandOnce (map bytes_of pushed) × ((key : Handle) → after key ≡ number_of key.items (map bytes_of pushed))
+agree-added kept reserved pushed texts text copy number before after pushed_is same are next none copy_is agree updates =
+    let now : map bytes_of pushed ≡ texts ++ text.items ∷ [] =
+    ap (map bytes_of) (pushed_is ∙ ap (λ l. l ++ text ∷ []) same) ∙ map-append bytes_of kept (text ∷ []) ∙ ap (λ l. l ++ text.items ∷ []) are in (
+      subst StandOnce (sym now) (StandOnce-push text.items texts none (subst StandOnce are agree.0)),
+      λ key. updates key
+          ∙ ap (λ o. cond (pointwise nat_eq copy.items key.items) (Some number) o) (agree.1 key ∙ ap (number_of key.items) are)
+          ∙ number_of-push key.items text.items copy.items texts number copy_is next none
+          ∙ sym (ap (number_of key.items) now),
+    )
 
 -- the text of a number, where no text stands twice
 pub text-numbered : (Q : Bor Handle → Type 0) (result : Option (Bor Handle)) (items : List Handle) (texts : List (List ℕ)) (number : ℕ) → IfSome result (λ text. text.now ≡ get_or items number text.now)

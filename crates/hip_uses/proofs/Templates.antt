@@ -1,47 +1,75 @@
 -- One hole more of a template.
-use Rattle.std.proofs.Common.{◌≡◌, ◌∙◌, ℕ, ◌+◌, ◌<◌, ◌≤◌, List, [], ◌++◌, None, Some, Result, Ok, Err, length, take, get_or, ap, sym, refl, subst, append_assoc, arith, ⊎_elim}
-use Rattle.std.specs.Prelude.{IfErr, IsErrAnd, IsSome}
+use Rattle.std.proofs.Common.{◌≡◌, ◌∙◌, ℕ, ◌+◌, ◌<◌, ◌≤◌, List, [], ◌∷◌, ◌++◌, Option, None, Some, Result, Ok, Err, length, take, get_or, ap, sym, subst, append_assoc, length-append, arith, ⊎_elim}
+use Rattle.std.specs.Borrow.{Bor}
+use Rattle.std.specs.Prelude.{IfErr, IsErrAnd, IsSome, MatchOption}
 use Rattle.std.proofs.lemmas.Bool.{cases_lt}
-use Rattle.std.specs.Option.{option_map_or}
+use Rattle.std.specs.Option.{option_copied}
 use Rattle.std.proofs.lemmas.List.{flat_map_more, get_or_default, take_more}
 use Rattle.hipstr.specs.Handle.{Handle}
-use Rattle.hip_uses.specs.Template.{FillFails, IsUnknown, ParseFails, filled, hole_filled, opening, value_of}
+use Rattle.hip_uses.specs.Template.{FirstHole, IsParsed, ParseFails, closing, filled, hole_filled, hole_written, opening, value_of, written}
 use Rattle.hip_uses.specs.declared.template.Hole.{Hole}
 use Rattle.hip_uses.specs.declared.fault.TemplateFault.{TemplateFault}
 use Rattle.hip_uses.specs.declared.fault.TemplateFault.TheVariants.{Unclosed, Unknown, Memory}
 
 -- one hole more that is filled
-pub filled-more : {B S P : Type 0} (values : List (Handle × Handle)) (holes : List (Hole B S P)) (i : ℕ) (hole : Hole B S P) (value : Handle) (start before text : List ℕ)
-    → i < length holes → value_of values (get_or holes i hole).name.items ≡ Some value → before ≡ start ++ filled values (take i holes)
-    → text ≡ (before ++ (get_or holes i hole).before.items) ++ value.items → text ≡ start ++ filled values (take (i + 1) holes)
-filled-more values holes i hole value start before text lt known so_far is =
-    let here = get_or holes i hole in
-    let more : filled values (take (i + 1) holes) ≡ filled values (take i holes) ++ hole_filled values here =
-    ap (filled values) (take_more holes i hole lt) ∙ sym (flat_map_more (hole_filled values) [] (take i holes) here) in
-    let one : hole_filled values here ≡ here.before.items ++ value.items = ap (λ o. here.before.items ++ option_map_or (λ (v : Handle). v.items) o []) known in
-    is ∙ append_assoc before here.before.items value.items ∙ ap (λ l. l ++ (here.before.items ++ value.items)) so_far
-    ∙ append_assoc start (filled values (take i holes)) (here.before.items ++ value.items) ∙ ap (λ l. start ++ l) (ap (λ l. filled values (take i holes) ++ l) (sym one) ∙ sym more)
+pub filled-more : {B S P : Type 0} (values : List (Handle × Handle)) (holes : List (Hole B S P)) (i : ℕ) (hole : Hole B S P) (start before text : List ℕ)
+    → i < length holes → hole ≡ get_or holes i hole → before ≡ start ++ filled values (take i holes) → text ≡ before ++ hole_filled values hole → text ≡ start ++ filled values (take (i + 1) holes)
+filled-more values holes i hole start before text lt here so_far is =
+    let more : filled values (take (i + 1) holes) ≡ filled values (take i holes) ++ hole_filled values hole =
+    ap (filled values) (take_more holes i hole lt) ∙ sym (flat_map_more (hole_filled values) [] (take i holes) (get_or holes i hole)) ∙ ap (λ h. filled values (take i holes) ++ hole_filled values h) (sym here) in
+    is ∙ ap (λ l. l ++ hole_filled values hole) so_far ∙ append_assoc start (filled values (take i holes)) (hole_filled values hole) ∙ ap (λ l. start ++ l) (sym more)
 
 -- each hole up to a place is known, and the next
-pub known-more : {B S P : Type 0} (values : List (Handle × Handle)) (holes : List (Hole B S P)) (i : ℕ) (hole : Hole B S P) (value : Handle)
-    → value_of values (get_or holes i hole).name.items ≡ Some value
-    → ((k : ℕ) (other : Hole B S P) → k < i → IsSome (value_of values (get_or holes k other).name.items)) → i < length holes
+pub known-more : {B S P : Type 0} (values : List (Handle × Handle)) (holes : List (Hole B S P)) (i : ℕ) (hole : Hole B S P) → i < length holes → hole ≡ get_or holes i hole
+    → IsSome (value_of values hole.name.items) → ((k : ℕ) (other : Hole B S P) → k < i → IsSome (value_of values (get_or holes k other).name.items))
     → (k : ℕ) (other : Hole B S P) → k < i + 1 → IsSome (value_of values (get_or holes k other).name.items)
-known-more values holes i hole value known so_far within k other low =
+known-more {B} {S} {P} values holes i hole within is known so_far k other low =
     ⊎_elim (λ (lt : k < i). so_far k other lt)
     (λ (ge : i ≤ k).
     let here : i ≡ k = omega arith in
-    let is : value_of values (get_or holes i other).name.items ≡ Some value = ap (λ h. value_of values h.name.items) (get_or_default holes i other hole within) ∙ known in
-    let some : IsSome (value_of values (get_or holes i other).name.items) = subst IsSome (sym is) refl in
-    subst (λ (n : ℕ). IsSome (value_of values (get_or holes n other).name.items)) here some)
+    let same : hole ≡ get_or holes k other = is ∙ sym (get_or_default holes i other hole within) ∙ ap (λ n. get_or holes n other) here in
+    subst (λ (h : Hole B S P). IsSome (value_of values h.name.items)) same known)
     (cases_lt k i)
 
--- a name under which nothing goes, of a hole
-pub unknown-fails : {B S P : Type 0} (values : List (Handle × Handle)) (holes : List (Hole B S P)) (fault : TemplateFault B S P) (i : ℕ) (hole : Hole B S P)
-    → i < length holes → hole ≡ get_or holes i hole → value_of values hole.name.items ≡ None → IsUnknown hole.name.items fault → FillFails values holes fault
-unknown-fails values holes (Unclosed text) i hole within is none unknown = unknown
-unknown-fails values holes (Unknown name) i hole within is none unknown = (ap (value_of values) unknown ∙ none, (i, hole, within, sym is, sym unknown))
-unknown-fails values holes Memory i hole within is none unknown = tt
+-- what a map gives, by its value
+pub by-value : (result : Option (Bor Handle)) (found : Option Handle) → option_copied result ≡ found → MatchOption result (found ≡ None) (λ value. found ≡ Some value.now)
+by-value None found is = sym is
+by-value (Some value) found is = sym is
+
+-- what follows the first hole is shorter
+pub hole-shorter : {B S P : Type 0} (text : List ℕ) (hole : Hole B S P) (after : Handle) → FirstHole text (Ok (Some (hole, after))) → length after.items < length text
+hole-shorter text hole after cut =
+    let behind = cut.0 in
+    let opens : length text ≡ length hole.before.items + length (opening ++ behind) =
+    ap length cut.1.joined ∙ length-append hole.before.items (opening ++ behind) in
+    let closes : length behind ≡ length hole.name.items + length (closing ++ after.items) =
+    ap length cut.2.joined ∙ length-append hole.name.items (closing ++ after.items) in
+    omega (arith, opens, closes)
+
+-- a hole as it is written, and what follows it
+hole-and-after : {B S P : Type 0} (text : List ℕ) (hole : Hole B S P) (after : Handle) → FirstHole text (Ok (Some (hole, after))) → hole_written hole ++ after.items ≡ text
+hole-and-after text hole after cut =
+    let before = hole.before.items in
+    let name = hole.name.items in
+    append_assoc before (opening ++ (name ++ closing)) after.items
+    ∙ ap (λ l. before ++ l) (append_assoc opening (name ++ closing) after.items ∙ ap (λ l. opening ++ l) (append_assoc name closing after.items ∙ sym cut.2.joined))
+    ∙ sym cut.1.joined
+
+-- one hole more that is written
+pub written-more : {B S P : Type 0} (template rest : List ℕ) (holes more : List (Hole B S P)) (hole : Hole B S P) (after : Handle) → written holes ++ rest ≡ template
+    → FirstHole rest (Ok (Some (hole, after))) → more ≡ holes ++ hole ∷ [] → written more ++ after.items ≡ template
+written-more template rest holes more hole after so_far cut pushed =
+    ap (λ l. l ++ after.items) (ap written pushed ∙ sym (flat_map_more hole_written [] holes hole)) ∙ append_assoc (written holes) (hole_written hole) after.items
+    ∙ ap (λ l. written holes ++ l) (hole-and-after rest hole after cut) ∙ so_far
+
+-- what the rest is parsed to, behind one hole more
+pub parsed-more : {B S P : Type 0} (template rest : List ℕ) (holes more : List (Hole B S P)) (hole : Hole B S P) (after : Handle)
+    → ((later : List (Hole B S P)) (last : List ℕ) → IsParsed rest later last → IsParsed template (holes ++ later) last)
+    → FirstHole rest (Ok (Some (hole, after))) → more ≡ holes ++ hole ∷ []
+    → (later : List (Hole B S P)) (last : List ℕ) → IsParsed after.items later last → IsParsed template (more ++ later) last
+parsed-more {B} {S} {P} template rest holes more hole after so_far cut pushed later last parsed =
+    subst (λ (l : List (Hole B S P)). IsParsed template l last) (sym (ap (λ l. l ++ later) pushed ∙ append_assoc holes (hole ∷ []) later))
+    (so_far (hole ∷ later) last (cut.0, after.items, cut.1, cut.2, parsed))
 
 -- what can't be cut of the end of a template can't be cut of it
 pub fails-more : {B S P : Type 0} (front rest template : List ℕ) (fault : TemplateFault B S P) → front ++ rest ≡ template → ParseFails rest fault → ParseFails template fault

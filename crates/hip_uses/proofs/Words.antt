@@ -1,6 +1,7 @@
 -- The words of a text get their numbers one after another.
-use Rattle.std.proofs.Common.{◌≡◌, ◌∙◌, ℕ, List, [], ◌∷◌, ◌++◌, Option, None, Some, Result, Ok, length, take, ap, sym, subst, refl, arith}
+use Rattle.std.proofs.Common.{◌≡◌, ◌==◌, true, false, ◌∙◌, ℕ, List, [], ◌∷◌, ◌++◌, Option, None, Some, Result, Ok, length, take, ap, sym, subst, refl, arith}
 use Rattle.std.specs.Prelude.{slice_range}
+use Rattle.std.proofs.lemmas.Bool.{true≢false}
 use Rattle.std.proofs.lemmas.List.{append-nil, append_assoc, length-take, take-append-le}
 use Rattle.std.proofs.Math.Seq.{take-length}
 use Rattle.hipstr.specs.Handle.{Handle}
@@ -68,13 +69,13 @@ numbered-all old now all numbers so_far =
     (subst (λ l. AreNumbers now l numbers) whole so_far.are, so_far.texts ∙ ap (all_interned old) whole)
 
 -- what is to come where a part is a word, and where it is none
-word-first : (bytes : List ℕ) (words : List (List ℕ)) → ¬ (length bytes ≡ 0) → with_filled bytes words ≡ bytes ∷ words
-word-first [] words filled = absurd (filled refl)
+word-first : (bytes : List ℕ) (words : List (List ℕ)) → (length bytes == 0) ≡ false → with_filled bytes words ≡ bytes ∷ words
+word-first [] words filled = absurd (true≢false filled)
 word-first (byte ∷ bytes) words filled = refl
 
-word-none : (bytes : List ℕ) (words : List (List ℕ)) → length bytes ≡ 0 → with_filled bytes words ≡ words
+word-none : (bytes : List ℕ) (words : List (List ℕ)) → (length bytes == 0) ≡ true → with_filled bytes words ≡ words
 word-none [] words empty = refl
-word-none (byte ∷ bytes) words empty = absurd (omega (arith, empty))
+word-none (byte ∷ bytes) words empty = absurd (grind (arith, empty))
 
 -- of the parts at all ranges of a text the words that were drawn have their numbers
 pub record Walked (old : List (List ℕ)) (text : Handle) (all : List (ℕ × ℕ)) (now : List (List ℕ)) (left : Left) (numbers : List ℕ) : Type 0 where
@@ -92,7 +93,7 @@ module _ (old : List (List ℕ)) (text : Handle) (all : List (ℕ × ℕ)) (now 
       ap (filled_parts text.items) draws.1.1
       ∙ ap (λ bytes. with_filled bytes (filled_parts text.items next.rest)) (sym (draws.1.3.items_are ∙ ap (λ (source : Handle). slice_range source.items draws.1.0.0 draws.1.0.1) so_far.source))
 
-  pub walked-on : (later : List (List ℕ)) (more : List ℕ) (number : ℕ) → ¬ (length part.items ≡ 0) → later ≡ interned now part.items → number_of part.items later ≡ Some number → more ≡ numbers ++ number ∷ []
+  pub walked-on : (later : List (List ℕ)) (more : List ℕ) (number : ℕ) → (length part.items == 0) ≡ false → later ≡ interned now part.items → number_of part.items later ≡ Some number → more ≡ numbers ++ number ∷ []
       → Walked old text all later next more
   walked-on later more number filled is has pushed = rw (is, pushed) (record {
     words = numbered-more old now (filled_parts text.items all) (filled_parts text.items left.rest) (filled_parts text.items next.rest) numbers part.items number so_far.words
@@ -101,7 +102,7 @@ module _ (old : List (List ℕ)) (text : Handle) (all : List (ℕ × ℕ)) (now 
     kept = kept-interned old now part.items so_far.kept;
   })
 
-  pub walked-over : length part.items ≡ 0 → Walked old text all now next numbers
+  pub walked-over : (length part.items == 0) ≡ true → Walked old text all now next numbers
   walked-over empty = record {
     words = subst (λ rest. Numbered old now (filled_parts text.items all) rest numbers) (to_come ∙ word-none part.items (filled_parts text.items next.rest) empty) so_far.words;
     source = draws.0 ∙ so_far.source;

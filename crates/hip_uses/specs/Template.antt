@@ -65,6 +65,12 @@ IsUnknown name (Unclosed text) = ⊥
 IsUnknown name (Unknown unknown) = unknown.items ≡ name
 IsUnknown name Memory = Unit {0}
 
+-- this is the hole's name, and nothing goes under it
+abbrev pub HoleFails : {B S P : Type 0} → List (Handle × Handle) → Hole B S P → TemplateFault B S P → Type 0
+HoleFails values hole (Unclosed text) = ⊥
+HoleFails values hole (Unknown name) = (value_of values name.items ≡ None) × (hole.name.items ≡ name.items)
+HoleFails values hole Memory = Unit {0}
+
 -- a hole has this name, under which nothing goes
 abbrev pub FillFails : {B S P : Type 0} → List (Handle × Handle) → List (Hole B S P) → TemplateFault B S P → Type 0
 FillFails values holes (Unclosed text) = ⊥

@@ -1,19 +1,18 @@
 //! Texts that have numbers: each different text is kept once, and the first has number 0.
 //!
 //! - [`words`]: the numbers of the words of a text.
-ghost use Rattle.std.specs.Prelude.{◌≡◌, ◌==◌, ◌≤◌, [], length, slice_get, true, Some};
-ghost use Rattle.std.specs.Prelude.{◌^◌, IfOk, IfSome, IsErrOf, IsOk, IsSome, MatchOption, OnErr, OnOk};
-ghost use Rattle.hipstr.specs.Meter.{RisesAtMost};
-ghost use Rattle.hip_uses.specs.Number.{interned, number_of};
-ghost use Rattle.hip_uses.specs.declared.fault.InternFault.TheVariants.{TooMany};
+ghost use Rattle.std.specs.Prelude.{◌≡◌, ◌==◌, ◌≤◌, [], length, slice_get, Some};
+ghost use Rattle.std.specs.Prelude.{IfSome, MatchOption};
+ghost use Rattle.hip_uses.specs.Number.{number_of};
 
 pub use crate::fault::InternFault;
+use hipstr::Backend;
 use hipstr::string::HipStr;
-use hipstr::{Backend, Meter};
 use std::alloc::Global;
 use std::collections::HashMap;
 use std::marker::Model;
 
+mod adding;
 pub mod words;
 
 /// The different texts, in the order in which they came.
@@ -76,36 +75,5 @@ impl<'b, B: Backend> Interner<'b, B> {
             number_of text.now.items self.now ≡ Some number) }
     {
         self.texts.get(number as usize)
-    }
-
-    /// The number of a text, which gets the next one where it has none.
-    /// Where owners are shared, at most the 23 bytes are copied that a handle holds in itself.
-    pub fn intern(
-        &mut self,
-        alloc: Global,
-        text: HipStr<'b, B>,
-        meter: &mut Meter,
-    ) -> Result<u32, InternFault>
-        ensures number { IfOk result (λ number.
-            number_of text.entry.items self.new ≡ Some number) }
-        ensures texts { OnOk result (self.new ≡ interned self.old text.entry.items) }
-        ensures refused { OnErr result (self.new ≡ self.old) }
-        ensures known { IsSome (number_of text.entry.items self.old) → IsOk result }
-        ensures too_many { IsErrOf result TooMany → 2 ^ 32 ≤ length self.old }
-        ensures shared { B.SHARES ≡ true → RisesAtMost meter.old meter.new 23 }
-    {
-        if let Some(number) = self.numbers.get(&text) {
-            return Ok(*number);
-        }
-        let Ok(number) = u32::try_from(self.texts.len()) else {
-            return Err(InternFault::TooMany);
-        };
-        let key = text.clone_metered(alloc, meter)?;
-        self.texts.reserve(1)?;
-        let Ok(_) = self.numbers.insert(key, number) else {
-            return Err(InternFault::Memory);
-        };
-        self.texts.push_reserved(text);
-        Ok(number)
     }
 }

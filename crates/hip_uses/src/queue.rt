@@ -71,12 +71,7 @@ fn any_full<B: Backend>(queues: &[Queue<'_, B>]) -> bool
     ensures full { IsTrue result ↔ Any IsFull queues.now }
     ensures room { OnFalse result (All HasRoom queues.now) }
 {
-    for queue in queues {
-        if queue.is_full() {
-            return true;
-        }
-    }
-    false
+    queues.iter().any(|queue| queue.is_full())
 }
 
 /// So many clones of a message.
@@ -98,8 +93,7 @@ fn clones_of<'b, B: Backend>(
     Ok(clones)
 }
 
-/// Publishes a message to each subscriber, or to none. Where owners are shared, each clone copies
-/// at most the 23 bytes that a handle holds in itself.
+/// Publishes a message to each subscriber, or to none. Where owners are shared, each clone copies at most 23 bytes.
 pub fn publish<'b, B: Backend>(
     alloc: Global,
     queues: &mut [Queue<'b, B>],

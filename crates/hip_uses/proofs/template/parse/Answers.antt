@@ -4,7 +4,7 @@ use Rattle.hipstr.specs.Handle.{Handle}
 use Rattle.hipstr.specs.Parted.{Lacks}
 use Rattle.hip_uses.specs.Template.{FirstHole, IsParsed, opening, written}
 use Rattle.hip_uses.specs.declared.template.Hole.{Hole}
-use Rattle.hip_uses.proofs.Templates.{fails-handed_on}
+use Rattle.hip_uses.proofs.Templates.{fails-handed_on, hole-shorter, parsed-more, written-more}
 use Rattle.hip_uses.proofs.template.parse.Goals as goal
 
 pub returns-in_err-hole-clause-fault : goal.returns-in_err-hole-clause-fault
@@ -18,3 +18,18 @@ returns-clause-parsed g c =
     let rest = c.loop-rest.rest.items in
     let lacks : Lacks opening rest = subst (λ (found : Option (AHole × Handle)). FirstHole rest (Ok found)) c.in_default.is c.in_ok-hole.ensures in
     subst (λ (holes : List AHole). IsParsed c.args.template.now.items holes rest) (append-nil c.loop-rest.holes.items) (c.loop-rest.invariant.parsed [] rest (refl, lacks))
+
+pub loop-rest-smaller : goal.loop-rest-smaller
+loop-rest-smaller g c =
+    let AHole : Type 0 = Hole g.row.B.Denot g.row.B-Sole.Denot g.row.B-Start.Denot in
+    hole-shorter c.loop-rest.rest.items c.in-Some.hole c.in-Some.after (subst (λ (found : Option (AHole × Handle)). FirstHole c.loop-rest.rest.items (Ok found)) c.in-Some.is c.in_ok-hole.ensures)
+
+pub loop-rest-preserved : goal.loop-rest-preserved
+loop-rest-preserved g c =
+    let AHole : Type 0 = Hole g.row.B.Denot g.row.B-Sole.Denot g.row.B-Start.Denot in
+    let rest = c.loop-rest.rest.items in
+    let cut = subst (λ (found : Option (AHole × Handle)). FirstHole rest (Ok found)) c.in-Some.is c.in_ok-hole.ensures in
+    record {
+      written = written-more c.args.template.now.items rest c.loop-rest.holes.items c.push.new.self.items c.in-Some.hole c.in-Some.after c.loop-rest.invariant.written cut c.in_ok-push.ensures.items;
+      parsed = parsed-more c.args.template.now.items rest c.loop-rest.holes.items c.push.new.self.items c.in-Some.hole c.in-Some.after c.loop-rest.invariant.parsed cut c.in_ok-push.ensures.items;
+    }

@@ -1,23 +1,22 @@
-use Rattle.std.proofs.Common.{◌≡◌, ◌∙◌, ℕ, ◌+◌, ◌-◌, ◌*◌, ◌≤◌, List, [], ◌++◌, length, ap, sym, subst, rules, arith, length-append}
+use Rattle.std.proofs.Common.{◌≡◌, ◌∙◌, ℕ, ◌+◌, ◌-◌, ◌*◌, List, [], ◌++◌, length, ap, sym, subst, arith, length-append}
 use Rattle.std.specs.Prelude.{All, slice_range}
 use Rattle.std.specs.List.{flat_map}
 use Rattle.std.specs.Str.{IsCharBoundary}
 use Rattle.std.proofs.lemmas.Str.{IsCharBoundary-start}
 use Rattle.std.proofs.lemmas.List.{flat_map_more}
-use Rattle.std.proofs.lemmas.List.Elements.{All-push}
+use Rattle.std.proofs.lemmas.List.Elements.{All-nil, All-push}
 use Rattle.hipstr.specs.Made.{IsPart}
-use Rattle.hipstr.specs.Cost.{cut_cost}
 use Rattle.hipstr.specs.Meter.{RisesAtMost}
 use Rattle.hip_uses.specs.Token.{IsRun, IsTokenOf, bytes_of}
-use Rattle.hip_uses.proofs.Little.{rises-more}
+use Rattle.hip_uses.proofs.Little.{part-little, rises-more}
 use Rattle.hip_uses.proofs.Runs.{length-range, take-range}
 use Rattle.hip_uses.proofs.tokens.tokens.Goals as goal
 
 pub loop-start-init : goal.loop-start-init
 loop-start-init g c = record {
   boundary = subst (λ (l : List ℕ). IsCharBoundary l 0) c.as_str-whole.ensures.items (IsCharBoundary-start _ c.as_str-whole.ensures.utf8);
-  joined = search rules;
-  each = search rules;
+  joined = ap (flat_map bytes_of) c.new-tokens.ensures.items;
+  each = subst (All (IsTokenOf c.args.source.now)) (sym c.new-tokens.ensures.items) (All-nil (IsTokenOf c.args.source.now));
   shared = λ shares. record { never_falls = omega arith; at_most = omega arith };
 }
 
@@ -46,7 +45,7 @@ loop-start-preserved g c =
             subst (λ (k : ℕ). IsPart c.args.source.now c.in_ok-text.text (slice_range items start k)) place part,
             subst (IsRun items class start) place run,
           ));
-      shared = λ shares. let bound : cut_cost g.B.Backend.SHARES c.args.source.now.kind (end - start) ≤ 23 = grind (arith, shares) in
+      shared = λ shares. let bound = part-little g.B.Backend.SHARES c.args.source.now.kind (end - start) shares in
           subst (λ (n : ℕ). RisesAtMost c.args.meter.now c.part_metered.new.meter (23 * n)) (sym (ap length pushed ∙ length-append c.loop-start.tokens.items _))
           (rises-more _ c.args.meter.now c.loop-start.meter c.part_metered.new.meter (length c.loop-start.tokens.items) bound (c.loop-start.invariant.shared shares) c.in_ok-text.ensures.counted);
     }

@@ -1,5 +1,4 @@
-use Rattle.std.proofs.Common.{◌∙◌, ap, subst, arith, Some}
-use Rattle.std.proofs.lemmas.Grind.{common_steps}
+use Rattle.std.proofs.Common.{◌∙◌, Some, ap, subst, sym}
 use Rattle.std.specs.declared.alloc.AllocError.{AllocError}
 use Rattle.hipstr.specs.Piece.{DrawsFirst}
 use Rattle.hip_uses.proofs.Words.{kept-interned, walked-all, walked-none, walked-on, walked-over}
@@ -21,13 +20,13 @@ pub loop-part-preserved-in_ok-push : goal.loop-part-preserved-in_ok-push
 loop-part-preserved-in_ok-push g c =
     let draws = subst (λ result. DrawsFirst c.loop-part.part-iterator (Some result) c.next.new.self) c.in_ok-part.was c.in-Some.ensures.steps in
     walked-on c.args.self.now c.args.text.now c.into_iter-part-iterator.result.rest c.loop-part.self c.loop-part.part-iterator c.next.new.self c.loop-part.numbers.items AllocError c.in_ok-part.part c.loop-part.invariant draws
-    c.intern.new.self c.push.new.self.items c.in_ok-intern.field-0 (grind (arith, common_steps, c.is_empty.ensures)) c.in_ok-intern.ensures.texts c.in_ok-intern.ensures.number c.in_ok-push.ensures.items
+    c.intern.new.self c.push.new.self.items c.in_ok-intern.field-0 (sym c.is_empty.ensures ∙ c.if-not-is_empty.true) c.in_ok-intern.ensures.texts c.in_ok-intern.ensures.number c.in_ok-push.ensures.items
 
 pub loop-part-preserved-else-not-is_empty : goal.loop-part-preserved-else-not-is_empty
 loop-part-preserved-else-not-is_empty g c =
     let draws = subst (λ result. DrawsFirst c.loop-part.part-iterator (Some result) c.next.new.self) c.in_ok-part.was c.in-Some.ensures.steps in
     walked-over c.args.self.now c.args.text.now c.into_iter-part-iterator.result.rest c.loop-part.self c.loop-part.part-iterator c.next.new.self c.loop-part.numbers.items AllocError c.in_ok-part.part c.loop-part.invariant draws
-    (grind (arith, common_steps, c.is_empty.ensures))
+    (sym c.is_empty.ensures ∙ c.if-not-is_empty.false)
 
 pub returns-clause-numbers : goal.returns-clause-numbers
 returns-clause-numbers g c =

@@ -2,7 +2,7 @@ use Rattle.std.proofs.Common.{◌≡◌, ◌++◌, ◌<◌, ℕ, get_or, take}
 use Rattle.std.specs.Prelude.{IsSome}
 use Rattle.hip_uses.specs.Template.{filled, value_of}
 use Rattle.hip_uses.specs.declared.template.Hole.{Hole}
-use Rattle.hip_uses.proofs.template.push_filled.Given as goal
+use Rattle.hip_uses.proofs.template.filling.push_filled.Given as goal
 
 abbrev pub invariant-loop-hole : goal.invariant-loop-hole
 invariant-loop-hole g l = record {

@@ -1,0 +1,62 @@
+//! Texts that get numbers.
+ghost use Rattle.std.specs.Prelude.{◌≡◌, ◌≤◌, ◌^◌, [], ◌∷◌, ◌++◌, length, true, None, Some};
+ghost use Rattle.std.specs.Prelude.{IfOk, IsErrOf, IsOk, IsSome, OnErr, OnOk};
+ghost use Rattle.hipstr.specs.Meter.{RisesAtMost};
+ghost use Rattle.hip_uses.specs.Number.{interned, number_of};
+ghost use Rattle.hip_uses.specs.declared.fault.InternFault.TheVariants.{TooMany};
+
+use crate::intern::{InternFault, Interner};
+use hipstr::string::HipStr;
+use hipstr::{Backend, Meter};
+use std::alloc::{AllocError, Global};
+
+impl<'b, B: Backend> Interner<'b, B> {
+    /// Puts a text that has no number behind the others.
+    fn add(
+        &mut self,
+        alloc: Global,
+        text: HipStr<'b, B>,
+        number: u32,
+        meter: &mut Meter,
+    ) -> Result<(), AllocError>
+        requires new { number_of text.items self.now ≡ None }
+        requires next { number ≡ length self.now }
+        ensures added { OnOk result (self.new ≡ self.old ++ text.entry.items ∷ []) }
+        ensures refused { OnErr result (self.new ≡ self.old) }
+        ensures shared { B.SHARES ≡ true → RisesAtMost meter.old meter.new 23 }
+    {
+        let key = text.clone_metered(alloc, meter)?;
+        self.texts.reserve(1)?;
+        let Ok(_) = self.numbers.insert(key, number) else {
+            return Err(AllocError);
+        };
+        self.texts.push_reserved(text);
+        Ok(())
+    }
+
+    /// The number of a text, which gets the next one where it has none.
+    /// Where owners are shared, at most the 23 bytes are copied that a handle holds in itself.
+    pub fn intern(
+        &mut self,
+        alloc: Global,
+        text: HipStr<'b, B>,
+        meter: &mut Meter,
+    ) -> Result<u32, InternFault>
+        ensures number { IfOk result (λ number.
+            number_of text.entry.items self.new ≡ Some number) }
+        ensures texts { OnOk result (self.new ≡ interned self.old text.entry.items) }
+        ensures refused { OnErr result (self.new ≡ self.old) }
+        ensures known { IsSome (number_of text.entry.items self.old) → IsOk result }
+        ensures too_many { IsErrOf result TooMany → 2 ^ 32 ≤ length self.old }
+        ensures shared { B.SHARES ≡ true → RisesAtMost meter.old meter.new 23 }
+    {
+        if let Some(number) = self.find(&text) {
+            return Ok(number);
+        }
+        let Ok(number) = u32::try_from(self.len()) else {
+            return Err(InternFault::TooMany);
+        };
+        self.add(alloc, text, number, meter)?;
+        Ok(number)
+    }
+}
