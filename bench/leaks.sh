@@ -35,7 +35,7 @@ done
 program=crates/hip_refused_tests/out/hip_refused_tests_tests
 [ -x "$program" ] || exit 0
 ${CC:-cc} -O2 -shared -fPIC -ftls-model=initial-exec -o "$room/refuse.so" bench/refuse.c
-for test in lists::list_of_each_command types::calls_of_byte_strings; do
+for test in tests::lists::list_of_each_command tests::types::calls_of_byte_strings; do
     LD_PRELOAD="$room/refuse.so" $watched --soname-synonyms=somalloc=nouserintercepts "$program" "$test" > /dev/null 2> "$room/told" || { cat "$room/told"; exit 1; }
     echo "$test: $(tail -n 1 "$room/told") on either backend, no invalid access, no leak"
 done

@@ -10,12 +10,6 @@
 #![tactic(auto)]
 
 #[cfg(test)]
-mod cuts;
-#[cfg(test)]
-mod own_backend;
-#[cfg(test)]
-mod sessions;
+mod tests;
 #[cfg(test)]
 mod user;
-#[cfg(test)]
-mod ways;

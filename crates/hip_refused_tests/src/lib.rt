@@ -18,24 +18,4 @@
 #![tactic(auto)]
 
 #[cfg(test)]
-mod calls;
-#[cfg(test)]
-mod fields;
-#[cfg(test)]
-mod handle;
-#[cfg(test)]
-mod held;
-#[cfg(test)]
-mod lists;
-#[cfg(test)]
-mod owner;
-#[cfg(test)]
-mod plays;
-#[cfg(test)]
-mod refusing;
-#[cfg(test)]
-mod rows;
-#[cfg(test)]
-mod types;
-#[cfg(test)]
-mod walks;
+mod tests;

@@ -6,6 +6,7 @@ ghost use Rattle.std.specs.Prelude.{IfSome, MatchOption};
 ghost use Rattle.hip_uses.specs.Number.{number_of};
 
 pub use crate::fault::InternFault;
+use crate::keyed::found;
 use hipstr::Backend;
 use hipstr::string::HipStr;
 use std::alloc::Global;
@@ -64,7 +65,7 @@ impl<'b, B: Backend> Interner<'b, B> {
     pub fn find(&self, text: &HipStr<'b, B>) -> Option<u32>
         ensures { result ≡ number_of text.now.items self.now }
     {
-        self.numbers.get(text).copied()
+        found(&self.numbers, text).copied()
     }
 
     /// The text of a number, if there is one.

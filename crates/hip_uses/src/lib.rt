@@ -9,6 +9,7 @@
 
 mod fault;
 pub mod intern;
+mod keyed;
 pub mod queue;
 pub mod table;
 pub mod template;

@@ -6,14 +6,4 @@
 #![tactic(auto)]
 
 #[cfg(test)]
-mod intern;
-#[cfg(test)]
-mod queue;
-#[cfg(test)]
-mod support;
-#[cfg(test)]
-mod table;
-#[cfg(test)]
-mod template;
-#[cfg(test)]
-mod tokens;
+mod tests;

@@ -1,6 +1,6 @@
 //! Texts that are cut once: trims, strips, and parts before and behind a match.
-use crate::sessions::must;
-use crate::ways::holds;
+use super::sessions::must;
+use super::ways::holds;
 use hipstr::Command::{Once, Strip, Trim, TrimMatches};
 use hipstr::Pat::{Char, Set, Text};
 use hipstr::{Answer, Backend, Command, End, Meter, Pool, Side, run};

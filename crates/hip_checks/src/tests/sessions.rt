@@ -1,6 +1,6 @@
 //! Lists of commands, each with its answer.
-use crate::cuts::cuts_all;
-use crate::ways::takes_all_apart;
+use super::cuts::cuts_all;
+use super::ways::takes_all_apart;
 use hipstr::{
     Answer, Backend, Command, End, How, Kind, LocalHipByt, Meter, Pat, Pool, Rc, Reason, Side,
     Unique, run,

@@ -1,5 +1,5 @@
 //! Each way to take a text apart, by every script of up to six ends.
-use crate::sessions::must;
+use super::sessions::must;
 use hipstr::{Answer, Backend, Command, End, How, Kind, Meter, Pat, Pool, Reason, Slot, run};
 use std::alloc::Global;
 use std::process::Abort;

@@ -1,7 +1,7 @@
 //! Calls of handles, by what they take and answer: what a refusal leaves, and what it hands back.
-use crate::handle::{Change, Conversion, Copying, Handle, Lending, Making, Taking, Telling};
-use crate::held::{BYTES, Held, bytes_of};
-use crate::refusing::{each, is_refusing, must, refuse, was_refused};
+use super::handle::{Change, Conversion, Copying, Handle, Lending, Making, Taking, Telling};
+use super::held::{BYTES, Held, bytes_of};
+use super::refusing::{each, is_refusing, must, refuse, was_refused};
 use std::alloc::Global;
 use std::process::Abort;
 
@@ -27,6 +27,14 @@ pub(crate) enum Call {
 /// Where a handle's bytes lie, and its capacity.
 pub(crate) type Place = ((bool, bool, bool), usize);
 
+/// How a handle's bytes are held, the bytes, and the number of the request that is refused.
+#[derive(Clone, Copy)]
+struct Trial {
+    held: Held,
+    bytes: &'static [u8],
+    k: usize,
+}
+
 /// Asserts that a handle is as it was.
 fn is_kept<H: Handle>(rt: &impl Abort, handle: &H, bytes: &[u8], before: Place) {
     let (now, place) = handle.seen();
@@ -46,18 +54,13 @@ fn roomy(rt: &impl Abort, alloc: Global, bytes: &[u8]) -> Vec<u8> {
     vec
 }
 
-/// A handle of these bytes that is held so, and its clone.
-fn made<H: Handle>(
-    rt: &impl Abort,
-    alloc: Global,
-    held: Held,
-    bytes: &'static [u8],
-) -> (H, Option<H>) {
-    let handle = match held {
-        Held::Lent => must(rt, H::lent(bytes)),
-        _ => must(rt, H::of_vec(alloc, roomy(rt, alloc, bytes))),
+/// A handle of the bytes that is held so, and its clone.
+fn made<H: Handle>(rt: &impl Abort, alloc: Global, trial: Trial) -> (H, Option<H>) {
+    let handle = match trial.held {
+        Held::Lent => must(rt, H::lent(trial.bytes)),
+        _ => must(rt, H::of_vec(alloc, roomy(rt, alloc, trial.bytes))),
     };
-    let clone = match held {
+    let clone = match trial.held {
         Held::Shared => Some(must(rt, handle.clone(alloc))),
         _ => None,
     };
@@ -71,18 +74,11 @@ fn is_untouched<H: Handle>(rt: &impl Abort, clone: Option<H>, bytes: &[u8]) {
     }
 }
 
-fn changed<H: Handle>(
-    rt: &impl Abort,
-    alloc: Global,
-    held: Held,
-    bytes: &'static [u8],
-    change: Change,
-    k: usize,
-) -> bool {
-    let (mut handle, clone) = made::<H>(rt, alloc, held, bytes);
-    let (mut other, _clone) = made::<H>(rt, alloc, held, bytes);
+fn changed<H: Handle>(rt: &impl Abort, alloc: Global, trial: Trial, change: Change) -> bool {
+    let (mut handle, clone) = made::<H>(rt, alloc, trial);
+    let (mut other, _clone) = made::<H>(rt, alloc, trial);
     let (_, before) = handle.seen();
-    refuse(alloc, k);
+    refuse(alloc, trial.k);
     let is_done = handle.change(alloc, change);
     let refused = was_refused(alloc);
     if is_done {
@@ -90,68 +86,48 @@ fn changed<H: Handle>(
         is_same(rt, &handle, &other);
     } else {
         assert!(rt; refused);
-        is_kept(rt, &handle, bytes, before);
+        is_kept(rt, &handle, trial.bytes, before);
     }
-    is_untouched(rt, clone, bytes);
+    is_untouched(rt, clone, trial.bytes);
     refused
 }
 
-fn copied<H: Handle>(
-    rt: &impl Abort,
-    alloc: Global,
-    held: Held,
-    bytes: &'static [u8],
-    copying: Copying,
-    k: usize,
-) -> bool {
-    let (handle, _clone) = made::<H>(rt, alloc, held, bytes);
+fn copied<H: Handle>(rt: &impl Abort, alloc: Global, trial: Trial, copying: Copying) -> bool {
+    let (handle, _clone) = made::<H>(rt, alloc, trial);
     let (_, before) = handle.seen();
     let wanted = must(rt, handle.copy(alloc, copying));
-    refuse(alloc, k);
+    refuse(alloc, trial.k);
     let copy = handle.copy(alloc, copying);
     let refused = was_refused(alloc);
     match copy {
         Ok(copy) => is_same(rt, &copy, &wanted),
         Err(_) => assert!(rt; refused),
     }
-    is_kept(rt, &handle, bytes, before);
+    is_kept(rt, &handle, trial.bytes, before);
     refused
 }
 
 /// Whether a conversion is refused where memory is ample, as one is that hands the value back by its kind.
-fn is_never<H: Handle>(
-    rt: &impl Abort,
-    alloc: Global,
-    held: Held,
-    bytes: &'static [u8],
-    conversion: Conversion,
-) -> bool {
-    let (handle, _clone) = made::<H>(rt, alloc, held, bytes);
-    handle.convert(alloc, conversion, bytes).is_err()
+fn is_never<H: Handle>(rt: &impl Abort, alloc: Global, trial: Trial, to: Conversion) -> bool {
+    let (handle, _clone) = made::<H>(rt, alloc, trial);
+    handle.convert(alloc, to, trial.bytes).is_err()
 }
 
-fn converted<H: Handle>(
-    rt: &impl Abort,
-    alloc: Global,
-    held: Held,
-    bytes: &'static [u8],
-    conversion: Conversion,
-    k: usize,
-) -> bool {
-    let is_never = is_never::<H>(rt, alloc, held, bytes, conversion);
-    let (handle, clone) = made::<H>(rt, alloc, held, bytes);
+fn converted<H: Handle>(rt: &impl Abort, alloc: Global, trial: Trial, to: Conversion) -> bool {
+    let is_never = is_never::<H>(rt, alloc, trial, to);
+    let (handle, clone) = made::<H>(rt, alloc, trial);
     let (_, before) = handle.seen();
-    refuse(alloc, k);
-    let outcome = handle.convert(alloc, conversion, bytes);
+    refuse(alloc, trial.k);
+    let outcome = handle.convert(alloc, to, trial.bytes);
     let refused = was_refused(alloc);
     match outcome {
         Ok(is_same) => assert!(rt; is_same),
         Err(back) => {
             assert!(rt; refused | is_never);
-            is_kept(rt, &back, bytes, before);
+            is_kept(rt, &back, trial.bytes, before);
         }
     }
-    is_untouched(rt, clone, bytes);
+    is_untouched(rt, clone, trial.bytes);
     refused
 }
 
@@ -181,74 +157,53 @@ fn makes<H: Handle>(rt: &impl Abort, alloc: Global, making: Making, k: usize) ->
     refused
 }
 
-fn told<H: Handle>(
-    rt: &impl Abort,
-    alloc: Global,
-    held: Held,
-    bytes: &'static [u8],
-    telling: Telling,
-    k: usize,
-) -> bool {
-    let (handle, _clone) = made::<H>(rt, alloc, held, bytes);
+fn told<H: Handle>(rt: &impl Abort, alloc: Global, trial: Trial, telling: Telling) -> bool {
+    let (handle, _clone) = made::<H>(rt, alloc, trial);
     let (_, before) = handle.seen();
-    refuse(alloc, k);
+    refuse(alloc, trial.k);
     let is_told = handle.tell(alloc, telling);
     let refused = was_refused(alloc);
     assert!(rt; is_told | refused);
-    is_kept(rt, &handle, bytes, before);
+    is_kept(rt, &handle, trial.bytes, before);
     refused
 }
 
 /// What a handle without bytes is seen as.
 const EMPTY: Place = ((true, false, false), 23);
 
-fn lent<H: Handle>(
-    rt: &impl Abort,
-    alloc: Global,
-    held: Held,
-    bytes: &'static [u8],
-    lending: Lending,
-    k: usize,
-) -> bool {
-    let (mut handle, clone) = made::<H>(rt, alloc, held, bytes);
+fn lent<H: Handle>(rt: &impl Abort, alloc: Global, trial: Trial, lending: Lending) -> bool {
+    let (mut handle, clone) = made::<H>(rt, alloc, trial);
     let (_, before) = handle.seen();
-    refuse(alloc, k);
+    refuse(alloc, trial.k);
     let outcome = match lending {
         Lending::Guard => handle.lend_guard(alloc),
         Lending::Closure => handle.lend_closure(alloc),
     };
     let refused = was_refused(alloc);
     match outcome {
-        Ok(()) => assert!(rt; handle.seen().0 == bytes),
+        Ok(()) => assert!(rt; handle.seen().0 == trial.bytes),
         Err(None) => {
             assert!(rt; refused);
-            is_kept(rt, &handle, bytes, before);
+            is_kept(rt, &handle, trial.bytes, before);
         }
         Err(Some(back)) => {
-            assert!(rt; refused && back.as_slice() == bytes);
+            assert!(rt; refused && back.as_slice() == trial.bytes);
             is_kept(rt, &handle, b"", EMPTY);
         }
     }
-    is_untouched(rt, clone, bytes);
+    is_untouched(rt, clone, trial.bytes);
     refused
 }
 
-fn runs<H: Handle>(
-    rt: &impl Abort,
-    alloc: Global,
-    held: Held,
-    bytes: &'static [u8],
-    call: Call,
-    k: usize,
-) -> bool {
+fn runs<H: Handle>(rt: &impl Abort, alloc: Global, trial: Trial, call: Call) -> bool {
     match call {
-        Call::Change(change) => changed::<H>(rt, alloc, held, bytes, change, k),
-        Call::Copying(copying) => copied::<H>(rt, alloc, held, bytes, copying, k),
-        Call::Conversion(conversion) => converted::<H>(rt, alloc, held, bytes, conversion, k),
-        Call::Taking(taking) => taken::<H>(rt, alloc, taking, k),
-        Call::Making(making) => makes::<H>(rt, alloc, making, k),
-        Call::Telling(telling) => told::<H>(rt, alloc, held, bytes, telling, k),
-        Call::Lending(lending) => lent::<H>(rt, alloc, held, bytes, lending, k),
+        Call::Change(change) => changed::<H>(rt, alloc, trial, change),
+        Call::Copying(copying) => copied::<H>(rt, alloc, trial, copying),
+        Call::Conversion(conversion) => converted::<H>(rt, alloc, trial, conversion),
+        Call::Taking(taking) => taken::<H>(rt, alloc, taking, trial.k),
+        Call::Making(making) => makes::<H>(rt, alloc, making, trial.k),
+        Call::Telling(telling) => told::<H>(rt, alloc, trial, telling),
+        Call::Lending(lending) => lent::<H>(rt, alloc, trial, lending),
     }
 }
 
@@ -257,8 +212,8 @@ fn of<H: Handle>(rt: &impl Abort, alloc: Global, call: Call) -> usize {
     let mut refusals = 0usize;
     for bytes in H::texts() {
         for held in H::each_held() {
-            let bytes = bytes_of(*held, bytes);
-            let met = each(|k| runs::<H>(rt, alloc, *held, bytes, call, k));
+            let (held, bytes) = (*held, bytes_of(*held, bytes));
+            let met = each(|k| runs::<H>(rt, alloc, Trial { held, bytes, k }, call));
             refusals = refusals.saturating_add(met);
         }
     }
@@ -266,9 +221,20 @@ fn of<H: Handle>(rt: &impl Abort, alloc: Global, call: Call) -> usize {
 }
 
 /// Runs calls on a type whose owners are shared, and on the same where they aren't. Each of them takes memory on one of them.
-pub(crate) fn on_both<S: Handle, U: Handle>(rt: &impl Abort, alloc: Global, calls: &[Call]) {
+fn are_on_both<S: Handle, U: Handle>(rt: &impl Abort, alloc: Global, calls: &[Call]) {
     for (i, call) in calls.iter().enumerate() {
         let met = of::<S>(rt, alloc, *call).saturating_add(of::<U>(rt, alloc, *call));
-        assert!(rt; met > 0 || !is_refusing(alloc), "call {i} met no refusal");
+        assert!(rt;
+            met > 0 || !is_refusing(alloc),
+            "call {i} of a table of {}",
+            calls.len()
+        );
+    }
+}
+
+/// The same of tables of calls.
+pub(crate) fn on_both<S: Handle, U: Handle>(rt: &impl Abort, alloc: Global, tables: &[&[Call]]) {
+    for calls in tables {
+        are_on_both::<S, U>(rt, alloc, calls);
     }
 }

@@ -1,6 +1,6 @@
 //! Records of fields: want of memory is told just where a request was refused, and the text is as it was.
-use crate::held::{EACH_HELD, Held};
-use crate::refusing::{each, must, refuse, was_refused};
+use super::held::{EACH_HELD, Held, text_of};
+use super::refusing::{each, refuse, was_refused};
 use hip_fields::reader::Records;
 use hip_fields::records;
 use hipstr::pattern::Ranges;
@@ -15,29 +15,12 @@ const LONG: &str = "aaaaaaaaaaaaaaaaaaaaaaaaaaaaaa,b,c,d,e,f\nbbbbbbbbbbbbbbbbbb
 /// Two lines that fit a handle.
 const SHORT: &str = "a,b,c,d,e\nf,g\n";
 
-/// The text of two lines that is held so.
+/// The two lines of a text that is held so.
 fn letters(held: Held) -> &'static str {
     match held {
         Held::Inline => SHORT,
         _ => LONG,
     }
-}
-
-/// A text that is held so, and its clone.
-fn make<B: Backend>(
-    rt: &impl Abort,
-    alloc: Global,
-    held: Held,
-) -> (HipStr<'static, B>, Option<HipStr<'static, B>>) {
-    let text = match held {
-        Held::Lent => HipStr::borrowed(LONG),
-        _ => must(rt, HipStr::from_str(alloc, letters(held))),
-    };
-    let clone = match held {
-        Held::Shared => Some(must(rt, text.clone(alloc))),
-        _ => None,
-    };
-    (text, clone)
 }
 
 /// Asserts that a text is as it was made.
@@ -55,7 +38,7 @@ fn is_kept<B: Backend>(
 
 /// All records at once.
 fn gathered<B: Backend>(rt: &impl Abort, alloc: Global, held: Held, k: usize) -> bool {
-    let (text, _clone) = make::<B>(rt, alloc, held);
+    let (text, _clone) = text_of::<B>(rt, alloc, held, letters(held));
     let (kind, capacity) = (text.kind(), text.capacity());
     refuse(alloc, k);
     let gathered = records(alloc, &text, ',');
@@ -84,7 +67,7 @@ fn draw<'h, 'b, B: Backend, I: Ranges + Drop>(
 
 /// One record after another: one that is refused has been passed, and the other is given.
 fn drawn<B: Backend>(rt: &impl Abort, alloc: Global, held: Held, k: usize) -> bool {
-    let (text, _clone) = make::<B>(rt, alloc, held);
+    let (text, _clone) = text_of::<B>(rt, alloc, held, letters(held));
     let (kind, capacity) = (text.kind(), text.capacity());
     refuse(alloc, k);
     let mut records = Records::new(&text, ',');

@@ -1,6 +1,6 @@
 //! What the scenarios ask of a handle. The calls say nothing of their answers, so that a scenario knows nothing but what it compares.
-use crate::calls::Place;
-use crate::held::{ADDED, BROKEN, BYTES, EACH_HELD, Held, PART, PART_BYTES, TEXT};
+use super::calls::Place;
+use super::held::{ADDED, BROKEN, BYTES, EACH_HELD, Held, PART, PART_BYTES, TEXT};
 use hipstr::bytes::{BorshFault, GrowFault, HipByt, JsonFault, MutateFault};
 use hipstr::os_string::HipOsStr;
 use hipstr::path::HipPath;

@@ -1,4 +1,9 @@
 //! How the bytes of a handle are held, and the bytes.
+use super::refusing::must;
+use hipstr::Backend;
+use hipstr::string::HipStr;
+use std::alloc::Global;
+use std::process::Abort;
 
 /// How the bytes of a handle are held.
 #[derive(Clone, Copy)]
@@ -44,4 +49,22 @@ pub(crate) fn bytes_of(held: Held, bytes: &'static [u8]) -> &'static [u8] {
         Held::Inline => bytes.get(..3).unwrap_or_default(),
         _ => bytes,
     }
+}
+
+/// A text of these letters that is held so, and its clone.
+pub(crate) fn text_of<B: Backend>(
+    rt: &impl Abort,
+    alloc: Global,
+    held: Held,
+    letters: &'static str,
+) -> (HipStr<'static, B>, Option<HipStr<'static, B>>) {
+    let text = match held {
+        Held::Lent => HipStr::borrowed(letters),
+        _ => must(rt, HipStr::from_str(alloc, letters)),
+    };
+    let clone = match held {
+        Held::Shared => Some(must(rt, text.clone(alloc))),
+        _ => None,
+    };
+    (text, clone)
 }

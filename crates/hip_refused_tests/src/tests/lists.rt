@@ -1,6 +1,6 @@
 //! Lists of commands. A refused one changes nothing, so that the others answer, and leave, what they do without it.
-use crate::held::{ADDED_BYTES, BYTES, EACH_HELD, Held};
-use crate::refusing::{each, is_refusing, must, refuse, was_refused};
+use super::held::{ADDED_BYTES, BYTES, EACH_HELD, Held};
+use super::refusing::{each, is_refusing, must, refuse, was_refused};
 use hipstr::{
     Answer, Backend, Command, End, How, Kind, Meter, Pat, Pool, Rc, Reason, Side, Slot, Unique, run,
 };
@@ -30,6 +30,17 @@ fn without<T: Copy + Drop>(rt: &impl Abort, alloc: Global, items: &[T], at: usiz
     rest
 }
 
+/// What commands answer where memory is ample.
+fn answers_of<'b, B: Backend>(
+    rt: &impl Abort,
+    alloc: Global,
+    pool: &mut Pool<'b, B>,
+    commands: &[Command<'b>],
+    meter: &mut Meter,
+) -> Vec<Answer> {
+    must(rt, run(alloc, pool, commands, meter))
+}
+
 /// The pool that a session begins with.
 fn pool_of<B: Backend>(
     rt: &impl Abort,
@@ -38,8 +49,8 @@ fn pool_of<B: Backend>(
     meter: &mut Meter,
 ) -> Pool<'static, B> {
     let mut pool = must(rt, Pool::<B>::new(alloc, SLOTS));
-    must(rt, run(alloc, &mut pool, session.before, meter));
-    must(rt, run(alloc, &mut pool, session.texts, meter));
+    answers_of(rt, alloc, &mut pool, session.before, meter);
+    answers_of(rt, alloc, &mut pool, session.texts, meter);
     pool
 }
 
@@ -125,7 +136,7 @@ fn is_list_without<B: Backend>(
     let rest = without(rt, alloc, session.commands, at);
     let mut meter = Meter::new();
     let mut other = pool_of::<B>(rt, alloc, session, &mut meter);
-    let wanted = must(rt, run(alloc, &mut other, rest.as_slice(), &mut meter));
+    let wanted = answers_of(rt, alloc, &mut other, rest.as_slice(), &mut meter);
     assert!(rt;
         without(rt, alloc, answers, at).as_slice() == wanted.as_slice(),
         "without command {at}"

@@ -1,9 +1,9 @@
 //! Owners, with the calls that they have.
-use crate::calls::Place;
-use crate::handle::{
+use super::calls::Place;
+use super::handle::{
     Change, Conversion, Copying, Handle, LISTS, Making, Taking, Telling, of_memory,
 };
-use crate::held::{BROKEN, Held};
+use super::held::{BROKEN, Held};
 use hipstr::bytes::JsonFault;
 use hipstr::{Allocated, Appended, Backend, Meter, copy_counted};
 use serde_json::Value;

@@ -1,5 +1,5 @@
 //! A script, played to a writer that takes no memory: whatever request is refused, that is the fault that is told.
-use crate::refusing::{each, refuse, was_refused};
+use super::refusing::{each, refuse, was_refused};
 use hip_script::PlayFault;
 use hip_script::play::play;
 use hipstr::{Backend, Rc, Unique};

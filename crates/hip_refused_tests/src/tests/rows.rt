@@ -1,5 +1,5 @@
 //! Long values that are shared, and room that is filled: no request is made, so none can be refused.
-use crate::refusing::{must, refuse, was_refused};
+use super::refusing::{must, refuse, was_refused};
 use hipstr::bytes::HipByt;
 use hipstr::string::{HipStr, TextCuts};
 use hipstr::{Backend, Kind, Meter, Rc, Unique};

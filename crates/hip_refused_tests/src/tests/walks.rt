@@ -1,6 +1,8 @@
 //! Walks over the pieces of a text. One that is refused is an error, and has been passed: those behind it are given.
-use crate::held::{EACH_HELD, Held, PART, TEXT};
-use crate::refusing::{each, is_refusing, must, refuse, was_refused};
+ghost use Rattle.std.specs.Iterator.{IsFinite};
+
+use super::held::{EACH_HELD, Held, PART, TEXT, text_of};
+use super::refusing::{each, is_refusing, must, refuse, was_refused};
 use hipstr::pattern::{RangesBack, Split};
 use hipstr::string::{HipStr, IterWrapper, TextCuts, Unnumbered};
 use hipstr::{Backend, Rc, Unique};
@@ -113,51 +115,38 @@ fn walked<B: Backend>(text: &HipStr<'_, B>, alloc: Global, walk: Walk) -> Tally 
     }
 }
 
-fn walked_with_places<B: Backend>(text: &HipStr<'_, B>, alloc: Global, walk: Walk) -> Tally {
+/// The same of pieces with their places.
+fn given_with_places<T: Drop, I: Iterator<Item = (usize, Result<T, AllocError>)> + Drop>(
+    pieces: I,
+) -> Tally
+    requires { I.can_next pieces × IsFinite (I.remaining pieces) }
+{
     let mut tally = Tally::none();
-    match walk {
-        Walk::MatchIndices => {
-            for (_, found) in text.match_indices(alloc, PART) {
-                tally.count(found);
-            }
-        }
-        Walk::RMatchIndices => {
-            for (_, found) in text.rmatch_indices(alloc, PART) {
-                tally.count(found);
-            }
-        }
-        _ => {
-            for (_, piece) in text.pieces_at(alloc, Split::new(text.as_str(), ',')) {
-                tally.count(piece);
-            }
-        }
+    for (_, piece) in pieces {
+        tally.count(piece);
     }
     tally
 }
 
-/// A text that is held so, and its clone.
-fn made<B: Backend>(
-    rt: &impl Abort,
-    alloc: Global,
-    held: Held,
-) -> (HipStr<'static, B>, Option<HipStr<'static, B>>) {
-    let text = match held {
-        Held::Inline => HipStr::borrowed(" a,")
-            .into_owned(alloc)
-            .unwrap_or_default(),
-        Held::Lent => HipStr::borrowed(TEXT),
-        _ => must(rt, HipStr::from_str(alloc, TEXT)),
-    };
-    let clone = match held {
-        Held::Shared => Some(must(rt, text.clone(alloc))),
-        _ => None,
-    };
-    (text, clone)
+fn walked_with_places<B: Backend>(text: &HipStr<'_, B>, alloc: Global, walk: Walk) -> Tally {
+    match walk {
+        Walk::MatchIndices => given_with_places(text.match_indices(alloc, PART)),
+        Walk::RMatchIndices => given_with_places(text.rmatch_indices(alloc, PART)),
+        _ => given_with_places(text.pieces_at(alloc, Split::new(text.as_str(), ','))),
+    }
+}
+
+/// The letters of a text that is held so.
+fn letters(held: Held) -> &'static str {
+    match held {
+        Held::Inline => " a,",
+        _ => TEXT,
+    }
 }
 
 /// As many items are given whatever is refused, and one of them is an error where a request was.
 fn is_walked<B: Backend>(rt: &impl Abort, alloc: Global, held: Held, walk: Walk, k: usize) -> bool {
-    let (text, _clone) = made::<B>(rt, alloc, held);
+    let (text, _clone) = text_of::<B>(rt, alloc, held, letters(held));
     let wanted = walked(&text, alloc, walk);
     refuse(alloc, k);
     let given = walked(&text, alloc, walk);

@@ -6,6 +6,7 @@ ghost use Rattle.hip_uses.specs.Number.{interned, number_of};
 ghost use Rattle.hip_uses.specs.declared.fault.InternFault.TheVariants.{TooMany};
 
 use crate::intern::{InternFault, Interner};
+use crate::keyed::put;
 use hipstr::string::HipStr;
 use hipstr::{Backend, Meter};
 use std::alloc::{AllocError, Global};
@@ -27,9 +28,7 @@ impl<'b, B: Backend> Interner<'b, B> {
     {
         let key = text.clone_metered(alloc, meter)?;
         self.texts.reserve(1)?;
-        let Ok(_) = self.numbers.insert(key, number) else {
-            return Err(AllocError);
-        };
+        put(&mut self.numbers, key, number)?;
         self.texts.push_reserved(text);
         Ok(())
     }

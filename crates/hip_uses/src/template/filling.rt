@@ -3,6 +3,7 @@ ghost use Rattle.std.specs.Prelude.{◌≡◌, ◌++◌, IfErr, IfOk, IsSome, Ma
 ghost use Rattle.hip_uses.specs.Template.{AllKnown, filled, hole_filled, value_of};
 ghost use Rattle.hip_uses.specs.Template.{FillFails, HoleFails, IsUnknown};
 
+use crate::keyed::found;
 use crate::template::{Hole, Template, TemplateFault};
 use hipstr::Backend;
 use hipstr::string::HipStr;
@@ -30,7 +31,7 @@ fn value_of<'v, 'b, B: Backend>(
     ensures { MatchOption result (value_of values.now.entries name.now.items ≡ None)
         (λ value. value_of values.now.entries name.now.items ≡ Some value.now) }
 {
-    values.get(name)
+    found(values, name)
 }
 
 /// Adds a hole of a template, filled, with what lies before it.

@@ -1,5 +1,5 @@
 //! Numbers of the words of a text, and which texts there are then. Each word comes as a lent, an owned and a cut text in turn.
-use crate::support::is;
+use super::support::is;
 use hip_uses::intern::{InternFault, Interner};
 use hipstr::string::{HipStr, TextCuts};
 use hipstr::{Backend, Meter, Rc, Unique};

@@ -1,5 +1,5 @@
 //! Two queues of two messages each: at `0` and `1` that subscriber receives, any other character is published.
-use crate::support::is;
+use super::support::is;
 use hip_uses::queue::{PublishFault, Queue, publish};
 use hipstr::bytes::HipByt;
 use hipstr::{Backend, Meter, Rc, Unique};

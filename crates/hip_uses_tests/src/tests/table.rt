@@ -1,5 +1,5 @@
 //! Tables by `,`: the cells of the column `city`, a line each.
-use crate::support::is;
+use super::support::is;
 use hip_uses::table::{Table, TableFault};
 use hipstr::string::HipStr;
 use hipstr::{Backend, Rc, Unique};

@@ -1,5 +1,5 @@
 //! Templates, filled with `name` and `greeting`.
-use crate::support::is;
+use super::support::is;
 use hip_uses::template::{TemplateFault, Values, fill, parse};
 use hipstr::string::HipStr;
 use hipstr::{Backend, Rc, Unique};

@@ -1,5 +1,5 @@
 //! Tokens, as `START CLASS TEXT` a line.
-use crate::support::is;
+use super::support::is;
 use hip_uses::tokens::tokens;
 use hipstr::string::HipStr;
 use hipstr::{Backend, Meter, Rc, Unique};

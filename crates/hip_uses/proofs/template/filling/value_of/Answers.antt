@@ -3,4 +3,4 @@ use Rattle.hip_uses.proofs.Templates.{by-value}
 use Rattle.hip_uses.proofs.template.filling.value_of.Goals as goal
 
 pub returns : goal.returns
-returns g c = by-value c.get.result (value_of c.args.values.now.entries c.args.name.now.items) c.get.ensures.value
+returns g c = by-value c.found.result (value_of c.args.values.now.entries c.args.name.now.items) c.found.ensures

@@ -1,0 +1,4 @@
+mod cuts;
+mod own_backend;
+mod sessions;
+mod ways;

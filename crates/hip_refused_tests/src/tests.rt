@@ -1,0 +1,11 @@
+mod calls;
+mod fields;
+mod handle;
+mod held;
+mod lists;
+mod owner;
+mod plays;
+mod refusing;
+mod rows;
+mod types;
+mod walks;

@@ -1,0 +1,30 @@
+//! Maps by any key. A function that is generic in the key is proved in seconds, where each that calls a map whose keys are handles takes
+//! half a minute.
+ghost use Rattle.std.specs.Prelude.{◌≡◌, OnErr, OnOk, Some, option_copied};
+ghost use Rattle.std.specs.HashMap.{IsUnchanged, Updates, get};
+
+use std::alloc::AllocError;
+use std::collections::HashMap;
+use std::hash::Hash;
+
+/// What stands under a key, if anything does.
+pub(crate) fn found<'m, K: Hash + Eq, V>(map: &'m HashMap<K, V>, key: &K) -> Option<&'m V>
+    ensures { option_copied result ≡ get K.eq map.now key.now }
+{
+    map.get(key)
+}
+
+/// Puts a value under a key.
+pub(crate) fn put<K: Hash + Eq + Drop, V: Drop>(
+    map: &mut HashMap<K, V>,
+    key: K,
+    value: V,
+) -> Result<(), AllocError>
+    ensures updated { OnOk result (Updates K.eq map.old map.new key (Some value)) }
+    ensures refused { OnErr result (IsUnchanged map.old map.new) }
+{
+    match map.insert(key, value) {
+        Ok(_) => Ok(()),
+        Err(_) => Err(AllocError),
+    }
+}

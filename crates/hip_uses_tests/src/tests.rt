@@ -1,0 +1,6 @@
+mod intern;
+mod queue;
+mod support;
+mod table;
+mod template;
+mod tokens;
