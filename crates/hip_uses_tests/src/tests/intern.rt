@@ -1,88 +1,102 @@
-//! Numbers of the words of a text, and which texts there are then. Each word comes as a lent, an owned and a cut text in turn.
-use super::support::is;
+//! Numbers of words, and how many different texts there are then. A word that was interned is found again by a text of another kind.
 use hip_uses::intern::{InternFault, Interner};
-use hipstr::string::{HipStr, TextCuts};
+use hipstr::string::HipStr;
 use hipstr::{Backend, Meter, Rc, Unique};
-use std::alloc::{AllocError, Global};
+use std::alloc::Global;
+use std::process::Abort;
 
-const ROWS: [(&str, &str); 4] = [
-    ("", "0 texts\n"),
-    ("one fish two fish one", "0\n1\n2\n1\n0\n3 texts\n"),
-    ("a A \u{e1} a\u{301} a", "0\n1\n2\n3\n0\n4 texts\n"),
+/// Words, their numbers, and how many of them are different.
+const ROWS: [(&[&str], &[u32], usize); 4] = [
+    (&[], &[], 0),
+    (&["one", "fish", "two", "fish", "one"], &[0, 1, 2, 1, 0], 3),
+    (&["a", "A", "\u{e1}", "a\u{301}", "a"], &[0, 1, 2, 3, 0], 4),
     (
-        "a-word-of-more-than-23-bytes a-word-of-more-than-23-bytes! a-word-of-more-than-23-bytes",
-        "0\n1\n0\n2 texts\n",
+        &[
+            "a-word-of-more-than-23-bytes",
+            "a-word-of-more-than-23-bytes!",
+            "a-word-of-more-than-23-bytes",
+        ],
+        &[0, 1, 0],
+        2,
     ),
 ];
 
-/// Texts, and the numbers of their words.
-const WORDS: [(&str, &str); 4] = [
-    ("", "[] of 0"),
-    (" -- ", "[] of 0"),
-    ("one fish, two fish; ONE fish!", "[0, 1, 2, 1, 3, 1] of 4"),
+/// Texts, the numbers of their words, and how many of them are different.
+const TEXTS: [(&str, &[u32], usize); 4] = [
+    ("", &[], 0),
+    (" -- ", &[], 0),
+    ("one fish, two fish; ONE fish!", &[0, 1, 2, 1, 3, 1], 4),
     (
         "\u{6f22}\u{5b57}a1,a-word-of-more-than-23-bytes\n23 a \u{6f22}\u{5b57}a1",
-        "[0, 1, 2, 3, 4, 5, 6, 7, 6, 1, 0] of 8",
+        &[0, 1, 2, 3, 4, 5, 6, 7, 6, 1, 0],
+        8,
     ),
 ];
 
-/// The number of the word, which is found again by a text of another kind.
-fn number_of<'b, B: Backend>(
+fn number_of<B: Backend>(
     alloc: Global,
-    interner: &mut Interner<'b, B>,
-    word: HipStr<'b, B>,
+    interner: &mut Interner<'static, B>,
+    word: &'static str,
 ) -> Result<u32, InternFault> {
-    let lent = word.clone(alloc)?;
-    let number = interner.intern(alloc, word, &mut Meter::new())?;
-    let owned = HipStr::from_str(alloc, lent.as_str())?;
-    let found = interner.find(&owned) == Some(number);
-    let kept = interner
-        .text(number)
-        .is_some_and(|text| text.str_eq(lent.as_str()));
-    if found && kept {
-        Ok(number)
-    } else {
-        Err(InternFault::TooMany)
-    }
+    interner.intern(alloc, HipStr::borrowed(word), &mut Meter::new())
 }
 
-fn shown<B: Backend>(alloc: Global, text: &str) -> Result<String, AllocError> {
-    let mut printed = String::new(alloc);
+/// Whether an owned text of the word has this number, and the number that word.
+fn is_kept<B: Backend>(
+    alloc: Global,
+    interner: &Interner<'static, B>,
+    word: &str,
+    number: u32,
+) -> bool {
+    let Ok(owned) = HipStr::from_str(alloc, word) else {
+        return false;
+    };
+    interner.find(&owned) == Some(number)
+        && interner.text(number).is_some_and(|text| text.str_eq(word))
+}
+
+/// Whether the words get these numbers.
+fn numbers<B: Backend>(
+    alloc: Global,
+    words: &[&'static str],
+    numbers: &[u32],
+    count: usize,
+) -> bool {
     let mut interner = Interner::<B>::new(alloc);
-    let source = HipStr::<B>::borrowed(text);
-    for word in source.split_whitespace(alloc) {
-        match number_of(alloc, &mut interner, word?) {
-            Ok(number) => writeln!(printed, "{number}")?,
-            Err(fault) => writeln!(printed, "{fault}")?,
-        }
+    let mut is_so = true;
+    for (word, number) in words.iter().zip(numbers) {
+        let given = number_of(alloc, &mut interner, word);
+        is_so = is_so && given == Ok(*number) && is_kept(alloc, &interner, word, *number);
     }
-    let count = interner.len();
-    writeln!(printed, "{count} texts")?;
-    Ok(printed)
+    is_so && interner.len() == count
 }
 
-fn words_shown<B: Backend>(alloc: Global, text: &str) -> Result<String, AllocError> {
-    let mut printed = String::new(alloc);
+/// Whether the words of a text get these numbers.
+fn numbers_words<B: Backend>(alloc: Global, text: &str, numbers: &[u32], count: usize) -> bool {
     let mut interner = Interner::<B>::new(alloc);
     match interner.intern_words(alloc, &HipStr::borrowed(text)) {
-        Ok(numbers) => write!(printed, "{:?} of {}", numbers, interner.len())?,
-        Err(fault) => write!(printed, "{fault}")?,
+        Ok(given) => given.as_slice() == numbers && interner.len() == count,
+        Err(_) => false,
     }
-    Ok(printed)
 }
 
 #[test]
-fn numbers_words(rt: HostRuntime) {
+fn different_words_have_numbers(rt: HostRuntime) {
     let alloc = rt.alloc();
-    for (text, wanted) in WORDS {
-        assert!(rt; is(&words_shown::<Rc>(alloc, text), wanted), "of {text:?}");
-        assert!(rt;
-            is(&words_shown::<Unique>(alloc, text), wanted),
-            "of {text:?}"
-        );
+    for (words, wanted, count) in ROWS {
+        assert!(rt; numbers::<Rc>(alloc, words, wanted, count), "{words:?}");
+        assert!(rt; numbers::<Unique>(alloc, words, wanted, count), "{words:?}");
     }
-    for (text, wanted) in ROWS {
-        assert!(rt; is(&shown::<Rc>(alloc, text), wanted), "of {text:?}");
-        assert!(rt; is(&shown::<Unique>(alloc, text), wanted), "of {text:?}");
+}
+
+#[test]
+fn words_of_texts_have_numbers(rt: HostRuntime) {
+    let alloc = rt.alloc();
+    for (text, wanted, count) in TEXTS {
+        assert!(rt; numbers_words::<Rc>(alloc, text, wanted, count), "{text:?}");
+        assert!(rt;
+            numbers_words::<Unique>(alloc, text, wanted, count),
+            "{text:?}"
+        );
     }
 }

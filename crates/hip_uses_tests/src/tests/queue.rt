@@ -17,10 +17,13 @@ const ROWS: [(&str, &str); 5] = [
 ];
 
 fn received<B: Backend>(alloc: Global, queue: &mut Queue<'_, B>) -> Result<String, AllocError> {
-    match queue.receive() {
-        Some(message) => String::from_utf8_lossy(alloc, message.as_slice()),
-        None => String::from_str(alloc, "none"),
-    }
+    let Some(message) = queue.receive() else {
+        return String::from_str(alloc, "none");
+    };
+    let [byte] = message.as_slice() else {
+        return String::from_str(alloc, "another message");
+    };
+    format!(in alloc; "{}", char::from(*byte))
 }
 
 fn told(alloc: Global, published: Result<(), PublishFault>) -> Result<String, AllocError> {
@@ -28,14 +31,6 @@ fn told(alloc: Global, published: Result<(), PublishFault>) -> Result<String, Al
         Ok(()) => String::from_str(alloc, "published"),
         Err(fault) => format!(in alloc; "{fault}"),
     }
-}
-
-fn two_queues<B: Backend>(alloc: Global) -> Result<Vec<Queue<'static, B>>, AllocError> {
-    let mut queues = Vec::new(alloc);
-    for _ in 0..2 {
-        queues.push(Queue::new(alloc, 2)?)?;
-    }
-    Ok(queues)
 }
 
 fn message<B: Backend>(alloc: Global, byte: u8) -> Result<HipByt<'static, B>, AllocError> {
@@ -56,7 +51,7 @@ fn step<B: Backend>(
 
 fn shown<B: Backend>(alloc: Global, steps: &str) -> Result<String, AllocError> {
     let mut printed = String::new(alloc);
-    let mut queues = two_queues::<B>(alloc)?;
+    let mut queues = [Queue::<B>::new(alloc, 2)?, Queue::new(alloc, 2)?];
     for byte in steps.as_bytes() {
         let line = step(alloc, &mut queues, *byte)?;
         writeln!(printed, "{line}")?;
