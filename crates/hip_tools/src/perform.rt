@@ -10,7 +10,6 @@ use hipstr::string::HipStr;
 use hipstr::{Meter, Rc};
 use std::alloc::Global;
 use std::collections::HashMap;
-use std::hash::Hash;
 use std::io::{BufWriter, ErrorKind, Read, Write};
 
 /// Reads the text whole, and writes what the tool makes of it.
@@ -103,16 +102,6 @@ fn write_column<W: Write>(
     Ok(())
 }
 
-/// Puts a value under a key. What is generic in the key is proved in seconds, at handles it would take half a minute.
-fn put<K: Hash + Eq + Drop, V: Drop>(
-    map: &mut HashMap<K, V>,
-    key: K,
-    value: V,
-) -> Result<(), ToolFault> {
-    map.insert(key, value)?;
-    Ok(())
-}
-
 /// What the words `NAME=VALUE` give.
 fn values_of<'a>(alloc: Global, words: &'a [String]) -> Result<Values<'a, Rc>, ToolFault> {
     let mut values = HashMap::new(alloc);
@@ -120,7 +109,7 @@ fn values_of<'a>(alloc: Global, words: &'a [String]) -> Result<Values<'a, Rc>, T
         let Some((name, value)) = word.as_str().split_once('=') else {
             return Err(ToolFault::Usage);
         };
-        put(&mut values, HipStr::borrowed(name), HipStr::borrowed(value))?;
+        values.insert(HipStr::borrowed(name), HipStr::borrowed(value))?;
     }
     Ok(values)
 }

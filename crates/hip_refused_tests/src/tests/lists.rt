@@ -1,5 +1,5 @@
 //! Lists of commands. A refused one changes nothing, so that the others answer, and leave, what they do without it.
-use super::held::{ADDED_BYTES, BYTES, EACH_HELD, Held};
+use super::held::{ADDED_BYTES, BYTES, EACH_HELD, Held, PART};
 use super::refusing::{each, is_refusing, must, refuse, was_refused};
 use hipstr::{
     Answer, Backend, Command, End, How, Kind, Meter, Pat, Pool, Rc, Reason, Side, Slot, Unique, run,
@@ -206,7 +206,7 @@ fn held_by(held: Held) -> &'static [Command<'static>] {
     }
 }
 
-/// Each command on bytes.
+/// Each command on bytes, in two tables: one of so many rows is dear to prove.
 const ON_BYTES: &[Command<'static>] = &[
     Command::New(2),
     Command::Inline(2, b"ab"),
@@ -222,6 +222,13 @@ const ON_BYTES: &[Command<'static>] = &[
     Command::Truncate(0, 5),
     Command::Clear(0),
     Command::Shrink(0, 0),
+];
+
+fn on_bytes() -> &'static [Command<'static>] {
+    ON_BYTES
+}
+
+const ON_BYTES_TOO: &[Command<'static>] = &[
     Command::Upper(0),
     Command::Lower(0),
     Command::Set(0, 1, 65),
@@ -239,8 +246,8 @@ const ON_BYTES: &[Command<'static>] = &[
     Command::Capacity(0),
 ];
 
-fn on_bytes() -> &'static [Command<'static>] {
-    ON_BYTES
+fn on_bytes_too() -> &'static [Command<'static>] {
+    ON_BYTES_TOO
 }
 
 const THREE: &[End] = &[End::Front, End::Front, End::Front];
@@ -267,15 +274,30 @@ const ON_TEXTS: &[Command<'static>] = &[
     Command::Strip(0, 2, End::Back, Pat::Char(' ')),
     Command::Once(0, 2, 3, End::Front, Pat::Char(',')),
     Command::Once(0, 2, 3, End::Back, Pat::Text(",")),
-    Command::Pieces(0, How::Split(Pat::Char(',')), THREE, 2),
-    Command::Pieces(0, How::Inclusive(Pat::Text(",")), THREE, 2),
-    Command::Pieces(0, How::RSplitN(2, Pat::Text(",")), THREE, 2),
-    Command::Pieces(0, How::Lines, THREE, 2),
-    Command::Pieces(0, How::Words, &[End::Back, End::Front], 2),
 ];
 
 fn on_texts() -> &'static [Command<'static>] {
     ON_TEXTS
+}
+
+/// Each way to take a text apart.
+const WAYS: &[Command<'static>] = &[
+    Command::Pieces(0, How::Split(Pat::Char(',')), THREE, 2),
+    Command::Pieces(0, How::Inclusive(Pat::Text(",")), THREE, 2),
+    Command::Pieces(0, How::Terminator(Pat::Char(',')), THREE, 2),
+    Command::Pieces(0, How::SplitN(2, Pat::Char(',')), THREE, 2),
+    Command::Pieces(0, How::Matches(Pat::Text(PART)), THREE, 2),
+    Command::Pieces(0, How::RSplit(Pat::Set(&[','])), THREE, 2),
+    Command::Pieces(0, How::RTerminator(Pat::Text(",")), THREE, 2),
+    Command::Pieces(0, How::RSplitN(2, Pat::Text(",")), THREE, 2),
+    Command::Pieces(0, How::RMatches(Pat::Text(PART)), THREE, 2),
+    Command::Pieces(0, How::Lines, THREE, 2),
+    Command::Pieces(0, How::Words, &[End::Back, End::Front], 2),
+    Command::Pieces(0, How::AsciiWords, &[End::Back, End::Front], 2),
+];
+
+fn ways() -> &'static [Command<'static>] {
+    WAYS
 }
 
 /// Runs each command by itself.
@@ -302,11 +324,13 @@ fn by_themselves(
 #[test]
 fn commands_on_bytes(rt: HostRuntime) {
     by_themselves(&rt, rt.alloc(), &[], on_bytes());
+    by_themselves(&rt, rt.alloc(), &[], on_bytes_too());
 }
 
 #[test]
 fn commands_on_texts(rt: HostRuntime) {
     by_themselves(&rt, rt.alloc(), TEXTS, on_texts());
+    by_themselves(&rt, rt.alloc(), TEXTS, ways());
 }
 
 /// The three targets of pieces of 30 bytes stay as they are, whatever request of theirs is refused.

@@ -5,7 +5,6 @@ use hipstr::string::HipStr;
 use hipstr::{Backend, Rc, Unique};
 use std::alloc::{AllocError, Global};
 use std::collections::HashMap;
-use std::hash::Hash;
 
 const ROWS: [(&str, &str); 9] = [
     ("", ""),
@@ -19,24 +18,11 @@ const ROWS: [(&str, &str); 9] = [
     ("{{name}} {{ {{name}}", "nothing under ` {{name`"),
 ];
 
-/// Generic in the key, since at handles a call of a map takes half a minute to prove.
-fn put<K: Hash + Eq + Drop>(map: &mut HashMap<K, K>, key: K, value: K) -> Result<(), AllocError> {
-    map.insert(key, value)?;
-    Ok(())
-}
-
 fn values<B: Backend>(alloc: Global) -> Result<Values<'static, B>, AllocError> {
     let mut values = HashMap::new(alloc);
-    put(
-        &mut values,
-        HipStr::from_static("name"),
-        HipStr::from_static("Ada"),
-    )?;
-    put(
-        &mut values,
-        HipStr::from_static("greeting"),
-        HipStr::from_static("Good evening"),
-    )?;
+    for (name, value) in [("name", "Ada"), ("greeting", "Good evening")] {
+        values.insert(HipStr::from_static(name), HipStr::from_static(value))?;
+    }
     Ok(values)
 }
 
