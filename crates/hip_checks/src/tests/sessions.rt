@@ -387,23 +387,17 @@ fn in_place<B: Backend>(rt: &impl Abort, alloc: Global) {
     assert!(rt; capacity_of(rt, alloc, &mut pool) < 200);
 }
 
-/// Room for 64 bytes, of which 60 are taken.
-const NEARLY_FULL: &[Row] = &[
-    (Command::Room(0, 64), Answer::Done),
-    (Command::Push(0, &[b'x'; 30]), Answer::Done),
-    (Command::Push(0, &[b'y'; 30]), Answer::Done),
-];
-
-fn nearly_full() -> &'static [Row] {
-    NEARLY_FULL
-}
-
 /// A push past the room that is there moves the bytes that are kept once, to twice the room that is needed.
 fn doubles(rt: &impl Abort, alloc: Global) {
     let many = must(rt, vec![in alloc; b'z'; 1000]);
     let mut pool = must(rt, Pool::<Unique>::new(alloc, 1));
     let mut meter = Meter::new();
-    answers(rt, alloc, &mut pool, nearly_full(), &mut meter);
+    let rows = [
+        (Command::Room(0, 64), Answer::Done),
+        (Command::Push(0, &[b'x'; 30]), Answer::Done),
+        (Command::Push(0, &[b'y'; 30]), Answer::Done),
+    ];
+    answers(rt, alloc, &mut pool, &rows, &mut meter);
     assert_eq!(rt; meter.copied(), 60);
     let room = capacity_of(rt, alloc, &mut pool);
     let beyond = must(rt, many.get(..room.saturating_sub(59)).ok_or("more room"));

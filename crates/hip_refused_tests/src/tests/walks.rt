@@ -9,44 +9,28 @@ use hipstr::{Backend, Rc, Unique};
 use std::alloc::{AllocError, Global};
 use std::process::Abort;
 
-/// A walk.
+/// A walk. All walks draw by a few bodies, and these are some of each; each way to take a text apart is a command too, in `lists`.
 #[derive(Clone, Copy)]
 enum Walk {
     Split,
-    SplitInclusive,
-    SplitTerminator,
-    SplitN,
-    Matches,
-    MatchIndices,
-    RSplit,
-    RSplitTerminator,
-    RSplitN,
-    RMatches,
-    RMatchIndices,
-    Lines,
-    SplitWhitespace,
-    SplitAsciiWhitespace,
-    PiecesAt,
     SplitFromBack,
+    RSplit,
+    Matches,
+    Lines,
+    MatchIndices,
+    RMatchIndices,
+    PiecesAt,
 }
 
 const WALKS: &[Walk] = &[
     Walk::Split,
-    Walk::SplitInclusive,
-    Walk::SplitTerminator,
-    Walk::SplitN,
-    Walk::Matches,
-    Walk::MatchIndices,
-    Walk::RSplit,
-    Walk::RSplitTerminator,
-    Walk::RSplitN,
-    Walk::RMatches,
-    Walk::RMatchIndices,
-    Walk::Lines,
-    Walk::SplitWhitespace,
-    Walk::SplitAsciiWhitespace,
-    Walk::PiecesAt,
     Walk::SplitFromBack,
+    Walk::RSplit,
+    Walk::Matches,
+    Walk::Lines,
+    Walk::MatchIndices,
+    Walk::RMatchIndices,
+    Walk::PiecesAt,
 ];
 
 /// How many items a walk gave, and how many of them were errors.
@@ -96,26 +80,7 @@ fn given_from_back<'h, 'b, B: Backend, I: Unnumbered + RangesBack + Drop>(
     tally
 }
 
-fn walked<B: Backend>(text: &HipStr<'_, B>, alloc: Global, walk: Walk) -> Tally {
-    match walk {
-        Walk::Split => given(text.split(alloc, ',')),
-        Walk::SplitInclusive => given(text.split_inclusive(alloc, ',')),
-        Walk::SplitTerminator => given(text.split_terminator(alloc, ",")),
-        Walk::SplitN => given(text.splitn(alloc, 2, ',')),
-        Walk::Matches => given(text.matches(alloc, PART)),
-        Walk::RSplit => given(text.rsplit(alloc, ',')),
-        Walk::RSplitTerminator => given(text.rsplit_terminator(alloc, ',')),
-        Walk::RSplitN => given(text.rsplitn(alloc, 2, ',')),
-        Walk::RMatches => given(text.rmatches(alloc, PART)),
-        Walk::Lines => given(text.lines(alloc)),
-        Walk::SplitWhitespace => given(text.split_whitespace(alloc)),
-        Walk::SplitAsciiWhitespace => given(text.split_ascii_whitespace(alloc)),
-        Walk::SplitFromBack => given_from_back(text.split(alloc, ',')),
-        _ => walked_with_places(text, alloc, walk),
-    }
-}
-
-/// The same of pieces with their places.
+/// Of pieces with their places.
 fn given_with_places<T: Drop, I: Iterator<Item = (usize, Result<T, AllocError>)> + Drop>(
     pieces: I,
 ) -> Tally
@@ -126,6 +91,17 @@ fn given_with_places<T: Drop, I: Iterator<Item = (usize, Result<T, AllocError>)>
         tally.count(piece);
     }
     tally
+}
+
+fn walked<B: Backend>(text: &HipStr<'_, B>, alloc: Global, walk: Walk) -> Tally {
+    match walk {
+        Walk::Split => given(text.split(alloc, ',')),
+        Walk::SplitFromBack => given_from_back(text.split(alloc, ',')),
+        Walk::RSplit => given(text.rsplit(alloc, ',')),
+        Walk::Matches => given(text.matches(alloc, PART)),
+        Walk::Lines => given(text.lines(alloc)),
+        _ => walked_with_places(text, alloc, walk),
+    }
 }
 
 fn walked_with_places<B: Backend>(text: &HipStr<'_, B>, alloc: Global, walk: Walk) -> Tally {
@@ -198,10 +174,11 @@ fn is_piece<B: Backend>(
     i: usize,
     is_lost: bool,
 ) -> bool {
-    match (item, PIECES.get(i)) {
-        (Some(Ok(piece)), Some(text)) => piece.str_eq(text) & !is_lost,
-        (Some(Err(_)), _) => is_lost,
-        _ => false,
+    let text = PIECES.get(i).copied().unwrap_or_default();
+    match item {
+        Some(Ok(piece)) => piece.str_eq(text) & !is_lost,
+        Some(Err(_)) => is_lost,
+        None => false,
     }
 }
 
