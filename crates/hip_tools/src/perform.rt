@@ -9,7 +9,6 @@ use hipstr::bytes::HipByt;
 use hipstr::string::HipStr;
 use hipstr::{Meter, Rc};
 use std::alloc::Global;
-use std::collections::HashMap;
 use std::io::{BufWriter, ErrorKind, Read, Write};
 
 /// Reads the text whole, and writes what the tool makes of it.
@@ -104,12 +103,12 @@ fn write_column<W: Write>(
 
 /// What the words `NAME=VALUE` give.
 fn values_of<'a>(alloc: Global, words: &'a [String]) -> Result<Values<'a, Rc>, ToolFault> {
-    let mut values = HashMap::new(alloc);
+    let mut values = Values::new(alloc);
     for word in words {
         let Some((name, value)) = word.as_str().split_once('=') else {
             return Err(ToolFault::Usage);
         };
-        values.insert(HipStr::borrowed(name), HipStr::borrowed(value))?;
+        values.set(HipStr::borrowed(name), HipStr::borrowed(value))?;
     }
     Ok(values)
 }

@@ -1,11 +1,12 @@
 -- What a template is, as it is written and as it is filled.
-use Rattle.std.specs.Prelude.{◌≡◌, ℕ, nat_eq, List, [], ◌∷◌, ◌++◌, Option, None, Some, Result, Ok, Err, IsSome, All, Any, codes}
+use Rattle.std.specs.Prelude.{◌≡◌, ℕ, nat_eq, List, [], ◌∷◌, ◌++◌, Option, None, Some, Result, Ok, Err, IsSome, All, Any, codes, if◌then◌else◌}
 use Rattle.std.specs.List.{flat_map}
 use Rattle.std.specs.Map.{lookup}
-use Rattle.std.specs.Option.{option_map_or}
+use Rattle.std.specs.Option.{option_map, unwrap_or}
 use Rattle.std.specs.Cmp.Lexicographic.{pointwise}
 use Rattle.hipstr.specs.Handle.{Handle}
 use Rattle.hipstr.specs.Parted.{IsParted, Lacks}
+use Rattle.hip_uses.specs.Number.{bytes_of}
 use Rattle.hip_uses.specs.declared.template.Hole.{Hole}
 use Rattle.hip_uses.specs.declared.fault.TemplateFault.{TemplateFault}
 use Rattle.hip_uses.specs.declared.fault.TemplateFault.TheVariants.{Unclosed, Unknown, Memory}
@@ -30,13 +31,17 @@ hole_written hole = hole.before.items ++ (opening ++ (hole.name.items ++ closing
 abbrev pub written : {B S P : Type 0} → List (Hole B S P) → List ℕ
 written holes = flat_map hole_written holes
 
--- what goes under a name
-abbrev pub value_of : List (Handle × Handle) → List ℕ → Option Handle
-value_of values name = lookup (λ key. pointwise nat_eq name key.items) values
+-- the text under a name, if there is one
+abbrev pub value_of : List (Handle × Handle) → List ℕ → Option (List ℕ)
+value_of values name = option_map bytes_of (lookup (λ key. pointwise nat_eq name key.items) values)
+
+-- what is under a name once this text is under that one
+abbrev pub value_with : List (Handle × Handle) → List ℕ → List ℕ → List ℕ → Option (List ℕ)
+value_with values name text other = if pointwise nat_eq name other then Some text else value_of values other
 
 -- a hole that is filled, with what lies before it
 abbrev pub hole_filled : {B S P : Type 0} → List (Handle × Handle) → Hole B S P → List ℕ
-hole_filled values hole = hole.before.items ++ option_map_or (λ value. value.items) (value_of values hole.name.items) []
+hole_filled values hole = hole.before.items ++ unwrap_or (value_of values hole.name.items) []
 
 abbrev pub filled : {B S P : Type 0} → List (Handle × Handle) → List (Hole B S P) → List ℕ
 filled values holes = flat_map (hole_filled values) holes
@@ -65,14 +70,14 @@ IsUnknown name (Unclosed text) = ⊥
 IsUnknown name (Unknown unknown) = unknown.items ≡ name
 IsUnknown name Memory = Unit {0}
 
--- this is the hole's name, and nothing goes under it
+-- the hole has this name, and nothing goes under it
 abbrev pub HoleFails : {B S P : Type 0} → List (Handle × Handle) → Hole B S P → TemplateFault B S P → Type 0
 HoleFails values hole (Unclosed text) = ⊥
 HoleFails values hole (Unknown name) = (value_of values name.items ≡ None) × (hole.name.items ≡ name.items)
 HoleFails values hole Memory = Unit {0}
 
--- a hole has this name, under which nothing goes
+-- one of the holes has this name, and nothing goes under it
 abbrev pub FillFails : {B S P : Type 0} → List (Handle × Handle) → List (Hole B S P) → TemplateFault B S P → Type 0
 FillFails values holes (Unclosed text) = ⊥
-FillFails values holes (Unknown name) = (value_of values name.items ≡ None) × Any (λ hole. hole.name.items ≡ name.items) holes
+FillFails values holes (Unknown name) = Any (λ hole. HoleFails values hole (Unknown name)) holes
 FillFails values holes Memory = Unit {0}

@@ -4,13 +4,15 @@ ghost use Rattle.hipstr.specs.Trimmed.{PartedAs};
 ghost use Rattle.hip_uses.specs.Template.{FirstHole, IsParsed, ParseFails, written};
 
 pub use crate::fault::TemplateFault;
-pub use crate::template::filling::{Values, fill};
+pub use crate::template::filling::fill;
+pub use crate::template::values::Values;
 use hipstr::Backend;
 use hipstr::laws::split_once_parts_at_the_first;
 use hipstr::string::{HipStr, TextCuts};
 use std::alloc::{AllocError, Global};
 
 mod filling;
+mod values;
 
 /// A hole, and the text between it and the one before.
 #[derive(Drop)]

@@ -4,7 +4,6 @@ use hip_uses::template::{TemplateFault, Values, fill, parse};
 use hipstr::string::HipStr;
 use hipstr::{Backend, Rc, Unique};
 use std::alloc::{AllocError, Global};
-use std::collections::HashMap;
 
 const ROWS: [(&str, &str); 9] = [
     ("", ""),
@@ -19,9 +18,9 @@ const ROWS: [(&str, &str); 9] = [
 ];
 
 fn values<B: Backend>(alloc: Global) -> Result<Values<'static, B>, AllocError> {
-    let mut values = HashMap::new(alloc);
+    let mut values = Values::new(alloc);
     for (name, value) in [("name", "Ada"), ("greeting", "Good evening")] {
-        values.insert(HipStr::from_static(name), HipStr::from_static(value))?;
+        values.set(HipStr::from_static(name), HipStr::from_static(value))?;
     }
     Ok(values)
 }
