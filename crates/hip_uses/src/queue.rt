@@ -8,6 +8,7 @@ ghost use Rattle.hip_uses.specs.declared.fault.PublishFault.TheVariants.{Full};
 
 pub use crate::fault::PublishFault;
 use hipstr::bytes::HipByt;
+use hipstr::laws::one_part_copies_little;
 use hipstr::{Backend, Meter};
 use std::alloc::{AllocError, Global};
 use std::collections::VecDeque;
@@ -86,6 +87,7 @@ fn clones_of<'b, B: Backend>(
         All (λ clone. clone.items ≡ message.now.items) clones.items) }
     ensures shared { B.SHARES ≡ true → RisesAtMost meter.old meter.new (23 * count) }
 {
+    one_part_copies_little::<B>();
     let mut clones = Vec::new(alloc);
     while clones.len() < count {
         clones.push(message.clone_metered(alloc, meter)?)?;

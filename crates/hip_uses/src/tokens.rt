@@ -6,6 +6,7 @@ ghost use Rattle.std.specs.Str.{IsCharBoundary};
 ghost use Rattle.hipstr.specs.Meter.{RisesAtMost};
 ghost use Rattle.hip_uses.specs.Token.{IsRun, IsTokenOf, bytes_of, class_of};
 
+use hipstr::laws::one_part_copies_little;
 use hipstr::string::HipStr;
 use hipstr::{Backend, Meter};
 use std::alloc::{AllocError, Global};
@@ -74,6 +75,7 @@ pub fn tokens<'b, B: Backend>(
     ensures shared { B.SHARES ≡ true → IfOk result (λ tokens.
         RisesAtMost meter.old meter.new (23 * length tokens.items)) }
 {
+    one_part_copies_little::<B>();
     let whole = source.as_str();
     let mut tokens = Vec::new(alloc);
     let mut start = 0;

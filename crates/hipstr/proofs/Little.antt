@@ -1,8 +1,8 @@
 -- Where owners are shared, a command that makes parts copies little.
-use Rattle.std.proofs.Common.{◌≡◌, ◌∙◌, ℕ, ◌-◌, Bool, true, false, List, [], ◌∷◌, length, Option, Some, None, MatchOption, if◌then◌else◌, ap, refl, arith}
+use Rattle.std.proofs.Common.{◌≡◌, ◌∙◌, ℕ, ◌-◌, ◌≤◌, Bool, true, false, List, [], ◌∷◌, length, Option, Some, None, MatchOption, if◌then◌else◌, ap, refl, subst, sym, arith}
 use Rattle.std.specs.Prelude.{is_none}
-use Rattle.hip_bytes.proofs.Costs.{shared_clone_is_little}
-use Rattle.hip_bytes.specs.Cost.{clone_cost}
+use Rattle.hip_bytes.proofs.Costs.{shared_clone_is_little, shared_part_is_little}
+use Rattle.hip_bytes.specs.Cost.{clone_cost, cut_cost}
 use Rattle.hip_bytes.specs.Handle.{Handle}
 use Rattle.hip_bytes.specs.Range.{slice_of}
 use Rattle.hip_bytes.specs.declared.kind.Kind.{Kind}
@@ -14,6 +14,13 @@ use Rattle.hipstr.specs.Step.{Costs, TrimsTo, TrimsMatchesTo, copies_of, drawn_o
 use Rattle.hipstr.specs.declared.command.Command.{Command}
 use Rattle.hipstr.specs.declared.command.Command.TheVariants.{Clone, Slice, Trim, TrimMatches, Strip, Pieces, Once}
 use Rattle.hipstr.specs.declared.command.Reason.{Reason}
+
+-- of one part and of one clone
+pub one_part : (shares : Bool) → shares ≡ true → (kind : Kind) (len : ℕ) → cut_cost shares kind len ≤ 23
+one_part shares shared kind len = subst (λ (b : Bool). cut_cost b kind len ≤ 23) (sym shared) (shared_part_is_little kind len)
+
+pub one_clone : (shares : Bool) → shares ≡ true → (kind : Kind) (len : ℕ) → clone_cost shares kind len ≤ 23
+one_clone shares shared kind len = subst (λ (b : Bool). clone_cost b kind len ≤ 23) (sym shared) (shared_clone_is_little kind len)
 
 -- what is little stays so where there is a fault, for which nothing is copied
 unless-refused : (source : Handle) (count : ℕ) (allowed : Bool) (copied cost : ℕ) → IsLittle source count copied → cost ≡ (if allowed then copied else 0) → IsLittle source count cost

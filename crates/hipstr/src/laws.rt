@@ -1,10 +1,13 @@
 //! Laws of the machine, of pieces and of the two parts of a text. Each function does nothing; its contract is the law.
-ghost use Rattle.std.specs.Prelude.{ℕ, true, List};
+ghost use Rattle.std.specs.Prelude.{◌≡◌, ◌≤◌, ℕ, true, List};
+ghost use Rattle.hip_bytes.specs.Cost.{clone_cost, cut_cost};
+ghost use Rattle.hip_bytes.specs.declared.kind.Kind.{Kind};
 ghost use Rattle.hipstr.specs.Little.{CopiesLittle};
 ghost use Rattle.hipstr.specs.Slot.{SlotState};
 ghost use Rattle.hipstr.specs.Step.{Costs};
 
 use crate::command::Command;
+use hip_bytes::Backend;
 pub use hip_cuts::laws::{
     borrowed_pieces_copy_nothing, pieces_in_order_copy_the_text_once, shared_pieces_copy_little,
     split_once_parts_at_the_first,
@@ -18,4 +21,12 @@ pub use hip_cuts::laws::{
 pub fn parts_copy_little(command: Command<'_>)
     ensures { (slots : List SlotState) (cost : ℕ) → Costs true slots command.entry cost
         → CopiesLittle slots command.entry cost }
+{}
+
+/// Where owners are shared, one part of a handle and one clone copy at most the 23 bytes that a handle holds itself, whatever its source
+/// holds. A loop over metered calls adds that up.
+#[tactic(auto, using(crate::proofs::Little::one_part, crate::proofs::Little::one_clone))]
+pub fn one_part_copies_little<B: Backend>()
+    ensures part { B.SHARES ≡ true → (kind : Kind) (len : ℕ) → cut_cost B.SHARES kind len ≤ 23 }
+    ensures clone { B.SHARES ≡ true → (kind : Kind) (len : ℕ) → clone_cost B.SHARES kind len ≤ 23 }
 {}

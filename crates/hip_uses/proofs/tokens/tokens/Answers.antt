@@ -1,15 +1,14 @@
-use Rattle.std.proofs.Common.{◌≡◌, ◌∙◌, ℕ, ◌+◌, ◌-◌, ◌*◌, List, [], ◌++◌, length, ap, sym, subst, arith, length-append}
+use Rattle.std.proofs.Common.{◌≡◌, ◌∙◌, ℕ, ◌+◌, ◌-◌, ◌*◌, List, length, ap, sym, subst, arith}
 use Rattle.std.specs.Prelude.{All, slice_range}
 use Rattle.std.specs.List.{flat_map}
 use Rattle.std.specs.Str.{IsCharBoundary}
 use Rattle.std.proofs.lemmas.Str.{IsCharBoundary-start}
-use Rattle.std.proofs.lemmas.List.{flat_map_more}
-use Rattle.std.proofs.lemmas.List.Elements.{All-nil, All-push}
+use Rattle.std.proofs.lemmas.List.Elements.{All-nil}
 use Rattle.hipstr.specs.Made.{IsPart}
 use Rattle.hipstr.specs.Meter.{RisesAtMost}
 use Rattle.hip_uses.specs.Token.{IsRun, IsTokenOf, bytes_of}
-use Rattle.hip_uses.proofs.Little.{part-little, rises-more}
-use Rattle.hip_uses.proofs.Runs.{length-range, take-range}
+use Rattle.hip_uses.proofs.Little.{rises-more}
+use Rattle.hip_uses.proofs.Runs.{each-more, joined-more, length-more, length-range}
 use Rattle.hip_uses.proofs.tokens.tokens.Goals as goal
 
 pub loop-start-init : goal.loop-start-init
@@ -35,17 +34,13 @@ loop-start-preserved g c =
     let run : IsRun items class start end = subst (λ (l : List ℕ). IsRun l class start end) c.as_str-whole.ensures.items c.run_end-end.ensures.run in
     let size : length c.in_ok-text.text.items ≡ end - start = ap length part.items_are ∙ length-range items start end (omega (arith, run.filled)) run.within in
     let place : end ≡ start + length c.in_ok-text.text.items = omega (arith, size, run.filled) in
+    let is : IsPart c.args.source.now c.in_ok-text.text (slice_range items start (start + length c.in_ok-text.text.items)) =
+    subst (λ (k : ℕ). IsPart c.args.source.now c.in_ok-text.text (slice_range items start k)) place part in
     record {
       boundary = subst (λ (l : List ℕ). IsCharBoundary l end) c.as_str-whole.ensures.items c.run_end-end.ensures.boundary;
-      joined =
-          ap (flat_map bytes_of) pushed ∙ sym (flat_map_more bytes_of [] c.loop-start.tokens.items _)
-          ∙ (λ i. c.loop-start.invariant.joined i ++ part.items_are i) ∙ take-range items start end (omega (arith, run.filled));
-      each =
-          subst (All (IsTokenOf c.args.source.now)) (sym pushed) (All-push (IsTokenOf c.args.source.now) c.loop-start.tokens.items _ c.loop-start.invariant.each (
-            subst (λ (k : ℕ). IsPart c.args.source.now c.in_ok-text.text (slice_range items start k)) place part,
-            subst (IsRun items class start) place run,
-          ));
-      shared = λ shares. let bound = part-little g.B.Backend.SHARES c.args.source.now.kind (end - start) shares in
-          subst (λ (n : ℕ). RisesAtMost c.args.meter.now c.part_metered.new.meter (23 * n)) (sym (ap length pushed ∙ length-append c.loop-start.tokens.items _))
+      joined = joined-more c.args.source.now c.loop-start.tokens.items c.push.new.self.items _ pushed start end c.loop-start.invariant.joined part.items_are (omega (arith, run.filled));
+      each = each-more c.args.source.now c.loop-start.tokens.items c.push.new.self.items _ pushed c.loop-start.invariant.each (is, subst (IsRun items class start) place run);
+      shared = λ shares. let bound = c.one_part_copies_little.ensures.part shares c.args.source.now.kind (end - start) in
+          subst (λ (n : ℕ). RisesAtMost c.args.meter.now c.part_metered.new.meter (23 * n)) (sym (length-more c.args.source.now c.loop-start.tokens.items c.push.new.self.items _ pushed))
           (rises-more _ c.args.meter.now c.loop-start.meter c.part_metered.new.meter (length c.loop-start.tokens.items) bound (c.loop-start.invariant.shared shares) c.in_ok-text.ensures.counted);
     }
