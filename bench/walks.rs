@@ -170,6 +170,7 @@ fn measure(name: &str, walk: Walk, text: &str, by: By) {
 const ASCII: &str = "abcdefghijklmnopqrstuvwxyz";
 const RUSSIAN: &str = "абвгдежзийклмнопрстуфхцчшщъыьэюя";
 const JAPANESE: &str = "あいうえおかきくけこ日本語文字";
+const RULE: &str = "------------------------------------------";
 const FRENCH: &str = "abcdefghijklmnopqrstuvwxyzéàè";
 
 fn main() {
@@ -197,12 +198,28 @@ fn main() {
         ("rsplit(\"ab\") over cbab", Walk::RSplit, words("c", 0..=0, &["cbab"]), By::Text("ab")),
         ("split(\" - \"), fields of 8", Walk::Split, words(ASCII, 8..=8, &[" - "]), By::Text(" - ")),
         ("rsplit(\" - \"), fields of 8", Walk::RSplit, words(ASCII, 8..=8, &[" - "]), By::Text(" - ")),
+        ("split(\" - \"), fields of 4", Walk::Split, words(ASCII, 4..=4, &[" - "]), By::Text(" - ")),
+        ("split(\" - \"), fields of 128", Walk::Split, words(ASCII, 128..=128, &[" - "]), By::Text(" - ")),
+        ("split(\" -> \"), fields of 4", Walk::Split, words(ASCII, 4..=4, &[" -> "]), By::Text(" -> ")),
+        ("split(\" -> \"), fields of 8", Walk::Split, words(ASCII, 8..=8, &[" -> "]), By::Text(" -> ")),
+        ("split(\" -> \"), fields of 16", Walk::Split, words(ASCII, 16..=16, &[" -> "]), By::Text(" -> ")),
+        ("rsplit(\" -> \"), fields of 8", Walk::RSplit, words(ASCII, 8..=8, &[" -> "]), By::Text(" -> ")),
+        ("split(\", \"), fields of 64", Walk::Split, words(ASCII, 64..=64, &[", "]), By::Text(", ")),
+        ("split(\"the \"), words of 1 to 55", Walk::Split, words(ASCII, 1..=55, &[" ", " the "]), By::Text("the ")),
+        ("split(RULE), fields of 128", Walk::Split, words(ASCII, 128..=128, &[RULE]), By::Text(RULE)),
+        ("rsplit(RULE), fields of 128", Walk::RSplit, words(ASCII, 128..=128, &[RULE]), By::Text(RULE)),
+        ("split(\"aaa\") over a", Walk::Split, words("a", 1..=1, &[""]), By::Text("aaa")),
+        ("rsplit(\"aaa\") over a", Walk::RSplit, words("a", 1..=1, &[""]), By::Text("aaa")),
+        ("matches(\"aaa\") over a", Walk::Matches, words("a", 1..=1, &[""]), By::Text("aaa")),
+        ("split(\"needle\") over itself", Walk::Split, words("a", 0..=0, &["needle"]), By::Text("needle")),
+        ("rsplit(\"needle\") over itself", Walk::RSplit, words("a", 0..=0, &["needle"]), By::Text("needle")),
         ("split(&[',', ';']), words of 1 to 55", Walk::Split, words(ASCII, 1..=55, &[",", ";"]), By::Set([',', ';'])),
         ("split(&[',', ' ']), Russian", Walk::Split, words(RUSSIAN, 1..=12, &[" "]), By::Set([',', ' '])),
         ("rsplit(&[',', ' ']), Russian", Walk::RSplit, words(RUSSIAN, 1..=12, &[" "]), By::Set([',', ' '])),
         ("rsplit(&[',', ' ']), Japanese", Walk::RSplit, words(JAPANESE, 1..=12, &[" "]), By::Set([',', ' '])),
         ("split('é'), French", Walk::Split, words(FRENCH, 1..=6, &["é"]), By::Char('é')),
         ("split('é'), Russian", Walk::Split, words(RUSSIAN, 1..=6, &["é"]), By::Char('é')),
+        ("trim_end_matches('é')", Walk::TrimEnd, words("é", 1..=1, &[""]), By::Char('é')),
         ("trim_end_matches('я')", Walk::TrimEnd, words("я", 1..=1, &[""]), By::Char('я')),
         ("trim_end_matches('語')", Walk::TrimEnd, words("語", 1..=1, &[""]), By::Char('語')),
         ("trim_end_matches(&['я', 'ю'])", Walk::TrimEnd, words("яю", 1..=1, &[""]), By::Set(['я', 'ю'])),

@@ -6,7 +6,7 @@ use Rattle.std.proofs.lemmas.Str.{length-encode, IsCharBoundary-start}
 use Rattle.std.proofs.lemmas.Option.{some_pair_parts}
 use Rattle.std.specs.Char.{encode_utf8, len_utf8}
 use Rattle.std.specs.Str.{IsUtf8, IsCharBoundary}
-use Rattle.hip_match.specs.Characters.{char_at}
+use Rattle.hip_match.specs.Characters.{char_at, IsCharBefore}
 use Rattle.hip_match.specs.CharLaws.{StartsChar, starts_char, is_boundary-true, is_boundary-is, char_at-ascii, char_at-between}
 use Rattle.hip_match.specs.Occurrence.{is_boundary}
 use Rattle.hip_match.specs.Ready.{IsPreviousBoundary}
@@ -146,48 +146,68 @@ module _ (t : List ℕ) (to : ℕ) (utf8 : IsUtf8 t) (cut : IsCharBoundary t to)
       let char = here t at utf8 prev.1.boundary within wide_at in
       ap (λ k. at + k) (sym is) ∙ ends char.0 _ char.1.at
 
-  -- it is two, three or four bytes before, and the bytes between don't start a character
-  abbrev Width : Type 0
-  Width =
-      ((at + 2 ≡ to) × (192 ≤ slice_index t at))
-      ⊎ (((at + 3 ≡ to) × (192 ≤ slice_index t at) × (slice_index t (at + 1) < 192))
-      ⊎ ((at + 4 ≡ to) × (slice_index t (at + 1) < 192) × (slice_index t (at + 2) < 192)))
+  abbrev char : (c : ℕ) × StartsChar t at c
+  char = here t at utf8 prev.1.boundary within wide_at
 
-  width : Width
-  width =
-      ⊎_elim (λ h. inl (stop 2 h.0, omega (arith, h.2)))
-      (λ r. inr (⊎_elim (λ h. inl (stop 3 h.0, omega (arith, h.2), omega (arith, h.3))) (λ h. inr (stop 4 h.0, omega (arith, h.2), omega (arith, h.3))) r))
-      (bytes t at utf8 prev.1.boundary within wide_at)
-
-  is_at : (i : ℕ) → at ≡ i → IsPreviousBoundary t to i × (128 ≤ slice_index t i)
-  is_at i same = let P : ℕ → Type 0 = λ j. IsPreviousBoundary t to j × (128 ≤ slice_index t j) in subst P same (prev.1, wide_at)
+  spelt_before : Two t at utf8 prev.1.boundary within wide_at char.0 ⊎ (Three t at utf8 prev.1.boundary within wide_at char.0 ⊎ Four t at utf8 prev.1.boundary within wide_at char.0)
+  spelt_before = bytes t at utf8 prev.1.boundary within wide_at
 
   read : (j k : ℕ) → j ≡ k → slice_index t j ≡ slice_index t k
   read j k same = ap (slice_index t) same
 
-  pub room_2 : 2 ≤ to
-  room_2 = ⊎_elim (λ h. omega (arith, h.0)) (λ r. ⊎_elim (λ h. omega (arith, h.0)) (λ h. omega (arith, h.0)) r) width
+  starts : (width code i : ℕ) → len_utf8 char.0 ≡ width → code ≡ char.0 → i + width ≡ to → IsCharBefore t to (code, i)
+  starts width code i one two end =
+      let back : at + width ≡ to = stop width one in
+      let same : at ≡ i = omega arith in
+      let P : ℕ → Type 0 = λ j. IsCharBefore t to (code, j) in
+      subst P same
+      (record {
+        before = prev.1.before;
+        boundary = prev.1.boundary;
+        is = char.1.at ∙ ap (λ k. Some (char.0, k)) (ends char.0 _ char.1.at) ∙ ap (λ k. Some (k, to)) (sym two);
+      })
 
-  pub starts_2 : 192 ≤ slice_index t (to - 2) → IsPreviousBoundary t to (to - 2) × (128 ≤ slice_index t (to - 2))
-  starts_2 lead =
-      ⊎_elim (λ h. let e = h.0 in is_at (to - 2) (omega arith))
-      (λ r. ⊎_elim (λ h. let e = h.0 in absurd (omega (arith, h.2, read (at + 1) (to - 2) (omega arith)))) (λ h. let e = h.0 in absurd (omega (arith, h.2, read (at + 2) (to - 2) (omega arith)))) r)
-      width
+  pub room_2 : 2 ≤ to
+  room_2 = ⊎_elim (λ h. let e = stop 2 h.0 in omega arith) (λ r. ⊎_elim (λ h. let e = stop 3 h.0 in omega arith) (λ h. let e = stop 4 h.0 in omega arith) r) spelt_before
+
+  pub before_two : 192 ≤ slice_index t (to - 2) → IsCharBefore t to (slice_index t (to - 2) * 64 + slice_index t (to - 1) - 12416, to - 2)
+  before_two lead =
+      ⊎_elim (λ h. let e = stop 2 h.0 in starts 2 _ (to - 2) h.0 (omega (arith, h.2, h.3, read at (to - 2) (omega arith), read (at + 1) (to - 1) (omega arith))) (omega arith))
+      (λ r. ⊎_elim (λ h. let e = stop 3 h.0 in absurd (omega (arith, h.3, read (at + 1) (to - 2) (omega arith)))) (λ h. let e = stop 4 h.0 in absurd (omega (arith, h.3, read (at + 2) (to - 2) (omega arith)))) r)
+      spelt_before
 
   pub room_3 : slice_index t (to - 2) < 192 → 3 ≤ to
   room_3 low =
-      ⊎_elim (λ h. let e = h.0 in absurd (omega (arith, h.1, read at (to - 2) (omega arith))))
-      (λ r. ⊎_elim (λ h. omega (arith, h.0)) (λ h. omega (arith, h.0)) r)
-      width
+      ⊎_elim (λ h. let e = stop 2 h.0 in absurd (omega (arith, h.2, read at (to - 2) (omega arith))))
+      (λ r. ⊎_elim (λ h. let e = stop 3 h.0 in omega arith) (λ h. let e = stop 4 h.0 in omega arith) r)
+      spelt_before
 
-  pub starts_3 : slice_index t (to - 2) < 192 → 192 ≤ slice_index t (to - 3) → IsPreviousBoundary t to (to - 3) × (128 ≤ slice_index t (to - 3))
-  starts_3 low lead =
-      ⊎_elim (λ h. let e = h.0 in absurd (omega (arith, h.1, read at (to - 2) (omega arith))))
-      (λ r. ⊎_elim (λ h. let e = h.0 in is_at (to - 3) (omega arith)) (λ h. let e = h.0 in absurd (omega (arith, h.1, read (at + 1) (to - 3) (omega arith)))) r)
-      width
+  pub before_three : slice_index t (to - 2) < 192 → 192 ≤ slice_index t (to - 3)
+      → (925824 ≤ (slice_index t (to - 3) * 64 + slice_index t (to - 2)) * 64 + slice_index t (to - 1))
+      × IsCharBefore t to ((slice_index t (to - 3) * 64 + slice_index t (to - 2)) * 64 + slice_index t (to - 1) - 925824, to - 3)
+  before_three low lead =
+      ⊎_elim (λ h. let e = stop 2 h.0 in absurd (omega (arith, h.2, read at (to - 2) (omega arith))))
+      (λ r. ⊎_elim
+      (λ h.
+      let e = stop 3 h.0 in
+      let one = read at (to - 3) (omega arith) in
+      let two = read (at + 1) (to - 2) (omega arith) in
+      let three = read (at + 2) (to - 1) (omega arith) in
+      (omega (arith, h.2, h.3, h.4, one, two, three), starts 3 _ (to - 3) h.0 (omega (arith, h.2, h.3, h.4, one, two, three)) (omega arith)))
+      (λ h. let e = stop 4 h.0 in absurd (omega (arith, h.2, read (at + 1) (to - 3) (omega arith)))) r)
+      spelt_before
 
-  pub starts_4 : slice_index t (to - 2) < 192 → slice_index t (to - 3) < 192 → (4 ≤ to) × IsPreviousBoundary t to (to - 4) × (128 ≤ slice_index t (to - 4))
-  starts_4 low lower =
-      ⊎_elim (λ h. let e = h.0 in absurd (omega (arith, h.1, read at (to - 2) (omega arith))))
-      (λ r. ⊎_elim (λ h. let e = h.0 in absurd (omega (arith, h.1, read at (to - 3) (omega arith)))) (λ h. let e = h.0 in let it = is_at (to - 4) (omega arith) in (omega arith, it.0, it.1)) r)
-      width
+  pub before_four : slice_index t (to - 2) < 192 → slice_index t (to - 3) < 192
+      → (4 ≤ to) × (63447168 ≤ ((slice_index t (to - 4) * 64 + slice_index t (to - 3)) * 64 + slice_index t (to - 2)) * 64 + slice_index t (to - 1))
+      × IsCharBefore t to (((slice_index t (to - 4) * 64 + slice_index t (to - 3)) * 64 + slice_index t (to - 2)) * 64 + slice_index t (to - 1) - 63447168, to - 4)
+  before_four low lower =
+      ⊎_elim (λ h. let e = stop 2 h.0 in absurd (omega (arith, h.2, read at (to - 2) (omega arith))))
+      (λ r. ⊎_elim (λ h. let e = stop 3 h.0 in absurd (omega (arith, h.2, read at (to - 3) (omega arith))))
+      (λ h.
+      let e = stop 4 h.0 in
+      let one = read at (to - 4) (omega arith) in
+      let two = read (at + 1) (to - 3) (omega arith) in
+      let three = read (at + 2) (to - 2) (omega arith) in
+      let four = read (at + 3) (to - 1) (omega arith) in
+      (omega arith, omega (arith, h.1, h.2, h.3, h.4, one, two, three, four), starts 4 _ (to - 4) h.0 (omega (arith, h.1, h.2, h.3, h.4, one, two, three, four)) (omega arith))) r)
+      spelt_before

@@ -1,10 +1,10 @@
 -- Where memchr finds the bytes of a text, the text occurs.
-use Rattle.std.proofs.Common.{◌≡◌, ℕ, ◌+◌, ◌-◌, ◌<◌, ◌≤◌, false, inl, inr, List, Option, Some, None, length, take, drop, slice_index, sym, ap, subst, ◌∙◌, arith, ⊎_elim, length-drop, length-take-le, get_or-drop, get_or-take, take_all}
+use Rattle.std.proofs.Common.{◌≡◌, ℕ, ◌+◌, ◌-◌, ◌<◌, ◌≤◌, false, inl, inr, List, Option, Some, None, length, take, drop, slice_index, sym, ap, subst, ◌∙◌, arith, ⊎_elim, length-drop, length-take-le, get_or-drop, get_or-take, take_all, add-zero}
 use Rattle.std.specs.Prelude.{◌==◌}
 use Rattle.std.proofs.lemmas.Bool.{cases_lt, eqb-true, eq-eqb, false≢true}
 use Rattle.std.proofs.lemmas.List.{nil_from_length}
 use Rattle.std.specs.Str.{IsUtf8, IsCharBoundary}
-use Rattle.memchr.specs.Find.{OccursAt, FindsNeedle, FindsLastNeedle, IsFirstByte, IsLastByte, NoneAfter, Passes, is_byte}
+use Rattle.memchr.specs.Find.{OccursAt, FindsNeedle, FindsLastNeedle, IsFirstByte, IsLastByte, NoneAfter, NoneBefore, Passes, is_byte}
 use Rattle.memchr.proofs.lemmas.MatchLemmas.{OccursAt-part, OccursAt-from_part}
 use Rattle.hip_match.specs.Occurrence.{StartsFirst, EndsLast, start_of}
 use Rattle.hip_match.specs.Texts.{text_ends}
@@ -68,6 +68,77 @@ module _ (t p : List ℕ) where
   pub OccursAt-in_take : (to k : ℕ) → to ≤ length t → k + length p ≤ to → OccursAt t p k → OccursAt (take to t) p k
   OccursAt-in_take to k le fits h =
       record { fits = omega (arith, length-take-le to t le); reads = λ j lt. get_or-take to t (k + j) 0 (omega arith) ∙ h.reads j lt }
+
+  -- p is looked for by one of its bytes
+  module _ (sign : ℕ) (within : sign < length p) where
+    byte_there : (k : ℕ) → OccursAt t p k → Passes (is_byte (slice_index p sign)) t (k + sign)
+    byte_there k h = eq-eqb _ _ (h.reads sign within)
+
+    pub FindsNeedle-no_byte : IsFirstByte (is_byte (slice_index p sign)) t None → FindsNeedle t p 0 None
+    FindsNeedle-no_byte none k lo hi h = let fits : k + length p ≤ length t = h.fits in none (k + sign) (omega arith) (omega arith) (byte_there k h)
+
+    pub FindsLastNeedle-no_byte : IsLastByte (is_byte (slice_index p sign)) t None → FindsLastNeedle t p None
+    FindsLastNeedle-no_byte none k lo hi h = let fits : k + length p ≤ length t = h.fits in none (k + sign) (omega arith) (omega arith) (byte_there k h)
+
+    pub FindsLastNeedle-here : (at : ℕ) → NoneAfter (Passes (is_byte (slice_index p sign)) t) 0 (length t) at → sign ≤ at → OccursAt (drop (at - sign) t) p 0 → FindsLastNeedle t p (Some (at - sign))
+    FindsLastNeedle-here at last le here =
+        let high : at < length t = last.high in
+        let out : OccursAt t p (at - sign) = subst (OccursAt t p) (add-zero (at - sign)) (OccursAt-drop (at - sign) 0 (omega arith) here) in (
+          record {
+            low = omega arith;
+            high = omega (arith, out.fits);
+            after = λ k lo hi h. let fits : k + length p ≤ length t = h.fits in last.after (k + sign) (omega arith) (omega arith) (byte_there k h);
+          },
+          out,
+        )
+
+    module _ (at : ℕ) (first : NoneBefore (Passes (is_byte (slice_index p sign)) t) 0 (length t) at) where
+      abbrev start : ℕ
+      start = at - sign
+
+      abbrev past : ℕ
+      past = at + 1 - sign
+
+      within_text : past ≤ length t
+      within_text = let high : at < length t = first.high in omega arith
+
+      pub FindsNeedle-here : sign ≤ at → OccursAt (drop start t) p 0 → FindsNeedle t p 0 (Some start)
+      FindsNeedle-here le here =
+          let high : at < length t = first.high in
+          let out : OccursAt t p start = subst (OccursAt t p) (add-zero start) (OccursAt-drop start 0 (omega arith) here) in
+          (record { low = omega arith; high = omega (arith, out.fits); before = λ k lo hi h. first.before (k + sign) (omega arith) (omega arith) (byte_there k h) }, out)
+
+      module _ (apart : sign ≤ at → ¬ OccursAt (drop start t) p 0) where
+        early : (k : ℕ) → k < past → ¬ OccursAt t p k
+        early k low h =
+            elim (cases_lt (k + sign) at) [
+              | inl before ↦ first.before (k + sign) (omega arith) before (byte_there k h)
+              | inr behind ↦
+                  let here : k ≡ start = omega arith in
+                  let none : k - start ≡ 0 = omega arith in
+                  apart (omega arith) (subst (λ j. OccursAt (drop start t) p j) none (OccursAt-in_drop start k (omega (arith, here)) h))
+            ]
+
+        pub FindsNeedle-none_behind : FindsNeedle (drop past t) p 0 None → FindsNeedle t p 0 None
+        FindsNeedle-none_behind none k lo hi h =
+            elim (cases_lt k past) [
+              | inl low ↦ early k low h
+              | inr high ↦ none (k - past) (omega arith) (omega (arith, h.fits, length-drop past t)) (OccursAt-in_drop past k high h)
+            ]
+
+        pub FindsNeedle-behind : (k : ℕ) → FindsNeedle (drop past t) p 0 (Some k) → FindsNeedle t p 0 (Some (past + k))
+        FindsNeedle-behind k found =
+            let out = OccursAt-drop past k within_text found.1 in (
+              record {
+                low = omega arith;
+                high = omega (arith, out.fits);
+                before = λ j lo hi h. elim (cases_lt j past) [
+                  | inl low ↦ early j low h
+                  | inr high ↦ found.0.before (j - past) (omega arith) (omega arith) (OccursAt-in_drop past j high h)
+                ];
+              },
+              out,
+            )
 
   -- where p does not stand at the last place of its last byte, it stands before that
   pub FindsLastNeedle-front : (at : ℕ) (r : Option ℕ) → 0 < length p → NoneAfter (Passes (is_byte (slice_index p (length p - 1))) t) 0 (length t) at

@@ -3,7 +3,6 @@ ghost use Rattle.std.specs.Prelude.{◌≡◌, ◌-◌, ◌<◌, ◌≤◌, ℕ,
 ghost use Rattle.std.specs.Str.{IsCharBoundary};
 ghost use Rattle.hip_match.specs.Occurrence.{IsNextMatch, IsLastMatch, start_of};
 ghost use Rattle.hip_match.specs.Characters.{char_at, char_ends, IsCharBefore};
-ghost use Rattle.hip_match.specs.Ready.{IsPreviousBoundary};
 
 // The number of the character of two to four bytes that starts at `at`, and where it ends.
 #[inline]
@@ -68,23 +67,42 @@ pub(crate) fn char_from(text: &str, at: usize) -> Option<(char, usize)>
     Some(char_within(text, at))
 }
 
-// Where the character of two to four bytes starts that ends at `to`. Its first byte is the last that isn't below 0xC0.
+// The number of the character of two to four bytes that ends at `to`, and where it starts. Its first byte is the last that isn't below
+// 0xC0. What the bytes' marks add to the number is taken off at once.
 #[inline]
-fn wide_start(text: &str, to: usize) -> usize
+fn wide_code_before(text: &str, to: usize) -> (u32, usize)
     requires some { 0 < to }
     requires boundary { IsCharBoundary text.now to }
     requires wide { 128 ≤ slice_index text.now (to - 1) }
-    ensures boundary { IsPreviousBoundary text.now to result }
-    ensures wide { 128 ≤ slice_index text.now result }
+    ensures { IsCharBefore text.now to result }
 {
     let bytes = text.as_bytes();
-    if bytes[to - 2] >= 0xC0 {
-        return to - 2;
+    let last = bytes[to - 1] as u32;
+    let third = bytes[to - 2] as u32;
+    if third >= 0xC0 {
+        return (third * 64 + last - 0x3080, to - 2);
     }
-    if bytes[to - 3] >= 0xC0 {
-        return to - 3;
+    let second = bytes[to - 3] as u32;
+    if second >= 0xC0 {
+        return ((second * 64 + third) * 64 + last - 0xE2080, to - 3);
     }
-    to - 4
+    let first = bytes[to - 4] as u32;
+    (
+        ((first * 64 + second) * 64 + third) * 64 + last - 0x3C82080,
+        to - 4,
+    )
+}
+
+// The character of two to four bytes that ends at `to`, and where it starts.
+#[inline]
+fn wide_char_before(text: &str, to: usize) -> (char, usize)
+    requires some { 0 < to }
+    requires boundary { IsCharBoundary text.now to }
+    requires wide { 128 ≤ slice_index text.now (to - 1) }
+    ensures { IsCharBefore text.now to result }
+{
+    let (code, at) = wide_code_before(text, to);
+    (unsafe { char::from_u32_unchecked(code) }, at)
 }
 
 // The character that ends at `to`, and where it starts.
@@ -100,9 +118,7 @@ pub(crate) fn char_before(text: &str, to: usize) -> Option<(char, usize)>
     if last < 0x80 {
         return Some((last as char, to - 1));
     }
-    let at = wide_start(text, to);
-    let (c, _) = wide_char_from(text, at);
-    Some((c, at))
+    Some(wide_char_before(text, to))
 }
 
 /// A set of characters. It occurs in a text at each character that belongs.

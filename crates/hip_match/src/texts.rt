@@ -16,59 +16,94 @@ use memchr::{memchr, memmem, memrchr};
 /// What a walk by a text prepares of it: nothing of a short one.
 #[derive(Drop)]
 pub struct TextSearcher<'p> {
-    finder: Option<Finder<'p>>,
-    reverse_finder: Option<FinderRev<'p>>,
+    finder: Option<Prepared<'p>>,
+    reverse_finder: Option<PreparedBack<'p>>,
+}
+
+// A search from the front that is prepared, and the place in the needle of the byte by which it is looked for first, if there is one.
+#[derive(Drop)]
+pub(crate) struct Prepared<'p> {
+    finder: Finder<'p>,
+    sign: Option<usize>,
+}
+
+// The same of a search from the end.
+#[derive(Drop)]
+pub(crate) struct PreparedBack<'p> {
+    finder: FinderRev<'p>,
+    sign: Option<usize>,
+}
+
+// The place in a needle of a byte that mostly stands where the needle does: of a character the last, else a sign, as texts that part
+// others have one.
+#[inline]
+fn sign_of(needle: &[u8]) -> Option<usize> {
+    if needle.len() <= 4 && !needle.is_ascii() {
+        return needle.len().checked_sub(1);
+    }
+    needle.iter().position(|byte| byte.is_ascii_punctuation())
 }
 
 // What a walk by `needle` prepares. One byte and two have ways of their own.
 #[inline]
-fn finder_of<'p>(needle: &'p str) -> Option<Finder<'p>>
-    ensures { IfSome result (λ f. f ≡ needle.now) }
+fn finder_of<'p>(needle: &'p str) -> Option<Prepared<'p>>
+    ensures { IfSome result (λ f. f.finder ≡ needle.now) }
 {
     let wanted = needle.as_bytes();
     if wanted.len() <= 2 {
         return None;
     }
-    Some(Finder::new(wanted))
+    Some(Prepared {
+        finder: Finder::new(wanted),
+        sign: sign_of(wanted),
+    })
 }
 
 // What a walk by `needle` from the end prepares.
 #[inline]
-fn reverse_finder_of<'p>(needle: &'p str) -> Option<FinderRev<'p>>
-    ensures { IfSome result (λ f. f ≡ needle.now) }
+fn reverse_finder_of<'p>(needle: &'p str) -> Option<PreparedBack<'p>>
+    ensures { IfSome result (λ f. f.finder ≡ needle.now) }
 {
     let wanted = needle.as_bytes();
     if wanted.len() <= 1 {
         return None;
     }
-    Some(FinderRev::new(wanted))
+    Some(PreparedBack {
+        finder: FinderRev::new(wanted),
+        sign: wanted.iter().rposition(|byte| byte.is_ascii_punctuation()),
+    })
 }
 
 // The first place of `hay` where the bytes of `needle` stand, by what was prepared of it.
 #[inline]
-fn place_by(finder: &Option<Finder<'_>>, hay: &[u8], needle: &[u8]) -> Option<usize>
-    requires { IfSome finder.now (λ f. f ≡ needle.now) }
+fn place_by(finder: &Option<Prepared<'_>>, hay: &[u8], needle: &[u8]) -> Option<usize>
+    requires { IfSome finder.now (λ f. f.finder ≡ needle.now) }
     ensures { FindsNeedle hay.now needle.now 0 result }
 {
     match finder {
-        Some(finder) => finder.find(hay),
+        Some(prepared) => prepared.finder.find(hay),
         None => memmem::find(hay, needle),
     }
 }
 
-// The same of a needle that mostly stands where its last byte first does.
+// The same of a needle that mostly stands where its byte at `sign` first does. Where it doesn't, the search goes on behind that place.
 #[inline]
-fn near_place(finder: &Option<Finder<'_>>, hay: &[u8], needle: &[u8]) -> Option<usize>
-    requires some { 0 < length needle.now }
-    requires prepared { IfSome finder.now (λ f. f ≡ needle.now) }
+fn near_place(
+    finder: &Option<Prepared<'_>>,
+    hay: &[u8],
+    needle: &[u8],
+    sign: usize,
+) -> Option<usize>
+    requires within { sign < length needle.now }
+    requires prepared { IfSome finder.now (λ f. f.finder ≡ needle.now) }
     ensures { FindsNeedle hay.now needle.now 0 result }
 {
-    let last = needle.len() - 1;
-    let at = memchr(needle[last], hay)?;
-    if at >= last && is_prefix(&hay[at - last..], needle) {
-        return Some(at - last);
+    let at = memchr(needle[sign], hay)?;
+    if at >= sign && is_prefix(&hay[at - sign..], needle) {
+        return Some(at - sign);
     }
-    place_by(finder, hay, needle)
+    let past = (at + 1).saturating_sub(sign);
+    Some(past + place_by(finder, &hay[past..], needle)?)
 }
 
 // The first place of `hay` where the two bytes of `needle` stand.
@@ -82,25 +117,37 @@ fn pair_place(hay: &[u8], needle: &[u8]) -> Option<usize>
 }
 
 // The first place of `hay` where the bytes of `needle` stand, of which there are none or more than one. Two are looked for at once, and
-// a character by its last byte. It is a function apart, so that the search for one byte is short enough to be inlined.
+// more by a sign among them, or right where the search begins, before all else. It is a function apart, so that the search for one byte is
+// short enough to be inlined.
 #[inline(never)]
-fn first_wide_place(finder: &Option<Finder<'_>>, hay: &[u8], needle: &[u8]) -> Option<usize>
-    requires { IfSome finder.now (λ f. f ≡ needle.now) }
+fn first_wide_place(finder: &Option<Prepared<'_>>, hay: &[u8], needle: &[u8]) -> Option<usize>
+    requires { IfSome finder.now (λ f. f.finder ≡ needle.now) }
     ensures { FindsNeedle hay.now needle.now 0 result }
 {
     if needle.len() == 2 {
         return pair_place(hay, needle);
     }
-    if needle.len() > 2 && needle.len() <= 4 && needle[0] >= 0x80 {
-        return near_place(finder, hay, needle);
+    if needle.len() <= 2 {
+        return place_by(finder, hay, needle);
     }
-    place_by(finder, hay, needle)
+    let last = needle.len() - 1;
+    match finder {
+        Some(
+            Prepared {
+                sign: Some(sign),
+                ..
+            },
+        ) => near_place(finder, hay, needle, (*sign).min(last)),
+        None if last < 4 && needle[0] >= 0x80 => near_place(finder, hay, needle, last),
+        _ if is_prefix(hay, needle) => Some(0),
+        _ => place_by(finder, hay, needle),
+    }
 }
 
 // The first place of `hay` where the bytes of `needle` stand. One byte is looked for by itself.
 #[inline(always)]
-fn first_place(finder: &Option<Finder<'_>>, hay: &[u8], needle: &[u8]) -> Option<usize>
-    requires { IfSome finder.now (λ f. f ≡ needle.now) }
+fn first_place(finder: &Option<Prepared<'_>>, hay: &[u8], needle: &[u8]) -> Option<usize>
+    requires { IfSome finder.now (λ f. f.finder ≡ needle.now) }
     ensures { FindsNeedle hay.now needle.now 0 result }
 {
     if needle.len() == 1 {
@@ -111,36 +158,40 @@ fn first_place(finder: &Option<Finder<'_>>, hay: &[u8], needle: &[u8]) -> Option
 
 // The last place of `hay` where the bytes of `needle` stand, by what was prepared of it.
 #[inline]
-fn last_place_by(finder: &Option<FinderRev<'_>>, hay: &[u8], needle: &[u8]) -> Option<usize>
-    requires { IfSome finder.now (λ f. f ≡ needle.now) }
+fn last_place_by(finder: &Option<PreparedBack<'_>>, hay: &[u8], needle: &[u8]) -> Option<usize>
+    requires { IfSome finder.now (λ f. f.finder ≡ needle.now) }
     ensures { FindsLastNeedle hay.now needle.now result }
 {
     match finder {
-        Some(finder) => finder.rfind(hay),
+        Some(prepared) => prepared.finder.rfind(hay),
         None => memmem::rfind(hay, needle),
     }
 }
 
-// The same of a needle that mostly stands where its last byte last does.
+// The same of a needle that mostly stands where its byte at `sign` last does.
 #[inline]
-fn last_near_place(finder: &Option<FinderRev<'_>>, hay: &[u8], needle: &[u8]) -> Option<usize>
-    requires some { 0 < length needle.now }
-    requires prepared { IfSome finder.now (λ f. f ≡ needle.now) }
+fn last_near_place(
+    finder: &Option<PreparedBack<'_>>,
+    hay: &[u8],
+    needle: &[u8],
+    sign: usize,
+) -> Option<usize>
+    requires within { sign < length needle.now }
+    requires prepared { IfSome finder.now (λ f. f.finder ≡ needle.now) }
     ensures { FindsLastNeedle hay.now needle.now result }
 {
-    let back = needle.len() - 1;
-    let at = memrchr(needle[back], hay)?;
-    if at >= back && is_prefix(&hay[at - back..], needle) {
-        return Some(at - back);
+    let at = memrchr(needle[sign], hay)?;
+    if at >= sign && is_prefix(&hay[at - sign..], needle) {
+        return Some(at - sign);
     }
     last_place_by(finder, hay, needle)
 }
 
 // The same of one that often stands where its last byte does the last time but one.
 #[inline]
-fn last_second_place(finder: &Option<FinderRev<'_>>, hay: &[u8], needle: &[u8]) -> Option<usize>
+fn last_second_place(finder: &Option<PreparedBack<'_>>, hay: &[u8], needle: &[u8]) -> Option<usize>
     requires some { 0 < length needle.now }
-    requires prepared { IfSome finder.now (λ f. f ≡ needle.now) }
+    requires prepared { IfSome finder.now (λ f. f.finder ≡ needle.now) }
     ensures { FindsLastNeedle hay.now needle.now result }
 {
     let back = needle.len() - 1;
@@ -148,13 +199,31 @@ fn last_second_place(finder: &Option<FinderRev<'_>>, hay: &[u8], needle: &[u8]) 
     if at >= back && is_prefix(&hay[at - back..], needle) {
         return Some(at - back);
     }
-    last_near_place(finder, &hay[..at], needle)
+    last_near_place(finder, &hay[..at], needle, back)
+}
+
+// The last place of `hay` where more than four bytes, or none, stand: by a sign among them, or right at the end, before all else.
+#[inline(never)]
+fn last_long_place(finder: &Option<PreparedBack<'_>>, hay: &[u8], needle: &[u8]) -> Option<usize>
+    requires { IfSome finder.now (λ f. f.finder ≡ needle.now) }
+    ensures { FindsLastNeedle hay.now needle.now result }
+{
+    match finder {
+        Some(
+            PreparedBack {
+                sign: Some(sign),
+                ..
+            },
+        ) if *sign < needle.len() => { last_near_place(finder, hay, needle, *sign) }
+        _ if is_suffix(hay, needle) => Some(hay.len() - needle.len()),
+        _ => last_place_by(finder, hay, needle),
+    }
 }
 
 // The last place of `hay` where the bytes of `needle` stand.
 #[inline]
-fn last_place(finder: &Option<FinderRev<'_>>, hay: &[u8], needle: &[u8]) -> Option<usize>
-    requires { IfSome finder.now (λ f. f ≡ needle.now) }
+fn last_place(finder: &Option<PreparedBack<'_>>, hay: &[u8], needle: &[u8]) -> Option<usize>
+    requires { IfSome finder.now (λ f. f.finder ≡ needle.now) }
     ensures { FindsLastNeedle hay.now needle.now result }
 {
     if needle.len() == 1 {
@@ -163,7 +232,7 @@ fn last_place(finder: &Option<FinderRev<'_>>, hay: &[u8], needle: &[u8]) -> Opti
     if needle.len() >= 2 && needle.len() <= 4 {
         return last_second_place(finder, hay, needle);
     }
-    last_place_by(finder, hay, needle)
+    last_long_place(finder, hay, needle)
 }
 
 // The first occurrence of `needle` at or after `from`, by what was prepared of it.
@@ -171,11 +240,11 @@ fn last_place(finder: &Option<FinderRev<'_>>, hay: &[u8], needle: &[u8]) -> Opti
 pub(crate) fn find_text(
     text: &str,
     needle: &str,
-    finder: &Option<Finder<'_>>,
+    finder: &Option<Prepared<'_>>,
     from: usize,
 ) -> Option<(usize, usize)>
     requires boundary { IsCharBoundary text.now from }
-    requires prepared { IfSome finder.now (λ f. f ≡ needle.now) }
+    requires prepared { IfSome finder.now (λ f. f.finder ≡ needle.now) }
     ensures { IsNextMatch (text_ends needle.now text.now) from result }
 {
     let wanted = needle.as_bytes();
@@ -204,11 +273,11 @@ pub(crate) fn text_at(text: &str, needle: &str, at: usize) -> Option<usize>
 pub(crate) fn rfind_text(
     text: &str,
     needle: &str,
-    finder: &Option<FinderRev<'_>>,
+    finder: &Option<PreparedBack<'_>>,
     to: usize,
 ) -> Option<(usize, usize)>
     requires boundary { IsCharBoundary text.now to }
-    requires prepared { IfSome finder.now (λ f. f ≡ needle.now) }
+    requires prepared { IfSome finder.now (λ f. f.finder ≡ needle.now) }
     ensures { IsLastMatch (text_ends needle.now text.now) to result }
 {
     let wanted = needle.as_bytes();
@@ -257,7 +326,7 @@ impl<'p> Pattern for &'p str {
 
     ghost ends = { λ p. text_ends p.now };
 
-    ghost is_searcher = { λ p s. IfSome s.finder (λ f. f ≡ p.now) × IfSome s.reverse_finder (λ f. f ≡ p.now) };
+    ghost is_searcher = { λ p s. IfSome s.finder (λ f. f.finder ≡ p.now) × IfSome s.reverse_finder (λ f. f.finder ≡ p.now) };
 
     #[inline]
     fn searcher(&self) -> TextSearcher<'p> {
@@ -333,7 +402,7 @@ impl<'p, 'q> Pattern for &'q &'p str {
 
     ghost ends = { λ p. text_ends p.now.now };
 
-    ghost is_searcher = { λ p s. IfSome s.finder (λ f. f ≡ p.now.now) × IfSome s.reverse_finder (λ f. f ≡ p.now.now) };
+    ghost is_searcher = { λ p s. IfSome s.finder (λ f. f.finder ≡ p.now.now) × IfSome s.reverse_finder (λ f. f.finder ≡ p.now.now) };
 
     #[inline]
     fn searcher(&self) -> TextSearcher<'p> {
@@ -409,7 +478,7 @@ impl<'p> Pattern for &'p String {
 
     ghost ends = { λ p. text_ends (string_bytes p.now) };
 
-    ghost is_searcher = { λ p s. IfSome s.finder (λ f. f ≡ string_bytes p.now) × IfSome s.reverse_finder (λ f. f ≡ string_bytes p.now) };
+    ghost is_searcher = { λ p s. IfSome s.finder (λ f. f.finder ≡ string_bytes p.now) × IfSome s.reverse_finder (λ f. f.finder ≡ string_bytes p.now) };
 
     #[inline]
     fn searcher(&self) -> TextSearcher<'p> {

@@ -1,6 +1,6 @@
 use Rattle.std.proofs.Common.{◌≡◌, ◌<◌, ◌+◌, ◌-◌, Some, length, slice_index, ap, sym, ◌∙◌, arith}
 use Rattle.std.proofs.lemmas.Str.{IsCharBoundary-before_ascii}
-use Rattle.hip_match.specs.CharLaws.{char_at-ascii, char_at-between}
+use Rattle.hip_match.specs.CharLaws.{char_at-ascii}
 use Rattle.hip_match.proofs.chars.char_before.Goals as goal
 
 pub returns-then-last-lt128 : goal.returns-then-last-lt128
@@ -15,13 +15,4 @@ returns-then-last-lt128 c =
       before = omega arith;
       boundary = cut;
       is = char_at-ascii c.args.text.now at c.utf8.text cut lt low ∙ ap (λ k. Some (slice_index c.args.text.now at, k)) next ∙ ap (λ l. Some (slice_index l at, c.args.to)) (sym same);
-    }
-
-pub returns : goal.returns
-returns c =
-    let prev = c.wide_start-at.ensures.boundary in
-    record {
-      before = prev.before;
-      boundary = prev.boundary;
-      is = char_at-between c.args.text.now _ c.args.to c.utf8.text prev.boundary c.requires prev.before prev.none _ _ c.wide_char_from-c.ensures;
     }
