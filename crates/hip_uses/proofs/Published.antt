@@ -1,8 +1,6 @@
 -- One subscriber more has the message.
-use Rattle.std.proofs.Common.{◌≡◌, ◌∙◌, ℕ, ◌+◌, ◌<◌, ◌≤◌, List, [], ◌∷◌, ◌++◌, length, map, get_or, sym, ap, subst, arith, ⊎_elim, get_or-set_other, get_or-set_same, length-set, le_refl}
-use Rattle.std.specs.Prelude.{All, slice_set}
-use Rattle.std.proofs.lemmas.List.Elements.{All-push}
-use Rattle.hipstr.specs.Handle.{Handle}
+use Rattle.std.proofs.Common.{◌≡◌, ◌∙◌, ℕ, ◌+◌, ◌<◌, ◌≤◌, List, length, map, get_or, sym, ap, subst, arith, ⊎_elim, get_or-set_other, get_or-set_same, length-set, le_refl}
+use Rattle.std.specs.Prelude.{slice_set}
 use Rattle.std.proofs.lemmas.Bool.{cases_lt}
 use Rattle.std.proofs.lemmas.List.{get_or-map, get_or_default, length-map, same_lists}
 
@@ -32,9 +30,3 @@ pub AreChanged-all : {X : Type 0} (f : X → X) (old now : List X) (i : ℕ) →
 AreChanged-all f old now i all so_far =
     same_lists now (map f old) (so_far.length_is ∙ sym (length-map old f))
     (λ k other low. let within : k < length old = omega (arith, so_far.length_is) in so_far.changed k other (omega arith) ∙ sym (get_or-map f old k other other within))
-
--- one clone more of a message
-pub clones-more : (bytes : List ℕ) (clones more : List Handle) (clone : Handle) → more ≡ clones ++ clone ∷ [] → clone.items ≡ bytes
-    → All (λ (clone : Handle). clone.items ≡ bytes) clones → All (λ (clone : Handle). clone.items ≡ bytes) more
-clones-more bytes clones more clone pushed is so_far =
-    subst (All (λ (clone : Handle). clone.items ≡ bytes)) (sym pushed) (All-push (λ (clone : Handle). clone.items ≡ bytes) clones clone so_far is)

@@ -1,18 +1,16 @@
 -- Runs of one class, and one token more.
-use Rattle.std.proofs.Common.{◌≡◌, ◌∙◌, ℕ, ◌+◌, ◌-◌, ◌<◌, ◌≤◌, ◌≢◌, List, [], ◌∷◌, ◌++◌, length, take, drop, get_or, ap, sym, subst, arith, ⊎_elim, length-append, length-drop, length-take-le}
-use Rattle.std.specs.Prelude.{All, slice_range}
+use Rattle.std.proofs.Common.{◌≡◌, ◌∙◌, ℕ, ◌+◌, ◌-◌, ◌<◌, ◌≤◌, ◌≢◌, List, [], ◌∷◌, ◌++◌, length, take, drop, get_or, ap, sym, subst, arith, ⊎_elim, length-drop, length-take-le}
+use Rattle.std.specs.Prelude.{slice_range}
 use Rattle.std.specs.List.{flat_map}
 use Rattle.std.specs.Str.{IsCharBoundary, IsUtf8}
 use Rattle.std.proofs.Math.Seq.{take-add}
 use Rattle.std.proofs.lemmas.Bool.{cases_lt}
 use Rattle.std.proofs.lemmas.List.{flat_map_more}
-use Rattle.std.proofs.lemmas.List.Elements.{All-push}
 use Rattle.std.proofs.lemmas.Str.{IsCharBoundary-after_ascii, IsCharBoundary-before_ascii, IsCharBoundary-end}
-use Rattle.hipstr.specs.Handle.{Handle}
 use Rattle.hip_uses.specs.declared.tokens.Class.{Class}
 use Rattle.hip_uses.specs.declared.tokens.Class.TheVariants.{Word}
 use Rattle.hip_uses.specs.declared.tokens.Token.{Token}
-use Rattle.hip_uses.specs.Token.{IsTokenOf, bytes_of, class_of}
+use Rattle.hip_uses.specs.Token.{bytes_of, class_of}
 
 pub within_more : (P : ℕ → Type 0) (start end : ℕ) → ((k : ℕ) → start ≤ k → k < end → P k) → P end → (k : ℕ) → start ≤ k → k < end + 1 → P k
 within_more P start end before here k low high =
@@ -48,14 +46,7 @@ pub length-range : (t : List ℕ) (start end : ℕ) → start ≤ end → end �
 length-range t start end le fits = length-take-le (end - start) (drop start t) (omega (arith, length-drop start t))
 
 -- one token more
-module _ {B S P : Type 0} (source : Handle) (tokens more : List (Token B S P)) (token : Token B S P) (pushed : more ≡ tokens ++ token ∷ []) where
-  pub length-more : length more ≡ length tokens + 1
-  length-more = ap length pushed ∙ length-append tokens (token ∷ [])
-
-  pub each-more : All (IsTokenOf source) tokens → IsTokenOf source token → All (IsTokenOf source) more
-  each-more so_far is = subst (All (IsTokenOf source)) (sym pushed) (All-push (IsTokenOf source) tokens token so_far is)
-
-  pub joined-more : (start end : ℕ) → flat_map bytes_of tokens ≡ take start source.items → token.text.items ≡ slice_range source.items start end → start ≤ end
-      → flat_map bytes_of more ≡ take end source.items
-  joined-more start end joined is le =
-      ap (flat_map bytes_of) pushed ∙ sym (flat_map_more bytes_of [] tokens token) ∙ (λ i. joined i ++ is i) ∙ take-range source.items start end le
+pub joined-more : {B S P : Type 0} (bytes : List ℕ) (tokens more : List (Token B S P)) (token : Token B S P) (start end : ℕ) → more ≡ tokens ++ token ∷ []
+    → flat_map bytes_of tokens ≡ take start bytes → token.text.items ≡ slice_range bytes start end → start ≤ end → flat_map bytes_of more ≡ take end bytes
+joined-more bytes tokens more token start end pushed joined is le =
+    ap (flat_map bytes_of) pushed ∙ sym (flat_map_more bytes_of [] tokens token) ∙ (λ i. joined i ++ is i) ∙ take-range bytes start end le

@@ -2,14 +2,13 @@
 use Rattle.std.proofs.Common.{◌≡◌, ◌∙◌, ℕ, ◌+◌, ◌<◌, ◌≤◌, List, [], ◌∷◌, ◌++◌, Option, None, Some, Result, Ok, Err, length, take, get_or, ap, sym, subst, refl, append_assoc, length-append, arith, ⊎_elim}
 use Rattle.std.specs.Borrow.{Bor}
 use Rattle.std.specs.HashMap.{HashMap, Updates}
-use Rattle.std.specs.Map.{lookup}
 use Rattle.std.specs.Cmp.Lexicographic.{pointwise}
 use Rattle.std.specs.Prelude.{Bool, true, false, nat_eq, cond, if◌then◌else◌, IfErr, IsErrAnd, IsSome, MatchOption, OnOk}
 use Rattle.std.proofs.lemmas.Bool.{cases_lt}
-use Rattle.std.specs.Option.{option_copied, option_map}
+use Rattle.std.specs.Option.{option_copied}
 use Rattle.std.proofs.lemmas.List.{flat_map_more, get_or_default, take_more}
 use Rattle.hipstr.specs.Handle.{Handle}
-use Rattle.hip_uses.specs.Number.{bytes_of, same_text}
+use Rattle.hip_uses.specs.Number.{same_text}
 use Rattle.hip_uses.specs.Template.{FirstHole, IsParsed, ParseFails, closing, filled, hole_filled, hole_written, opening, value_of, value_with, written}
 use Rattle.hip_uses.specs.declared.template.Hole.{Hole}
 use Rattle.hip_uses.specs.declared.fault.TemplateFault.{TemplateFault}
@@ -35,24 +34,22 @@ known-more {B} {S} {P} values holes i hole within is known so_far k other low =
     subst (λ (h : Hole B S P). IsSome (value_of values h.name.items)) same known)
     (cases_lt k i)
 
--- what a map gives, by its text
-pub by-text : (result : Option (Bor Handle)) (found : Option Handle) → option_copied result ≡ found
-    → MatchOption result (option_map bytes_of found ≡ None) (λ text. option_map bytes_of found ≡ Some text.now.items)
-by-text None found is = ap (option_map bytes_of) (sym is)
-by-text (Some text) found is = ap (option_map bytes_of) (sym is)
+-- what a map gives, by its value
+pub by-value : (result : Option (Bor Handle)) (found : Option Handle) → option_copied result ≡ found → MatchOption result (found ≡ None) (λ value. found ≡ Some value.now)
+by-value None found is = sym is
+by-value (Some value) found is = sym is
 
--- a text more under a name, if there was memory for it
-pub set-more : {R E S : Type 0} (result : Result R E) (before after : HashMap Handle Handle S) (old : List (Handle × Handle)) (name text : Handle)
-    → before.entries ≡ old → OnOk result (Updates same_text before after name (Some text))
-    → OnOk result ((other : List ℕ) → value_of after.entries other ≡ value_with old name.items text.items other)
-set-more (Ok done) before after old name text is updated =
-    λ other. ap (option_map bytes_of) (updated.0 (record { kind = name.kind; items = other; capacity = 0 })) ∙ either (pointwise nat_eq name.items other) other
-    ∙ ap (λ entries. value_with entries name.items text.items other) is where
-      either : (same : Bool) (other : List ℕ) → option_map bytes_of (cond same (Some text) (lookup (λ k. pointwise nat_eq other k.items) before.entries))
-          ≡ (if same then Some text.items else value_of before.entries other)
+-- a value more under a name, if there was memory for it
+pub set-more : {R E S : Type 0} (result : Result R E) (before after : HashMap Handle Handle S) (old : List (Handle × Handle)) (name value : Handle)
+    → before.entries ≡ old → OnOk result (Updates same_text before after name (Some value))
+    → OnOk result ((other : List ℕ) → value_of after.entries other ≡ value_with old name.items value other)
+set-more (Ok done) before after old name value is updated =
+    λ other. updated.0 (record { kind = name.kind; items = other; capacity = 0 }) ∙ either (pointwise nat_eq name.items other) other
+    ∙ ap (λ entries. value_with entries name.items value other) is where
+      either : (same : Bool) (other : List ℕ) → cond same (Some value) (value_of before.entries other) ≡ (if same then Some value else value_of before.entries other)
       either true other = refl
       either false other = refl
-set-more (Err error) before after old name text is refused = tt
+set-more (Err error) before after old name value is refused = tt
 
 -- what follows the first hole is shorter
 pub hole-shorter : {B S P : Type 0} (text : List ℕ) (hole : Hole B S P) (after : Handle) → FirstHole text (Ok (Some (hole, after))) → length after.items < length text

@@ -2,7 +2,7 @@
 use Rattle.std.specs.Prelude.{◌≡◌, ℕ, nat_eq, List, [], ◌∷◌, ◌++◌, Option, None, Some, Result, Ok, Err, IsSome, All, Any, codes, if◌then◌else◌}
 use Rattle.std.specs.List.{flat_map}
 use Rattle.std.specs.Map.{lookup}
-use Rattle.std.specs.Option.{option_map, unwrap_or}
+use Rattle.std.specs.Option.{option_map_or}
 use Rattle.std.specs.Cmp.Lexicographic.{pointwise}
 use Rattle.hipstr.specs.Handle.{Handle}
 use Rattle.hipstr.specs.Parted.{IsParted, Lacks}
@@ -31,17 +31,17 @@ hole_written hole = hole.before.items ++ (opening ++ (hole.name.items ++ closing
 abbrev pub written : {B S P : Type 0} → List (Hole B S P) → List ℕ
 written holes = flat_map hole_written holes
 
--- the text under a name, if there is one
-abbrev pub value_of : List (Handle × Handle) → List ℕ → Option (List ℕ)
-value_of values name = option_map bytes_of (lookup (λ key. pointwise nat_eq name key.items) values)
+-- what goes under a name
+abbrev pub value_of : List (Handle × Handle) → List ℕ → Option Handle
+value_of values name = lookup (λ key. pointwise nat_eq name key.items) values
 
--- what is under a name once this text is under that one
-abbrev pub value_with : List (Handle × Handle) → List ℕ → List ℕ → List ℕ → Option (List ℕ)
-value_with values name text other = if pointwise nat_eq name other then Some text else value_of values other
+-- what goes under a name once this value goes under that one
+abbrev pub value_with : List (Handle × Handle) → List ℕ → Handle → List ℕ → Option Handle
+value_with values name value other = if pointwise nat_eq name other then Some value else value_of values other
 
 -- a hole that is filled, with what lies before it
 abbrev pub hole_filled : {B S P : Type 0} → List (Handle × Handle) → Hole B S P → List ℕ
-hole_filled values hole = hole.before.items ++ unwrap_or (value_of values hole.name.items) []
+hole_filled values hole = hole.before.items ++ option_map_or bytes_of (value_of values hole.name.items) []
 
 abbrev pub filled : {B S P : Type 0} → List (Handle × Handle) → List (Hole B S P) → List ℕ
 filled values holes = flat_map (hole_filled values) holes

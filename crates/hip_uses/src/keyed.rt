@@ -1,6 +1,6 @@
 //! Maps by any key. A function that is generic in the key is proved in seconds, where each that calls a map whose keys are handles takes
 //! half a minute.
-ghost use Rattle.std.specs.Prelude.{◌≡◌, OnErr, OnOk, Some, option_copied};
+ghost use Rattle.std.specs.Prelude.{◌≡◌, OnErr, OnOk, None, Some, option_copied};
 ghost use Rattle.std.specs.HashMap.{IsUnchanged, Updates, get};
 
 use std::alloc::AllocError;
@@ -14,7 +14,7 @@ pub(crate) fn found<'m, K: Hash + Eq, V>(map: &'m HashMap<K, V>, key: &K) -> Opt
     map.get(key)
 }
 
-/// Puts a value under a key.
+/// Puts a value under a key. Only a new key may want memory.
 pub(crate) fn put<K: Hash + Eq + Drop, V: Drop>(
     map: &mut HashMap<K, V>,
     key: K,
@@ -22,6 +22,7 @@ pub(crate) fn put<K: Hash + Eq + Drop, V: Drop>(
 ) -> Result<(), AllocError>
     ensures updated { OnOk result (Updates K.eq map.old map.new key (Some value)) }
     ensures refused { OnErr result (IsUnchanged map.old map.new) }
+    ensures absent { OnErr result (get K.eq map.old key ≡ None) }
 {
     match map.insert(key, value) {
         Ok(_) => Ok(()),

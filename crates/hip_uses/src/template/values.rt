@@ -12,7 +12,7 @@ use std::marker::Model;
 /// What goes under each name.
 #[derive(Drop)]
 pub struct Values<'b, B: Backend> {
-    texts: HashMap<HipStr<'b, B>, HipStr<'b, B>>,
+    values: HashMap<HipStr<'b, B>, HipStr<'b, B>>,
 }
 
 impl<'b, B: Backend> Model for Values<'b, B> {
@@ -21,7 +21,7 @@ impl<'b, B: Backend> Model for Values<'b, B> {
 
     ghost Value = { List (Handle × Handle) };
 
-    ghost view = { λ values. values.texts.entries };
+    ghost view = { λ values. values.values.entries };
 }
 
 impl<'b, B: Backend> Values<'b, B> {
@@ -29,24 +29,25 @@ impl<'b, B: Backend> Values<'b, B> {
         ensures { result ≡ [] }
     {
         Values {
-            texts: HashMap::new(alloc),
+            values: HashMap::new(alloc),
         }
     }
 
-    /// Puts a text under a name, in place of the one that was there.
-    pub fn set(&mut self, name: HipStr<'b, B>, text: HipStr<'b, B>) -> Result<(), AllocError>
+    /// Puts a value under a name, in place of the one that was there. Only a new name may want memory.
+    pub fn set(&mut self, name: HipStr<'b, B>, value: HipStr<'b, B>) -> Result<(), AllocError>
         ensures set { OnOk result ((other : List ℕ) → value_of self.new other
-            ≡ value_with self.old name.entry.items text.entry.items other) }
+            ≡ value_with self.old name.entry.items value.entry other) }
         ensures refused { OnErr result (self.new ≡ self.old) }
+        ensures absent { OnErr result (value_of self.old name.entry.items ≡ None) }
     {
-        put(&mut self.texts, name, text)
+        put(&mut self.values, name, value)
     }
 
     /// What goes under this name, if anything does.
     pub fn get(&self, name: &HipStr<'b, B>) -> Option<&HipStr<'b, B>>
         ensures { MatchOption result (value_of self.now name.now.items ≡ None)
-            (λ text. value_of self.now name.now.items ≡ Some text.now.items) }
+            (λ value. value_of self.now name.now.items ≡ Some value.now) }
     {
-        found(&self.texts, name)
+        found(&self.values, name)
     }
 }

@@ -1,7 +1,7 @@
 use Rattle.std.proofs.Common.{◌≡◌, ◌+◌, ◌*◌, ℕ, vec_len, length, sym, subst, arith}
 use Rattle.hipstr.specs.Meter.{RisesAtMost}
 use Rattle.hip_uses.proofs.Little.{rises-more}
-use Rattle.hip_uses.proofs.Published.{clones-more}
+use Rattle.hip_uses.proofs.Pushed.{All-more}
 use Rattle.hip_uses.proofs.queue.clones_of.Goals as goal
 
 pub loop-alloc-preserved : goal.loop-alloc-preserved
@@ -10,7 +10,7 @@ loop-alloc-preserved g c =
     record {
       count = omega (arith, more, c.len.ensures);
       equal =
-          clones-more c.args.message.now.items c.loop-alloc.clones.items c.push.new.self.items c.in_ok-clone_metered.field-0 c.in_ok-push.ensures.items c.in_ok-clone_metered.ensures.clone.items_are c.loop-alloc.invariant.equal;
+          All-more (λ clone. clone.items ≡ c.args.message.now.items) c.loop-alloc.clones.items c.push.new.self.items c.in_ok-clone_metered.field-0 c.in_ok-push.ensures.items c.in_ok-clone_metered.ensures.clone.items_are c.loop-alloc.invariant.equal;
       shared = λ shares.
           let bound = c.one_part_copies_little.ensures.clone shares c.args.message.now.kind (length c.args.message.now.items) in
           subst (λ (n : ℕ). RisesAtMost c.args.meter.now c.clone_metered.new.meter (23 * n)) (sym more)

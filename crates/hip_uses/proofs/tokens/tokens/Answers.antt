@@ -1,4 +1,4 @@
-use Rattle.std.proofs.Common.{◌≡◌, ◌∙◌, ℕ, ◌+◌, ◌-◌, ◌*◌, List, length, ap, sym, subst, arith}
+use Rattle.std.proofs.Common.{◌≡◌, ◌∙◌, ℕ, ◌+◌, ◌-◌, ◌*◌, List, length, ap, sym, subst, arith, length-append}
 use Rattle.std.specs.Prelude.{All, slice_range}
 use Rattle.std.specs.List.{flat_map}
 use Rattle.std.specs.Str.{IsCharBoundary}
@@ -8,7 +8,8 @@ use Rattle.hipstr.specs.Made.{IsPart}
 use Rattle.hipstr.specs.Meter.{RisesAtMost}
 use Rattle.hip_uses.specs.Token.{IsRun, IsTokenOf, bytes_of}
 use Rattle.hip_uses.proofs.Little.{rises-more}
-use Rattle.hip_uses.proofs.Runs.{each-more, joined-more, length-more, length-range}
+use Rattle.hip_uses.proofs.Pushed.{All-more}
+use Rattle.hip_uses.proofs.Runs.{joined-more, length-range}
 use Rattle.hip_uses.proofs.tokens.tokens.Goals as goal
 
 pub loop-start-init : goal.loop-start-init
@@ -38,9 +39,9 @@ loop-start-preserved g c =
     subst (λ (k : ℕ). IsPart c.args.source.now c.in_ok-text.text (slice_range items start k)) place part in
     record {
       boundary = subst (λ (l : List ℕ). IsCharBoundary l end) c.as_str-whole.ensures.items c.run_end-end.ensures.boundary;
-      joined = joined-more c.args.source.now c.loop-start.tokens.items c.push.new.self.items _ pushed start end c.loop-start.invariant.joined part.items_are (omega (arith, run.filled));
-      each = each-more c.args.source.now c.loop-start.tokens.items c.push.new.self.items _ pushed c.loop-start.invariant.each (is, subst (IsRun items class start) place run);
+      joined = joined-more items c.loop-start.tokens.items c.push.new.self.items _ start end pushed c.loop-start.invariant.joined part.items_are (omega (arith, run.filled));
+      each = All-more (IsTokenOf c.args.source.now) c.loop-start.tokens.items c.push.new.self.items _ pushed (is, subst (IsRun items class start) place run) c.loop-start.invariant.each;
       shared = λ shares. let bound = c.one_part_copies_little.ensures.part shares c.args.source.now.kind (end - start) in
-          subst (λ (n : ℕ). RisesAtMost c.args.meter.now c.part_metered.new.meter (23 * n)) (sym (length-more c.args.source.now c.loop-start.tokens.items c.push.new.self.items _ pushed))
+          subst (λ (n : ℕ). RisesAtMost c.args.meter.now c.part_metered.new.meter (23 * n)) (sym (ap length pushed ∙ length-append c.loop-start.tokens.items _))
           (rises-more _ c.args.meter.now c.loop-start.meter c.part_metered.new.meter (length c.loop-start.tokens.items) bound (c.loop-start.invariant.shared shares) c.in_ok-text.ensures.counted);
     }
