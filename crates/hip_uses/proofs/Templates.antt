@@ -1,15 +1,15 @@
 -- One hole more of a template.
-use Rattle.std.proofs.Common.{◌≡◌, ◌∙◌, ℕ, ◌+◌, ◌<◌, ◌≤◌, List, [], ◌∷◌, ◌++◌, Option, None, Some, Result, Ok, Err, length, take, get_or, ap, sym, subst, refl, append_assoc, length-append, arith, ⊎_elim}
+use Rattle.std.proofs.Common.{◌≡◌, ◌∙◌, ℕ, ◌+◌, ◌<◌, List, [], ◌∷◌, ◌++◌, Option, None, Some, Result, Ok, Err, length, take, get_or, ap, sym, subst, refl, append_assoc, length-append, take-append-drop, drop, arith}
 use Rattle.std.specs.Borrow.{Bor}
 use Rattle.std.specs.HashMap.{HashMap, Updates}
 use Rattle.std.specs.Cmp.Lexicographic.{pointwise}
 use Rattle.std.specs.Prelude.{Bool, true, false, nat_eq, cond, if◌then◌else◌, IfErr, IsErrAnd, IsSome, MatchOption, OnOk}
-use Rattle.std.proofs.lemmas.Bool.{cases_lt}
 use Rattle.std.specs.Option.{option_copied}
-use Rattle.std.proofs.lemmas.List.{flat_map_more, get_or_default, take_more}
+use Rattle.std.proofs.lemmas.List.{flat_map_more, take_more}
 use Rattle.hipstr.specs.Handle.{Handle}
+use Rattle.hip_uses.proofs.Pushed.{All-more}
 use Rattle.hip_uses.specs.Number.{same_text}
-use Rattle.hip_uses.specs.Template.{FirstHole, IsParsed, ParseFails, closing, filled, hole_filled, hole_written, opening, value_of, value_with, written}
+use Rattle.hip_uses.specs.Template.{AllKnown, FillFails, FirstHole, HoleFails, IsParsed, ParseFails, closing, filled, hole_filled, hole_written, opening, value_of, value_with, written}
 use Rattle.hip_uses.specs.declared.template.Hole.{Hole}
 use Rattle.hip_uses.specs.declared.fault.TemplateFault.{TemplateFault}
 use Rattle.hip_uses.specs.declared.fault.TemplateFault.TheVariants.{Unclosed, Unknown, Memory}
@@ -24,15 +24,26 @@ filled-more values holes i hole start before text lt here so_far is =
 
 -- each hole up to a place is known, and the next
 pub known-more : {B S P : Type 0} (values : List (Handle × Handle)) (holes : List (Hole B S P)) (i : ℕ) (hole : Hole B S P) → i < length holes → hole ≡ get_or holes i hole
-    → IsSome (value_of values hole.name.items) → ((k : ℕ) (other : Hole B S P) → k < i → IsSome (value_of values (get_or holes k other).name.items))
-    → (k : ℕ) (other : Hole B S P) → k < i + 1 → IsSome (value_of values (get_or holes k other).name.items)
-known-more {B} {S} {P} values holes i hole within is known so_far k other low =
-    ⊎_elim (λ (lt : k < i). so_far k other lt)
-    (λ (ge : i ≤ k).
-    let here : i ≡ k = omega arith in
-    let same : hole ≡ get_or holes k other = is ∙ sym (get_or_default holes i other hole within) ∙ ap (λ n. get_or holes n other) here in
-    subst (λ (h : Hole B S P). IsSome (value_of values h.name.items)) same known)
-    (cases_lt k i)
+    → IsSome (value_of values hole.name.items) → AllKnown values (take i holes) → AllKnown values (take (i + 1) holes)
+known-more {B} {S} {P} values holes i hole within is known so_far =
+    let Known : Hole B S P → Type 0 = λ h. IsSome (value_of values h.name.items) in
+    All-more Known (take i holes) (take (i + 1) holes) (get_or holes i hole) (take_more holes i hole within) (subst Known is known) so_far
+
+-- the hole at a place can't be filled, and each before it is known
+pub fails-first : {B S P : Type 0} (values : List (Handle × Handle)) (holes : List (Hole B S P)) (i : ℕ) (hole : Hole B S P) (fault : TemplateFault B S P) → i < length holes → hole ≡ get_or holes i hole
+    → AllKnown values (take i holes) → HoleFails values hole fault → FillFails values holes fault
+fails-first values holes i hole (Unclosed text) within is so_far fails = fails
+fails-first values holes i hole (Unknown name) within is so_far fails =
+    let behind = drop (i + 1) holes in
+    let split : holes ≡ take i holes ++ hole ∷ behind =
+    sym (take-append-drop (i + 1) holes) ∙ ap (λ l. l ++ behind) (take_more holes i hole within) ∙ append_assoc (take i holes) (get_or holes i hole ∷ []) behind ∙ ap (λ h. take i holes ++ h ∷ behind) (sym is) in
+    (take i holes, hole, behind, split, so_far, fails)
+fails-first values holes i hole Memory within is so_far fails = tt
+
+-- an answer that hands a fault on tells what holds of it
+pub handed_on : {T F : Type 0} (P : F → Type 0) (result : Result T F) (fault : F) → IsErrAnd result (λ e. e ≡ fault) → P fault → IfErr result P
+handed_on P (Ok value) fault handed holds = absurd handed
+handed_on P (Err e) fault handed holds = subst P (sym handed) holds
 
 -- what a map gives, by its value
 pub by-value : (result : Option (Bor Handle)) (found : Option Handle) → option_copied result ≡ found → MatchOption result (found ≡ None) (λ value. found ≡ Some value.now)
@@ -92,10 +103,3 @@ fails-more front rest template (Unclosed text) whole fails =
     (front ++ fails.0, sym whole ∙ ap (λ l. front ++ l) fails.1 ∙ sym (append_assoc front fails.0 (opening ++ text.items)), fails.2)
 fails-more front rest template (Unknown name) whole fails = fails
 fails-more front rest template Memory whole fails = tt
-
--- the same of an answer that hands the fault on
-pub fails-handed_on : {T B S P : Type 0} (front rest template : List ℕ) (result : Result T (TemplateFault B S P)) (fault : TemplateFault B S P) → front ++ rest ≡ template
-    → IsErrAnd result (λ e. e ≡ fault) → ParseFails rest fault → IfErr result (ParseFails template)
-fails-handed_on front rest template (Ok value) fault whole handed fails = absurd handed
-fails-handed_on {T} {B} {S} {P} front rest template (Err e) fault whole handed fails =
-    fails-more front rest template e whole (subst (λ (f : TemplateFault B S P). ParseFails rest f) (sym handed) fails)

@@ -1,5 +1,5 @@
 -- What a template is, as it is written and as it is filled.
-use Rattle.std.specs.Prelude.{◌≡◌, ℕ, nat_eq, List, [], ◌∷◌, ◌++◌, Option, None, Some, Result, Ok, Err, IsSome, All, Any, codes, if◌then◌else◌}
+use Rattle.std.specs.Prelude.{◌≡◌, ℕ, nat_eq, List, [], ◌∷◌, ◌++◌, Option, None, Some, Result, Ok, Err, IsSome, All, codes, if◌then◌else◌}
 use Rattle.std.specs.List.{flat_map}
 use Rattle.std.specs.Map.{lookup}
 use Rattle.std.specs.Option.{option_map_or}
@@ -76,8 +76,10 @@ HoleFails values hole (Unclosed text) = ⊥
 HoleFails values hole (Unknown name) = (value_of values name.items ≡ None) × (hole.name.items ≡ name.items)
 HoleFails values hole Memory = Unit {0}
 
--- one of the holes has this name, and nothing goes under it
+-- the first hole that can't be filled has this name, and nothing goes under it
 abbrev pub FillFails : {B S P : Type 0} → List (Handle × Handle) → List (Hole B S P) → TemplateFault B S P → Type 0
 FillFails values holes (Unclosed text) = ⊥
-FillFails values holes (Unknown name) = Any (λ hole. HoleFails values hole (Unknown name)) holes
+FillFails {B} {S} {P} values holes (Unknown name) =
+    (before : List (Hole B S P)) × (hole : Hole B S P) × (after : List (Hole B S P)) × (holes ≡ before ++ hole ∷ after)
+    × AllKnown values before × HoleFails values hole (Unknown name)
 FillFails values holes Memory = Unit {0}

@@ -2,15 +2,15 @@ use Rattle.std.proofs.Common.{List, [], Option, Ok, subst, refl}
 use Rattle.std.proofs.lemmas.List.{append-nil}
 use Rattle.hipstr.specs.Handle.{Handle}
 use Rattle.hipstr.specs.Parted.{Lacks}
-use Rattle.hip_uses.specs.Template.{FirstHole, IsParsed, opening, written}
+use Rattle.hip_uses.specs.Template.{FirstHole, IsParsed, ParseFails, opening, written}
 use Rattle.hip_uses.specs.declared.template.Hole.{Hole}
-use Rattle.hip_uses.proofs.Templates.{fails-handed_on, hole-shorter, parsed-more, written-more}
+use Rattle.hip_uses.proofs.Templates.{fails-more, handed_on, hole-shorter, parsed-more, written-more}
 use Rattle.hip_uses.proofs.template.parse.Goals as goal
 
 pub returns-in_err-hole-clause-fault : goal.returns-in_err-hole-clause-fault
 returns-in_err-hole-clause-fault g c =
-    fails-handed_on (written c.loop-rest.holes.items) c.loop-rest.rest.items c.args.template.now.items c.from_residual-in_err-hole.result c.in_err-hole.field-0.0
-    c.loop-rest.invariant.written c.from_residual-in_err-hole.ensures.1 c.in_err-hole.ensures
+    handed_on (ParseFails c.args.template.now.items) c.from_residual-in_err-hole.result c.in_err-hole.field-0.0 c.from_residual-in_err-hole.ensures.1
+    (fails-more (written c.loop-rest.holes.items) c.loop-rest.rest.items c.args.template.now.items c.in_err-hole.field-0.0 c.loop-rest.invariant.written c.in_err-hole.ensures)
 
 pub returns-clause-parsed : goal.returns-clause-parsed
 returns-clause-parsed g c =
