@@ -214,6 +214,7 @@ fn main() {
         ("split(\"needle\") over itself", Walk::Split, words("a", 0..=0, &["needle"]), By::Text("needle")),
         ("rsplit(\"needle\") over itself", Walk::RSplit, words("a", 0..=0, &["needle"]), By::Text("needle")),
         ("split(&[',', ';']), words of 1 to 55", Walk::Split, words(ASCII, 1..=55, &[",", ";"]), By::Set([',', ';'])),
+        ("split(&[',', ' ']), words of 1 to 6", Walk::Split, words(ASCII, 1..=6, &[",", " "]), By::Set([',', ' '])),
         ("split(&[',', ' ']), Russian", Walk::Split, words(RUSSIAN, 1..=12, &[" "]), By::Set([',', ' '])),
         ("rsplit(&[',', ' ']), Russian", Walk::RSplit, words(RUSSIAN, 1..=12, &[" "]), By::Set([',', ' '])),
         ("rsplit(&[',', ' ']), Japanese", Walk::RSplit, words(JAPANESE, 1..=12, &[" "]), By::Set([',', ' '])),

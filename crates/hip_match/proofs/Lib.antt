@@ -5,6 +5,7 @@ pub mod ReversalLemmas
 pub mod PiecesLemmas
 pub mod OneCharLemmas
 pub mod SetLemmas
+pub mod AsciiSetLemmas
 pub mod TextLemmas
 mod AnswerLemmas
 pub mod CharTextLemmas

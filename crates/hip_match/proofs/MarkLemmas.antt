@@ -2,6 +2,7 @@
 use Rattle.std.proofs.Common.{◌≡◌, ◌≢◌, ℕ, zero, suc, ◌+◌, ◌-◌, ◌*◌, ◌%◌, ◌^◌, ◌<◌, ◌≤◌, Bool, true, false, cond, List, Some, length, sym, ap, subst, ◌∙◌, arith, ⊎_elim, refl}
 use Rattle.std.proofs.Math.Nat.{two-pow-succ, mod-eq_of_lt}
 use Rattle.std.proofs.Math.Pow.{pow-lt}
+use Rattle.std.proofs.lemmas.Bool.Decides.{nat_tests}
 use Rattle.std.proofs.lemmas.Bool.{cases_lt, cases_Bool, false≢true}
 use Rattle.std.proofs.lemmas.List.{get_or_past}
 use Rattle.std.proofs.lemmas.Nat.Bits.{bit_at_lowest, bit_at-suc, bit_at-zero, bit_at-lt, bit_at_xor, bit_at-pow_same, bit_at-pow_other, bit_at-trailing_zeros, bit_at_above, bit_at_cat_high}
@@ -14,7 +15,7 @@ use Rattle.std.specs.Str.{IsUtf8}
 use Rattle.hip_match.specs.Characters.{char_ends}
 use Rattle.hip_match.specs.Marks.{is_space, NoSpace, AreMarks, IsNextSpace, IsLastSpace, AreFrontMarks, AreBackMarks}
 use Rattle.hip_match.specs.Occurrence.{StartsFirst, EndsLast}
-use Rattle.hip_match.proofs.SetLemmas.{ascii_space-none, ascii_space-some}
+use Rattle.hip_match.proofs.AsciiSetLemmas.{ascii-is, ascii-none, ascii-some}
 
 -- ---- bits
 
@@ -232,18 +233,19 @@ module _ (t : List ℕ) where
   -- ---- the characters
 
   module _ (utf8 : IsUtf8 t) where
+    pub space_low : (c : ℕ) → 128 ≤ c → is_ascii_whitespace c ≡ false
+    space_low c high = grind (arith, nat_tests)
+
     space_of : (a b : ℕ) → char_ends is_ascii_whitespace t a ≡ Some b → (is_space t a ≡ true) × (b ≡ a + 1)
     space_of a b is =
-        ⊎_elim
-        (λ space. (space, same_Some _ _ (sym is ∙ ascii_space-some t a utf8 (space_within a space) space)))
-        (λ other. absurd (none-some b (sym (ascii_space-none t a utf8 other) ∙ is)))
-        (cases_Bool (is_space t a))
+        let here = ascii-is is_ascii_whitespace space_low t utf8 a b is in
+        (here.1, here.2)
 
     pub starts_first : (from at : ℕ) → IsNextSpace t from at → StartsFirst (char_ends is_ascii_whitespace t) from (at, at + 1)
     starts_first from at next = record {
       after = next.after;
-      occurs = ascii_space-some t at utf8 (space_within at next.is) next.is;
-      first = λ k lo hi. ascii_space-none t k utf8 (next.first k lo hi);
+      occurs = ascii-some is_ascii_whitespace space_low t utf8 at (space_within at next.is) next.is;
+      first = λ k lo hi. ascii-none is_ascii_whitespace space_low t utf8 k (next.first k lo hi);
     }
 
     pub ends_last : (to at : ℕ) → IsLastSpace t to at → EndsLast (char_ends is_ascii_whitespace t) to (at, at + 1)
@@ -251,7 +253,7 @@ module _ (t : List ℕ) where
         let before = last.before in
         record {
           before = omega arith;
-          occurs = ascii_space-some t at utf8 (space_within at last.is) last.is;
+          occurs = ascii-some is_ascii_whitespace space_low t utf8 at (space_within at last.is) last.is;
           last = λ a b is lt.
               let one = space_of a b is in
               let end = one.1 in

@@ -1,17 +1,15 @@
 -- The searches for a character of a set, a character at a time.
-use Rattle.std.proofs.Common.{◌≡◌, ℕ, ◌+◌, ◌<◌, ◌≤◌, Bool, true, false, List, Option, Some, None, length, drop, sym, ap, subst, ◌∙◌, arith, ⊎_elim, add-zero, get_or-drop}
-use Rattle.std.specs.Prelude.{slice_index}
+use Rattle.std.proofs.Common.{◌≡◌, ℕ, ◌+◌, ◌<◌, ◌≤◌, Bool, true, false, List, Option, Some, None, length, sym, ap, subst, ◌∙◌, arith, ⊎_elim}
 use Rattle.std.specs.Option.{option_and_then}
-use Rattle.std.proofs.lemmas.Bool.Decides.{nat_tests}
 use lib.Utf8.{scalar}
-use Rattle.std.proofs.lemmas.Bool.{cases_lt, cases_Bool, cond-true, and_from, false≢true}
+use Rattle.std.proofs.lemmas.Bool.{cases_lt, cond-true, and_from, false≢true}
 use Rattle.std.proofs.lemmas.Option.{none-some, some_pair_parts}
-use Rattle.std.proofs.lemmas.Str.{len_utf8_bounds, byte_from_char, IsCharBoundary-before_ascii}
-use Rattle.std.specs.Char.{len_utf8, is_ascii_whitespace}
+use Rattle.std.proofs.lemmas.Str.{len_utf8_bounds}
+use Rattle.std.specs.Char.{len_utf8}
 use Rattle.std.specs.Str.{IsUtf8, IsCharBoundary}
-use Rattle.hip_match.specs.Occurrence.{NoneStarts, start_of, is_boundary}
+use Rattle.hip_match.specs.Occurrence.{NoneStarts, start_of}
 use Rattle.hip_match.specs.Characters.{char_at, char_ends, end_if, IsCharBefore}
-use Rattle.hip_match.specs.CharLaws.{is_boundary-true, is_boundary-is, starts_char, char_at-ascii, char_at-end, char_at-off, char_at-starts, no_boundary_within, char_ends-is, char_ends-spans, char_ends-one_char, char_ends-one_start, char_ends-yes, char_ends-no, char_ends-none}
+use Rattle.hip_match.specs.CharLaws.{starts_char, char_at-end, char_at-off, char_at-starts, no_boundary_within, char_ends-is, char_ends-spans, char_ends-one_char, char_ends-one_start, char_ends-yes, char_ends-no, char_ends-none}
 use Rattle.hip_match.proofs.RightmostLemmas.{start_among-found, start_among-none}
 
 -- a character starts before the end
@@ -94,39 +92,6 @@ moved t i c j utf8 is =
     let found = char_at-starts t i c j utf8 is in
     let P : ℕ → Type 0 = IsCharBoundary t in
     (omega (arith, len_utf8_bounds c, found.2), subst P (sym found.2) found.1.end)
-
--- ---- ASCII white space, by bytes
-
-ascii_none-past : (c : ℕ) → 128 ≤ c → is_ascii_whitespace c ≡ false
-ascii_none-past c high = grind (arith, nat_tests)
-
-ascii_low : (c : ℕ) → is_ascii_whitespace c ≡ true → c < 128
-ascii_low c is = ⊎_elim (λ (low : c < 128). low) (λ (high : 128 ≤ c). absurd (false≢true (sym (ascii_none-past c high) ∙ is))) (cases_lt c 128)
-
-pub ascii_space-none : (t : List ℕ) (k : ℕ) → IsUtf8 t → is_ascii_whitespace (slice_index t k) ≡ false → char_ends is_ascii_whitespace t k ≡ None
-ascii_space-none t k utf8 fails =
-    ⊎_elim
-    (λ (lt : k < length t). ⊎_elim
-    (λ (low : slice_index t k < 128).
-    let cut = IsCharBoundary-before_ascii t k lt low in
-    char_ends-no is_ascii_whitespace t k (slice_index t k) (k + 1) (char_at-ascii t k utf8 cut lt low) fails)
-    (λ (high : 128 ≤ slice_index t k). ⊎_elim
-    (λ yes.
-    let found = starts_char t k utf8 (is_boundary-is t k yes) lt in
-    let c = found.0 in
-    let past : 128 ≤ c = ⊎_elim (λ (below : c < 128). absurd (omega (arith, byte_from_char (drop k t) _ c found.1.split below, get_or-drop k t 0 0, ap (λ n. slice_index t n) (add-zero k)))) (λ (h : 128 ≤ c). h) (cases_lt c 128) in
-    char_ends-no is_ascii_whitespace t k c _ found.1.at (ascii_none-past c past))
-    (λ off. char_ends-none is_ascii_whitespace t k (char_at-off t k (λ cut. false≢true (sym off ∙ is_boundary-true t k cut))))
-    (cases_Bool (is_boundary t k)))
-    (cases_lt (slice_index t k) 128))
-    (λ (ge : length t ≤ k). char_ends-none is_ascii_whitespace t k (char_at-end t k ge))
-    (cases_lt k (length t))
-
-pub ascii_space-some : (t : List ℕ) (k : ℕ) → IsUtf8 t → k < length t → is_ascii_whitespace (slice_index t k) ≡ true → char_ends is_ascii_whitespace t k ≡ Some (k + 1)
-ascii_space-some t k utf8 lt is =
-    let low = ascii_low (slice_index t k) is in
-    let cut = IsCharBoundary-before_ascii t k lt low in
-    ends_here is_ascii_whitespace t utf8 k _ _ (char_at-ascii t k utf8 cut lt low) is
 
 pub none_more : (e : ℕ → Option ℕ) (i j : ℕ) → NoneStarts e i j → e j ≡ None → NoneStarts e i (j + 1)
 none_more e i j none here k lo hi = ⊎_elim (λ (lt : k < j). none k lo lt) (λ (ge : j ≤ k). let same : k ≡ j = omega arith in ap e same ∙ here) (cases_lt k j)

@@ -1,5 +1,5 @@
 -- The characters of a text, and where one that belongs to a set occurs: the patterns `char`, `[char]` and `FnMut(char) -> bool` of Rust's `str`.
-use Rattle.std.specs.Prelude.{◌≡◌, ℕ, ◌+◌, ◌<◌, Bool, ◌&&◌, Option, None, Some, List, [], ◌∷◌, drop, if◌then◌else◌}
+use Rattle.std.specs.Prelude.{◌≡◌, ℕ, ◌+◌, ◌<◌, ◌==◌, Bool, ◌&&◌, ◌||◌, Option, None, Some, List, [], ◌∷◌, drop, if◌then◌else◌}
 use Rattle.std.specs.Option.{option_and_then}
 use Rattle.std.specs.Char.{len_utf8}
 use Rattle.std.specs.Str.{chars, IsCharBoundary}
@@ -22,6 +22,12 @@ end_if belongs c = if scalar c.0 && belongs c.0 then Some c.1 else None
 -- a set of characters occurs at each character that belongs to it
 abbrev pub char_ends : (ℕ → Bool) → List ℕ → ℕ → Option ℕ
 char_ends belongs text i = option_and_then (end_if belongs) (char_at text i)
+
+-- a set of characters is these two of ASCII
+pub record IsAsciiPair (belongs : ℕ → Bool) (pair : ℕ × ℕ) : Type 0 where
+  pub one : pair.0 < 128
+  pub other : pair.1 < 128
+  pub is : (c : ℕ) → belongs c ≡ (c == pair.0 || c == pair.1)
 
 -- the character r.0 stands before `to`, from the boundary r.1 on
 pub record IsCharBefore (text : List ℕ) (to : ℕ) (r : ℕ × ℕ) : Type 0 where

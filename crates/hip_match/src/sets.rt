@@ -1,7 +1,7 @@
 //! The patterns that are characters: one of them, or any of some.
-ghost use Rattle.std.specs.Prelude.{◌≡◌, ◌==◌};
+ghost use Rattle.std.specs.Prelude.{◌≡◌, ◌==◌, IfSome};
 ghost use Rattle.std.specs.List.{list_any};
-ghost use Rattle.hip_match.specs.Characters.{char_ends};
+ghost use Rattle.hip_match.specs.Characters.{char_ends, IsAsciiPair};
 ghost use Rattle.hip_match.specs.CharLaws.{char_ends-spans, char_ends-one_start, char_ends-one_char};
 
 use crate::chars::{CharSet, end_of, first_of, last_of, start_before};
@@ -102,12 +102,28 @@ fn is_one_of(set: &[char], c: char) -> bool
     false
 }
 
+// The bytes of characters that are two of ASCII.
+#[inline]
+fn ascii_pair(set: &[char]) -> Option<(u8, u8)>
+    ensures { IfSome result (IsAsciiPair (λ d. list_any (λ c. c == d) set.now)) }
+{
+    match set {
+        [one, other] if one.is_ascii() && other.is_ascii() => Some((*one as u8, *other as u8)),
+        _ => None,
+    }
+}
+
 impl<'a> CharSet for &'a [char] {
     ghost belongs = { λ s d. list_any (λ c. c == d) s.now };
 
     #[inline]
     fn has(&self, c: char) -> bool {
         is_one_of(*self, c)
+    }
+
+    #[inline]
+    fn ascii_pair(&self) -> Option<(u8, u8)> {
+        ascii_pair(*self)
     }
 }
 
@@ -187,6 +203,11 @@ impl<'a, const N: usize> CharSet for &'a [char; N] {
     #[inline]
     fn has(&self, c: char) -> bool {
         is_one_of(self.as_slice(), c)
+    }
+
+    #[inline]
+    fn ascii_pair(&self) -> Option<(u8, u8)> {
+        ascii_pair(self.as_slice())
     }
 }
 
