@@ -1,15 +1,15 @@
 //! Comparisons of eight pairs of equal values. The input has 4096 bytes.
+use hipstr::Rc;
 use hipstr::bytes::HipByt;
-use hipstr::{Backend, Rc};
 use std::alloc::Global;
 use std::cmp::Ordering;
 
 /// Eight pairs of values, each copied by itself.
-fn pairs<'b, B: Backend>(
+fn pairs<'b>(
     alloc: Global,
     input: &[u8],
     len: usize,
-) -> Option<Vec<(HipByt<'b, B>, HipByt<'b, B>)>> {
+) -> Option<Vec<(HipByt<'b, Rc>, HipByt<'b, Rc>)>> {
     let mut pairs = Vec::new(alloc);
     for k in 0..8usize {
         let bytes = input.get(300 * k..)?.get(..len)?;
@@ -22,8 +22,8 @@ fn pairs<'b, B: Backend>(
 
 /// Each round counts whether the values of a pair are equal.
 #[inline(always)]
-fn equal<B: Backend>(alloc: Global, input: &[u8], len: usize, rounds: u64) -> Option<u64> {
-    let pairs = pairs::<B>(alloc, input, len)?;
+fn equal(alloc: Global, input: &[u8], len: usize, rounds: u64) -> Option<u64> {
+    let pairs = pairs(alloc, input, len)?;
     let mut sum = 0u64;
     for round in 0..rounds {
         let (first, second) = pairs.get((round % 8) as usize)?;
@@ -44,8 +44,8 @@ pub(crate) fn number_of(order: Ordering) -> u64 {
 
 /// Each round adds how the values of a pair stand to each other.
 #[inline(always)]
-fn ordered<B: Backend>(alloc: Global, input: &[u8], len: usize, rounds: u64) -> Option<u64> {
-    let pairs = pairs::<B>(alloc, input, len)?;
+fn ordered(alloc: Global, input: &[u8], len: usize, rounds: u64) -> Option<u64> {
+    let pairs = pairs(alloc, input, len)?;
     let mut sum = 0u64;
     for round in 0..rounds {
         let (first, second) = pairs.get((round % 8) as usize)?;
@@ -56,20 +56,20 @@ fn ordered<B: Backend>(alloc: Global, input: &[u8], len: usize, rounds: u64) -> 
 
 #[unsafe(no_mangle)]
 pub extern "C" fn hip_eq10(alloc: Global, input: &[u8], rounds: u64) -> u64 {
-    equal::<Rc>(alloc, input, 10, rounds).unwrap_or(0)
+    equal(alloc, input, 10, rounds).unwrap_or(0)
 }
 
 #[unsafe(no_mangle)]
 pub extern "C" fn hip_cmp10(alloc: Global, input: &[u8], rounds: u64) -> u64 {
-    ordered::<Rc>(alloc, input, 10, rounds).unwrap_or(0)
+    ordered(alloc, input, 10, rounds).unwrap_or(0)
 }
 
 #[unsafe(no_mangle)]
 pub extern "C" fn hip_eq1k(alloc: Global, input: &[u8], rounds: u64) -> u64 {
-    equal::<Rc>(alloc, input, 1024, rounds).unwrap_or(0)
+    equal(alloc, input, 1024, rounds).unwrap_or(0)
 }
 
 #[unsafe(no_mangle)]
 pub extern "C" fn hip_cmp1k(alloc: Global, input: &[u8], rounds: u64) -> u64 {
-    ordered::<Rc>(alloc, input, 1024, rounds).unwrap_or(0)
+    ordered(alloc, input, 1024, rounds).unwrap_or(0)
 }

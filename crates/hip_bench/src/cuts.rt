@@ -1,8 +1,8 @@
 //! Texts that are trimmed, stripped and parted. Where the input isn't a text, the answer is 0.
 use crate::pieces::{owned, put};
 use crate::ring::Ring;
+use hipstr::Rc;
 use hipstr::string::{HipStr, TextCuts};
-use hipstr::{Backend, Rc};
 use std::alloc::{AllocError, Global};
 
 /// The characters that stand around what a line says.
@@ -18,11 +18,11 @@ enum Cut {
 
 /// What is left of a line.
 #[inline(always)]
-fn left<'b, B: Backend>(
-    line: &HipStr<'b, B>,
+fn left<'b>(
+    line: &HipStr<'b, Rc>,
     alloc: Global,
     cut: Cut,
-) -> Result<Option<HipStr<'b, B>>, AllocError> {
+) -> Result<Option<HipStr<'b, Rc>>, AllocError> {
     match cut {
         Cut::Trim => Ok(Some(line.trim(alloc)?)),
         Cut::TrimMatches => Ok(Some(line.trim_matches(alloc, MARGINS)?)),
@@ -31,15 +31,15 @@ fn left<'b, B: Backend>(
 }
 
 /// The lines of the input.
-pub(crate) fn lines<'b, B: Backend>(alloc: Global, input: &[u8]) -> Option<Vec<HipStr<'b, B>>> {
-    let text = owned::<B>(alloc, input)?;
+pub(crate) fn lines<'b>(alloc: Global, input: &[u8]) -> Option<Vec<HipStr<'b, Rc>>> {
+    let text = owned(alloc, input)?;
     text.lines(alloc).collect().ok()
 }
 
 /// Each round cuts every line.
 #[inline(always)]
-fn cut_lines<B: Backend>(alloc: Global, input: &[u8], cut: Cut, rounds: u64) -> Option<u64> {
-    let lines = lines::<B>(alloc, input)?;
+fn cut_lines(alloc: Global, input: &[u8], cut: Cut, rounds: u64) -> Option<u64> {
+    let lines = lines(alloc, input)?;
     let mut ring = Ring::new(alloc).ok()?;
     let mut sum = 0u64;
     for _ in 0..rounds {
@@ -53,7 +53,7 @@ fn cut_lines<B: Backend>(alloc: Global, input: &[u8], cut: Cut, rounds: u64) -> 
 }
 
 /// Puts what lies before each comma.
-fn walk<'b, B: Backend>(alloc: Global, text: HipStr<'b, B>, ring: &mut Ring<'b, B>) -> Option<u64> {
+fn walk<'b>(alloc: Global, text: HipStr<'b, Rc>, ring: &mut Ring<'b, Rc>) -> Option<u64> {
     let mut rest = text;
     let mut sum = 0u64;
     for _ in 0..u64::MAX {
@@ -67,8 +67,8 @@ fn walk<'b, B: Backend>(alloc: Global, text: HipStr<'b, B>, ring: &mut Ring<'b, 
 }
 
 /// Each round goes from comma to comma by cuts at the first one.
-fn walked<B: Backend>(alloc: Global, input: &[u8], rounds: u64) -> Option<u64> {
-    let text = owned::<B>(alloc, input)?;
+fn walked(alloc: Global, input: &[u8], rounds: u64) -> Option<u64> {
+    let text = owned(alloc, input)?;
     let mut ring = Ring::new(alloc).ok()?;
     let mut sum = 0u64;
     for _ in 0..rounds {
@@ -79,20 +79,20 @@ fn walked<B: Backend>(alloc: Global, input: &[u8], rounds: u64) -> Option<u64> {
 
 #[unsafe(no_mangle)]
 pub extern "C" fn hip_split_once_walk(alloc: Global, input: &[u8], rounds: u64) -> u64 {
-    walked::<Rc>(alloc, input, rounds).unwrap_or(0)
+    walked(alloc, input, rounds).unwrap_or(0)
 }
 
 #[unsafe(no_mangle)]
 pub extern "C" fn hip_trim(alloc: Global, input: &[u8], rounds: u64) -> u64 {
-    cut_lines::<Rc>(alloc, input, Cut::Trim, rounds).unwrap_or(0)
+    cut_lines(alloc, input, Cut::Trim, rounds).unwrap_or(0)
 }
 
 #[unsafe(no_mangle)]
 pub extern "C" fn hip_trim_matches_set(alloc: Global, input: &[u8], rounds: u64) -> u64 {
-    cut_lines::<Rc>(alloc, input, Cut::TrimMatches, rounds).unwrap_or(0)
+    cut_lines(alloc, input, Cut::TrimMatches, rounds).unwrap_or(0)
 }
 
 #[unsafe(no_mangle)]
 pub extern "C" fn hip_strip_prefix(alloc: Global, input: &[u8], rounds: u64) -> u64 {
-    cut_lines::<Rc>(alloc, input, Cut::StripPrefix, rounds).unwrap_or(0)
+    cut_lines(alloc, input, Cut::StripPrefix, rounds).unwrap_or(0)
 }

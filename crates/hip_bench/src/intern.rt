@@ -1,8 +1,8 @@
 //! Interning: each word of a text becomes a key of a map. The input has words with one space between.
 use crate::pieces::owned;
 use crate::ring::mix;
+use hipstr::Rc;
 use hipstr::string::{HipStr, IterWrapper, TextCuts, Unnumbered};
-use hipstr::{Backend, Rc};
 use std::alloc::Global;
 use std::collections::{BTreeMap, HashMap};
 use std::hash::Hash;
@@ -65,8 +65,8 @@ impl<K: Ord + Drop> Numbers<K> for ByOrder<K> {
 
 /// Numbers the words of a walk by a map that is empty: the sum of all words' numbers, and how many different words there are.
 #[inline]
-fn numbered<'h, 'b, B: Backend, I: Unnumbered + Drop, N: Numbers<HipStr<'b, B>>>(
-    words: IterWrapper<'h, 'b, B, I>,
+fn numbered<'h, 'b, I: Unnumbered + Drop, N: Numbers<HipStr<'b, Rc>>>(
+    words: IterWrapper<'h, 'b, Rc, I>,
     mut numbers: N,
 ) -> Option<(u64, u64)> {
     let mut sum = 0u64;
@@ -78,7 +78,7 @@ fn numbered<'h, 'b, B: Backend, I: Unnumbered + Drop, N: Numbers<HipStr<'b, B>>>
 
 /// Each round numbers the words by a hash map.
 fn hashed_rounds(alloc: Global, input: &[u8], rounds: u64) -> Option<u64> {
-    let text = owned::<Rc>(alloc, input)?;
+    let text = owned(alloc, input)?;
     let mut total = 0;
     for _ in 0..rounds {
         let numbers = ByHash {
@@ -92,7 +92,7 @@ fn hashed_rounds(alloc: Global, input: &[u8], rounds: u64) -> Option<u64> {
 
 /// Each round numbers the words by an ordered map.
 fn sorted_rounds(alloc: Global, input: &[u8], rounds: u64) -> Option<u64> {
-    let text = owned::<Rc>(alloc, input)?;
+    let text = owned(alloc, input)?;
     let mut total = 0;
     for _ in 0..rounds {
         let numbers = ByOrder {

@@ -35,8 +35,8 @@ fn moved_in_clone<B: Backend>(alloc: Global, input: &[u8], rounds: u64) -> Optio
 
 /// Each round takes all bytes of a clone off, from its end.
 #[inline(always)]
-fn popped<B: Backend>(alloc: Global, input: &[u8], rounds: u64) -> Option<u64> {
-    let value = HipByt::<B>::from_slice(alloc, input).ok()?;
+fn popped(alloc: Global, input: &[u8], rounds: u64) -> Option<u64> {
+    let value = HipByt::<Rc>::from_slice(alloc, input).ok()?;
     let mut sum = 0;
     for _ in 0..rounds {
         let mut clone = value.clone(alloc).ok()?;
@@ -54,8 +54,8 @@ fn popped<B: Backend>(alloc: Global, input: &[u8], rounds: u64) -> Option<u64> {
 
 /// Each round cuts a clone shorter, by 16 bytes at a time.
 #[inline(always)]
-fn truncated<B: Backend>(alloc: Global, input: &[u8], rounds: u64) -> Option<u64> {
-    let value = HipByt::<B>::from_slice(alloc, input).ok()?;
+fn truncated(alloc: Global, input: &[u8], rounds: u64) -> Option<u64> {
+    let value = HipByt::<Rc>::from_slice(alloc, input).ok()?;
     let mut sum = 0u64;
     for _ in 0..rounds {
         let mut clone = value.clone(alloc).ok()?;
@@ -95,10 +95,10 @@ pub extern "C" fn hip_upper_shared_unique(alloc: Global, input: &[u8], rounds: u
 
 #[unsafe(no_mangle)]
 pub extern "C" fn hip_pop_bytes(alloc: Global, input: &[u8], rounds: u64) -> u64 {
-    popped::<Rc>(alloc, input, rounds).unwrap_or(0)
+    popped(alloc, input, rounds).unwrap_or(0)
 }
 
 #[unsafe(no_mangle)]
 pub extern "C" fn hip_truncate16(alloc: Global, input: &[u8], rounds: u64) -> u64 {
-    truncated::<Rc>(alloc, input, rounds).unwrap_or(0)
+    truncated(alloc, input, rounds).unwrap_or(0)
 }

@@ -2,22 +2,22 @@
 use crate::compare::number_of;
 use crate::cuts::lines;
 use crate::ring::mix;
+use hipstr::Rc;
 use hipstr::path::{Component, HipPath};
-use hipstr::{Backend, Rc};
 use std::alloc::Global;
 
 /// The lines of the input, as paths.
-fn paths<'b, B: Backend>(alloc: Global, input: &[u8]) -> Option<Vec<HipPath<'b, B>>> {
+fn paths<'b>(alloc: Global, input: &[u8]) -> Option<Vec<HipPath<'b, Rc>>> {
     let mut paths = Vec::new(alloc);
-    for line in lines::<B>(alloc, input)? {
+    for line in lines(alloc, input)? {
         paths.push(HipPath::from(line)).ok()?;
     }
     Some(paths)
 }
 
 /// Each round adds how each path stands to the one behind it.
-fn compared<B: Backend>(alloc: Global, input: &[u8], rounds: u64) -> Option<u64> {
-    let paths = paths::<B>(alloc, input)?;
+fn compared(alloc: Global, input: &[u8], rounds: u64) -> Option<u64> {
+    let paths = paths(alloc, input)?;
     let mut sum = 0u64;
     for _ in 0..rounds {
         for i in 1..paths.len() {
@@ -29,8 +29,8 @@ fn compared<B: Backend>(alloc: Global, input: &[u8], rounds: u64) -> Option<u64>
 }
 
 /// Each round counts the components of all paths, and the bytes of their names.
-fn taken_apart<B: Backend>(alloc: Global, input: &[u8], rounds: u64) -> Option<u64> {
-    let paths = paths::<B>(alloc, input)?;
+fn taken_apart(alloc: Global, input: &[u8], rounds: u64) -> Option<u64> {
+    let paths = paths(alloc, input)?;
     let mut sum = 0u64;
     for _ in 0..rounds {
         for path in &paths {
@@ -48,10 +48,10 @@ fn taken_apart<B: Backend>(alloc: Global, input: &[u8], rounds: u64) -> Option<u
 
 #[unsafe(no_mangle)]
 pub extern "C" fn hip_path_cmp(alloc: Global, input: &[u8], rounds: u64) -> u64 {
-    compared::<Rc>(alloc, input, rounds).unwrap_or(0)
+    compared(alloc, input, rounds).unwrap_or(0)
 }
 
 #[unsafe(no_mangle)]
 pub extern "C" fn hip_path_components(alloc: Global, input: &[u8], rounds: u64) -> u64 {
-    taken_apart::<Rc>(alloc, input, rounds).unwrap_or(0)
+    taken_apart(alloc, input, rounds).unwrap_or(0)
 }

@@ -2,9 +2,9 @@
 ghost use Rattle.std.specs.Prelude.{◌≡◌};
 
 use crate::ring::{Ring, mix};
+use hipstr::Rc;
 use hipstr::pattern::{CharPred, MatchIndices, Pattern, ReversePattern};
 use hipstr::string::{HipStr, IterWrapper, TextCuts, Unnumbered};
-use hipstr::{Backend, Rc};
 use std::alloc::Global;
 use std::str;
 
@@ -13,16 +13,16 @@ const SEPARATORS: &[char] = &[',', ';'];
 
 /// Puts a piece, and answers its length.
 #[inline(always)]
-pub(crate) fn put<'b, B: Backend>(ring: &mut Ring<'b, B>, piece: HipStr<'b, B>) -> u64 {
+pub(crate) fn put<'b>(ring: &mut Ring<'b, Rc>, piece: HipStr<'b, Rc>) -> u64 {
     let len = piece.len() as u64;
     ring.put(piece.into_bytes());
     len
 }
 
 /// Puts all pieces of a walk, and sums their lengths.
-fn put_pieces<'h, 'b, B: Backend, I: Unnumbered + Drop>(
-    pieces: IterWrapper<'h, 'b, B, I>,
-    ring: &mut Ring<'b, B>,
+fn put_pieces<'h, 'b, I: Unnumbered + Drop>(
+    pieces: IterWrapper<'h, 'b, Rc, I>,
+    ring: &mut Ring<'b, Rc>,
 ) -> Option<u64> {
     let mut sum = 0u64;
     for piece in pieces {
@@ -32,9 +32,9 @@ fn put_pieces<'h, 'b, B: Backend, I: Unnumbered + Drop>(
 }
 
 /// Puts all matches, and sums their places and their lengths.
-fn put_places<'h, 'b, B: Backend, P: Pattern>(
-    matches: IterWrapper<'h, 'b, B, MatchIndices<'h, P>>,
-    ring: &mut Ring<'b, B>,
+fn put_places<'h, 'b, P: Pattern>(
+    matches: IterWrapper<'h, 'b, Rc, MatchIndices<'h, P>>,
+    ring: &mut Ring<'b, Rc>,
 ) -> Option<u64> {
     let mut sum = 0u64;
     for (place, piece) in matches {
@@ -60,12 +60,12 @@ enum Parts {
 }
 
 /// Puts all pieces of a text.
-fn put_all<'b, B: Backend, P: ReversePattern>(
+fn put_all<'b, P: ReversePattern>(
     alloc: Global,
-    text: &HipStr<'b, B>,
+    text: &HipStr<'b, Rc>,
     parts: Parts,
     pattern: P,
-    ring: &mut Ring<'b, B>,
+    ring: &mut Ring<'b, Rc>,
 ) -> Option<u64>
     requires { P.can_search pattern }
 {
@@ -82,19 +82,19 @@ fn put_all<'b, B: Backend, P: ReversePattern>(
 }
 
 /// The input as a text that has an owner.
-pub(crate) fn owned<'b, B: Backend>(alloc: Global, input: &[u8]) -> Option<HipStr<'b, B>> {
+pub(crate) fn owned<'b>(alloc: Global, input: &[u8]) -> Option<HipStr<'b, Rc>> {
     HipStr::from_str(alloc, str::from_utf8(input).ok()?).ok()
 }
 
 /// The input as a text that is lent.
-pub(crate) fn lent<'b, B: Backend>(input: &'b [u8]) -> Option<HipStr<'b, B>> {
+pub(crate) fn lent<'b>(input: &'b [u8]) -> Option<HipStr<'b, Rc>> {
     Some(HipStr::borrowed(str::from_utf8(input).ok()?))
 }
 
 /// Each round puts all pieces of the text.
-fn rounds_by<B: Backend, P: ReversePattern + Copy>(
+fn rounds_by<P: ReversePattern + Copy>(
     alloc: Global,
-    text: Option<HipStr<'_, B>>,
+    text: Option<HipStr<'_, Rc>>,
     parts: Parts,
     pattern: P,
     rounds: u64,
@@ -129,7 +129,7 @@ fn rounds_by_closure(
 
 /// Each round makes a list of the parts between commas, and sums their lengths.
 fn collected(alloc: Global, input: &[u8], rounds: u64) -> Option<u64> {
-    let text = owned::<Rc>(alloc, input)?;
+    let text = owned(alloc, input)?;
     let mut total = 0;
     for _ in 0..rounds {
         let list = text.split(alloc, ',').collect().ok()?;
@@ -144,12 +144,12 @@ fn collected(alloc: Global, input: &[u8], rounds: u64) -> Option<u64> {
 
 #[unsafe(no_mangle)]
 pub extern "C" fn hip_split_char(alloc: Global, input: &[u8], rounds: u64) -> u64 {
-    rounds_by(alloc, owned::<Rc>(alloc, input), Parts::Split, ',', rounds).unwrap_or(0)
+    rounds_by(alloc, owned(alloc, input), Parts::Split, ',', rounds).unwrap_or(0)
 }
 
 #[unsafe(no_mangle)]
 pub extern "C" fn hip_split_char_borrowed(alloc: Global, input: &[u8], rounds: u64) -> u64 {
-    rounds_by(alloc, lent::<Rc>(input), Parts::Split, ',', rounds).unwrap_or(0)
+    rounds_by(alloc, lent(input), Parts::Split, ',', rounds).unwrap_or(0)
 }
 
 #[unsafe(no_mangle)]
@@ -159,12 +159,12 @@ pub extern "C" fn hip_split_char_collect(alloc: Global, input: &[u8], rounds: u6
 
 #[unsafe(no_mangle)]
 pub extern "C" fn hip_split_str(alloc: Global, input: &[u8], rounds: u64) -> u64 {
-    rounds_by(alloc, owned::<Rc>(alloc, input), Parts::Split, ",", rounds).unwrap_or(0)
+    rounds_by(alloc, owned(alloc, input), Parts::Split, ",", rounds).unwrap_or(0)
 }
 
 #[unsafe(no_mangle)]
 pub extern "C" fn hip_split_str2(alloc: Global, input: &[u8], rounds: u64) -> u64 {
-    rounds_by(alloc, owned::<Rc>(alloc, input), Parts::Split, "ab", rounds).unwrap_or(0)
+    rounds_by(alloc, owned(alloc, input), Parts::Split, "ab", rounds).unwrap_or(0)
 }
 
 #[unsafe(no_mangle)]
@@ -174,14 +174,7 @@ pub extern "C" fn hip_split_pred(alloc: Global, input: &[u8], rounds: u64) -> u6
 
 #[unsafe(no_mangle)]
 pub extern "C" fn hip_split_set(alloc: Global, input: &[u8], rounds: u64) -> u64 {
-    rounds_by(
-        alloc,
-        owned::<Rc>(alloc, input),
-        Parts::Split,
-        SEPARATORS,
-        rounds,
-    )
-    .unwrap_or(0)
+    rounds_by(alloc, owned(alloc, input), Parts::Split, SEPARATORS, rounds).unwrap_or(0)
 }
 
 #[unsafe(no_mangle)]
@@ -191,14 +184,14 @@ pub extern "C" fn hip_split_pred_mixed(alloc: Global, input: &[u8], rounds: u64)
 
 #[unsafe(no_mangle)]
 pub extern "C" fn hip_split_char_mixed(alloc: Global, input: &[u8], rounds: u64) -> u64 {
-    rounds_by(alloc, owned::<Rc>(alloc, input), Parts::Split, ',', rounds).unwrap_or(0)
+    rounds_by(alloc, owned(alloc, input), Parts::Split, ',', rounds).unwrap_or(0)
 }
 
 #[unsafe(no_mangle)]
 pub extern "C" fn hip_split_inclusive(alloc: Global, input: &[u8], rounds: u64) -> u64 {
     rounds_by(
         alloc,
-        owned::<Rc>(alloc, input),
+        owned(alloc, input),
         Parts::SplitInclusive,
         ',',
         rounds,
@@ -208,24 +201,17 @@ pub extern "C" fn hip_split_inclusive(alloc: Global, input: &[u8], rounds: u64) 
 
 #[unsafe(no_mangle)]
 pub extern "C" fn hip_rsplit_char(alloc: Global, input: &[u8], rounds: u64) -> u64 {
-    rounds_by(alloc, owned::<Rc>(alloc, input), Parts::RSplit, ',', rounds).unwrap_or(0)
+    rounds_by(alloc, owned(alloc, input), Parts::RSplit, ',', rounds).unwrap_or(0)
 }
 
 #[unsafe(no_mangle)]
 pub extern "C" fn hip_rsplit_str(alloc: Global, input: &[u8], rounds: u64) -> u64 {
-    rounds_by(alloc, owned::<Rc>(alloc, input), Parts::RSplit, ",", rounds).unwrap_or(0)
+    rounds_by(alloc, owned(alloc, input), Parts::RSplit, ",", rounds).unwrap_or(0)
 }
 
 #[unsafe(no_mangle)]
 pub extern "C" fn hip_rsplit_str2(alloc: Global, input: &[u8], rounds: u64) -> u64 {
-    rounds_by(
-        alloc,
-        owned::<Rc>(alloc, input),
-        Parts::RSplit,
-        "ab",
-        rounds,
-    )
-    .unwrap_or(0)
+    rounds_by(alloc, owned(alloc, input), Parts::RSplit, "ab", rounds).unwrap_or(0)
 }
 
 #[unsafe(no_mangle)]
@@ -235,14 +221,14 @@ pub extern "C" fn hip_rsplit_pred(alloc: Global, input: &[u8], rounds: u64) -> u
 
 #[unsafe(no_mangle)]
 pub extern "C" fn hip_lines(alloc: Global, input: &[u8], rounds: u64) -> u64 {
-    rounds_by(alloc, owned::<Rc>(alloc, input), Parts::Lines, ' ', rounds).unwrap_or(0)
+    rounds_by(alloc, owned(alloc, input), Parts::Lines, ' ', rounds).unwrap_or(0)
 }
 
 #[unsafe(no_mangle)]
 pub extern "C" fn hip_split_whitespace(alloc: Global, input: &[u8], rounds: u64) -> u64 {
     rounds_by(
         alloc,
-        owned::<Rc>(alloc, input),
+        owned(alloc, input),
         Parts::SplitWhitespace,
         ' ',
         rounds,
@@ -254,7 +240,7 @@ pub extern "C" fn hip_split_whitespace(alloc: Global, input: &[u8], rounds: u64)
 pub extern "C" fn hip_split_whitespace_mixed(alloc: Global, input: &[u8], rounds: u64) -> u64 {
     rounds_by(
         alloc,
-        owned::<Rc>(alloc, input),
+        owned(alloc, input),
         Parts::SplitWhitespace,
         ' ',
         rounds,
@@ -266,7 +252,7 @@ pub extern "C" fn hip_split_whitespace_mixed(alloc: Global, input: &[u8], rounds
 pub extern "C" fn hip_split_ascii_whitespace(alloc: Global, input: &[u8], rounds: u64) -> u64 {
     rounds_by(
         alloc,
-        owned::<Rc>(alloc, input),
+        owned(alloc, input),
         Parts::SplitAsciiWhitespace,
         ' ',
         rounds,
@@ -276,14 +262,7 @@ pub extern "C" fn hip_split_ascii_whitespace(alloc: Global, input: &[u8], rounds
 
 #[unsafe(no_mangle)]
 pub extern "C" fn hip_matches_str2(alloc: Global, input: &[u8], rounds: u64) -> u64 {
-    rounds_by(
-        alloc,
-        owned::<Rc>(alloc, input),
-        Parts::Matches,
-        "ab",
-        rounds,
-    )
-    .unwrap_or(0)
+    rounds_by(alloc, owned(alloc, input), Parts::Matches, "ab", rounds).unwrap_or(0)
 }
 
 #[unsafe(no_mangle)]
@@ -293,21 +272,14 @@ pub extern "C" fn hip_matches_pred(alloc: Global, input: &[u8], rounds: u64) -> 
 
 #[unsafe(no_mangle)]
 pub extern "C" fn hip_match_indices_char(alloc: Global, input: &[u8], rounds: u64) -> u64 {
-    rounds_by(
-        alloc,
-        owned::<Rc>(alloc, input),
-        Parts::MatchIndices,
-        ',',
-        rounds,
-    )
-    .unwrap_or(0)
+    rounds_by(alloc, owned(alloc, input), Parts::MatchIndices, ',', rounds).unwrap_or(0)
 }
 
 #[unsafe(no_mangle)]
 pub extern "C" fn hip_match_indices_str2(alloc: Global, input: &[u8], rounds: u64) -> u64 {
     rounds_by(
         alloc,
-        owned::<Rc>(alloc, input),
+        owned(alloc, input),
         Parts::MatchIndices,
         "ab",
         rounds,

@@ -2,17 +2,17 @@
 use crate::pieces::{lent, owned};
 use crate::ring::{look, mix};
 use hip_fields::reader::Records;
+use hipstr::Rc;
 use hipstr::pattern::Ranges;
 use hipstr::string::HipStr;
-use hipstr::{Backend, Rc};
 use std::alloc::Global;
 
 /// Draws all records, of which each is kept until the next is there: a checksum with the number of their fields and of these fields'
 /// bytes more.
-fn draw_records<'h, 'b, B: Backend, I: Ranges + Drop>(
+fn draw_records<'h, 'b, I: Ranges + Drop>(
     alloc: Global,
-    mut records: Records<'h, HipStr<'b, B>, I>,
-    kept: &mut Vec<HipStr<'b, B>>,
+    mut records: Records<'h, HipStr<'b, Rc>, I>,
+    kept: &mut Vec<HipStr<'b, Rc>>,
     before: u64,
 ) -> Option<u64> {
     let mut sum = before;
@@ -25,7 +25,7 @@ fn draw_records<'h, 'b, B: Backend, I: Ranges + Drop>(
 
 /// How many bytes texts have together.
 #[inline(always)]
-fn total_len<B: Backend>(texts: &[HipStr<'_, B>]) -> u64 {
+fn total_len(texts: &[HipStr<'_, Rc>]) -> u64 {
     let mut len = 0u64;
     for text in texts {
         len = len.wrapping_add(text.len() as u64);
@@ -34,11 +34,7 @@ fn total_len<B: Backend>(texts: &[HipStr<'_, B>]) -> u64 {
 }
 
 /// Each round draws all records of a text.
-fn rounds_of_records<B: Backend>(
-    alloc: Global,
-    text: Option<HipStr<'_, B>>,
-    rounds: u64,
-) -> Option<u64> {
+fn rounds_of_records(alloc: Global, text: Option<HipStr<'_, Rc>>, rounds: u64) -> Option<u64> {
     let text = text?;
     let mut kept = Vec::new(alloc);
     let mut sum = 0;
@@ -53,10 +49,10 @@ fn rounds_of_records<B: Backend>(
 
 #[unsafe(no_mangle)]
 pub extern "C" fn hip_records(alloc: Global, input: &[u8], rounds: u64) -> u64 {
-    rounds_of_records(alloc, owned::<Rc>(alloc, input), rounds).unwrap_or(0)
+    rounds_of_records(alloc, owned(alloc, input), rounds).unwrap_or(0)
 }
 
 #[unsafe(no_mangle)]
 pub extern "C" fn hip_records_borrowed(alloc: Global, input: &[u8], rounds: u64) -> u64 {
-    rounds_of_records(alloc, lent::<Rc>(input), rounds).unwrap_or(0)
+    rounds_of_records(alloc, lent(input), rounds).unwrap_or(0)
 }

@@ -1,8 +1,8 @@
 //! Texts: slices, pushes and pops of characters, and decoding. Where the input has to be a text and isn't, the answer is 0.
 use crate::ring::{Ring, look, mix};
+use hipstr::Rc;
 use hipstr::bytes::HipByt;
 use hipstr::string::HipStr;
-use hipstr::{Backend, Rc};
 use std::alloc::Global;
 use std::str;
 
@@ -24,10 +24,10 @@ fn starts(alloc: Global, text: &str) -> Option<Vec<usize>> {
 }
 
 /// Each round cuts eight characters.
-fn sliced<B: Backend>(alloc: Global, input: &[u8], rounds: u64) -> Option<u64> {
+fn sliced(alloc: Global, input: &[u8], rounds: u64) -> Option<u64> {
     let text = str::from_utf8(input).ok()?;
     let starts = starts(alloc, text)?;
-    let value = HipStr::<B>::from_str(alloc, text).ok()?;
+    let value = HipStr::<Rc>::from_str(alloc, text).ok()?;
     let mut ring = Ring::new(alloc).ok()?;
     for round in 0..rounds {
         let first = (round % 1000) as usize;
@@ -41,11 +41,11 @@ fn sliced<B: Backend>(alloc: Global, input: &[u8], rounds: u64) -> Option<u64> {
 }
 
 /// Each round pushes every character of the input.
-fn pushed<B: Backend>(alloc: Global, input: &[u8], rounds: u64) -> Option<u64> {
+fn pushed(alloc: Global, input: &[u8], rounds: u64) -> Option<u64> {
     let text = str::from_utf8(input).ok()?;
     let mut sum = 0;
     for _ in 0..rounds {
-        let mut value = HipStr::<B>::new();
+        let mut value = HipStr::<Rc>::new();
         for c in text.chars() {
             value.push(alloc, c).ok()?;
         }
@@ -55,7 +55,7 @@ fn pushed<B: Backend>(alloc: Global, input: &[u8], rounds: u64) -> Option<u64> {
 }
 
 /// Takes every character off, and adds their numbers.
-fn popped<B: Backend>(mut value: HipStr<'_, B>) -> u64 {
+fn popped(mut value: HipStr<'_, Rc>) -> u64 {
     let mut sum = 0u64;
     for _ in 0..u64::MAX {
         let Some(c) = value.pop() else {
@@ -67,8 +67,8 @@ fn popped<B: Backend>(mut value: HipStr<'_, B>) -> u64 {
 }
 
 /// Each round takes every character off a clone.
-fn popped_rounds<B: Backend>(alloc: Global, input: &[u8], rounds: u64) -> Option<u64> {
-    let value = HipStr::<B>::from_str(alloc, str::from_utf8(input).ok()?).ok()?;
+fn popped_rounds(alloc: Global, input: &[u8], rounds: u64) -> Option<u64> {
+    let value = HipStr::<Rc>::from_str(alloc, str::from_utf8(input).ok()?).ok()?;
     let mut sum = 0;
     for _ in 0..rounds {
         sum = mix(sum, popped(value.clone(alloc).ok()?));
@@ -82,14 +82,14 @@ fn turn<T>(round: u64, two: &(T, T)) -> &T {
 }
 
 /// Two values that are copied from the input, each by itself.
-fn two<'b, B: Backend>(alloc: Global, input: &[u8]) -> Option<(HipByt<'b, B>, HipByt<'b, B>)> {
+fn two<'b>(alloc: Global, input: &[u8]) -> Option<(HipByt<'b, Rc>, HipByt<'b, Rc>)> {
     let first = HipByt::from_slice(alloc, input).ok()?;
     Some((first, HipByt::from_slice(alloc, input).ok()?))
 }
 
 /// Each round reads a clone of a value as a text: its length, or where it isn't one.
-fn decoded<B: Backend>(alloc: Global, input: &[u8], rounds: u64) -> Option<u64> {
-    let two = two::<B>(alloc, input)?;
+fn decoded(alloc: Global, input: &[u8], rounds: u64) -> Option<u64> {
+    let two = two(alloc, input)?;
     let mut sum = 0;
     for round in 0..rounds {
         let bytes = turn(round, &two).clone(alloc).ok()?;
@@ -105,8 +105,8 @@ fn decoded<B: Backend>(alloc: Global, input: &[u8], rounds: u64) -> Option<u64> 
 }
 
 /// Each round repairs a clone of a value.
-fn repaired<B: Backend>(alloc: Global, input: &[u8], rounds: u64) -> Option<u64> {
-    let two = two::<B>(alloc, input)?;
+fn repaired(alloc: Global, input: &[u8], rounds: u64) -> Option<u64> {
+    let two = two(alloc, input)?;
     let mut sum = 0;
     for round in 0..rounds {
         let bytes = turn(round, &two).clone(alloc).ok()?;
@@ -127,22 +127,22 @@ fn units(alloc: Global, input: &[u8]) -> Option<Vec<u16>> {
 }
 
 /// Each round makes a text of the units.
-fn read<B: Backend>(alloc: Global, input: &[u8], rounds: u64) -> Option<u64> {
+fn read(alloc: Global, input: &[u8], rounds: u64) -> Option<u64> {
     let units = units(alloc, input)?;
     let mut sum = 0;
     for _ in 0..rounds {
-        let text = HipStr::<B>::from_utf16(alloc, &units).ok()?;
+        let text = HipStr::<Rc>::from_utf16(alloc, &units).ok()?;
         sum = look(sum, text.as_bytes());
     }
     Some(sum)
 }
 
 /// The same, repaired.
-fn read_lossy<B: Backend>(alloc: Global, input: &[u8], rounds: u64) -> Option<u64> {
+fn read_lossy(alloc: Global, input: &[u8], rounds: u64) -> Option<u64> {
     let units = units(alloc, input)?;
     let mut sum = 0;
     for _ in 0..rounds {
-        let text = HipStr::<B>::from_utf16_lossy(alloc, &units).ok()?;
+        let text = HipStr::<Rc>::from_utf16_lossy(alloc, &units).ok()?;
         sum = look(sum, text.as_bytes());
     }
     Some(sum)
@@ -150,50 +150,50 @@ fn read_lossy<B: Backend>(alloc: Global, input: &[u8], rounds: u64) -> Option<u6
 
 #[unsafe(no_mangle)]
 pub extern "C" fn hip_slice10_text(alloc: Global, input: &[u8], rounds: u64) -> u64 {
-    sliced::<Rc>(alloc, input, rounds).unwrap_or(0)
+    sliced(alloc, input, rounds).unwrap_or(0)
 }
 
 #[unsafe(no_mangle)]
 pub extern "C" fn hip_push_char(alloc: Global, input: &[u8], rounds: u64) -> u64 {
-    pushed::<Rc>(alloc, input, rounds).unwrap_or(0)
+    pushed(alloc, input, rounds).unwrap_or(0)
 }
 
 #[unsafe(no_mangle)]
 pub extern "C" fn hip_pop_chars(alloc: Global, input: &[u8], rounds: u64) -> u64 {
-    popped_rounds::<Rc>(alloc, input, rounds).unwrap_or(0)
+    popped_rounds(alloc, input, rounds).unwrap_or(0)
 }
 
 #[unsafe(no_mangle)]
 pub extern "C" fn hip_utf8_ascii(alloc: Global, input: &[u8], rounds: u64) -> u64 {
-    decoded::<Rc>(alloc, input, rounds).unwrap_or(0)
+    decoded(alloc, input, rounds).unwrap_or(0)
 }
 
 #[unsafe(no_mangle)]
 pub extern "C" fn hip_utf8_mixed(alloc: Global, input: &[u8], rounds: u64) -> u64 {
-    decoded::<Rc>(alloc, input, rounds).unwrap_or(0)
+    decoded(alloc, input, rounds).unwrap_or(0)
 }
 
 #[unsafe(no_mangle)]
 pub extern "C" fn hip_utf8_error(alloc: Global, input: &[u8], rounds: u64) -> u64 {
-    decoded::<Rc>(alloc, input, rounds).unwrap_or(0)
+    decoded(alloc, input, rounds).unwrap_or(0)
 }
 
 #[unsafe(no_mangle)]
 pub extern "C" fn hip_lossy_valid(alloc: Global, input: &[u8], rounds: u64) -> u64 {
-    repaired::<Rc>(alloc, input, rounds).unwrap_or(0)
+    repaired(alloc, input, rounds).unwrap_or(0)
 }
 
 #[unsafe(no_mangle)]
 pub extern "C" fn hip_lossy_repair(alloc: Global, input: &[u8], rounds: u64) -> u64 {
-    repaired::<Rc>(alloc, input, rounds).unwrap_or(0)
+    repaired(alloc, input, rounds).unwrap_or(0)
 }
 
 #[unsafe(no_mangle)]
 pub extern "C" fn hip_utf16(alloc: Global, input: &[u8], rounds: u64) -> u64 {
-    read::<Rc>(alloc, input, rounds).unwrap_or(0)
+    read(alloc, input, rounds).unwrap_or(0)
 }
 
 #[unsafe(no_mangle)]
 pub extern "C" fn hip_utf16_lossy(alloc: Global, input: &[u8], rounds: u64) -> u64 {
-    read_lossy::<Rc>(alloc, input, rounds).unwrap_or(0)
+    read_lossy(alloc, input, rounds).unwrap_or(0)
 }
