@@ -18,12 +18,12 @@
 //!
 //! A test function is proved safe, and each branch in it, as a `?` or an assertion, costs seconds that grow with what stands before
 //! it. So calls on data are rows of a table, which one loop runs, and what is asserted of a handle is one helper, in `support`. A
-//! function that is generic in the backend is proved once.
+//! function that is generic in the backend is proved once, and takes two to five times as long as one that names it.
 //!
 //! Most of what stands before a branch is what contracts say of handles, and a test needs none of it, since it compares while it runs. So
 //! tests call handles through the trait `bytes::Bytes`, whose methods say nothing, and `support::must` ends a test where a call was
-//! refused, in place of a `?`. A method costs one to three seconds, and a test function as much. Each function that names a backend's byte
-//! string as `Bytes` takes 13 seconds more, so only `suite::on` does.
+//! refused, in place of a `?`. A method costs one to three seconds, and a test function as much. Each function that names a byte string as
+//! `Bytes` takes seconds more, and a dozen where it is generic in the backend, so only the two of `suite` do.
 //!
 //! A function in which a table stands costs more than the square of what the table borrows: 24 rows with two slices each 1.2 seconds,
 //! 48 rows 5, 94 rows 40. So a table has a function of its own that hands it out, and a long one several. A function that calls a map

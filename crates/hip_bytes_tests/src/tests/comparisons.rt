@@ -1,9 +1,8 @@
 //! Order, equality and maps.
 use super::bytes::Bytes;
 use super::maps::{found, found_in_order};
-use super::suite::{Suite, on};
+use super::suite::{Suite, run_on_rc, run_on_unique};
 use super::support::{must, text_of};
-use hip_bytes::{Rc, Unique};
 use std::alloc::Global;
 use std::cmp::Ordering;
 use std::process::Abort;
@@ -76,10 +75,10 @@ impl Suite for Comparisons {
 
 #[test]
 fn comparisons_on_rc(rt: HostRuntime) {
-    on::<Comparisons, Rc>(&rt, rt.alloc());
+    run_on_rc::<Comparisons>(&rt, rt.alloc());
 }
 
 #[test]
 fn comparisons_on_unique(rt: HostRuntime) {
-    on::<Comparisons, Unique>(&rt, rt.alloc());
+    run_on_unique::<Comparisons>(&rt, rt.alloc());
 }

@@ -1,8 +1,8 @@
 //! Into vectors and borrowed-or-owned values, and back.
 use super::bytes::Bytes;
-use super::suite::{Suite, on};
+use super::suite::{Suite, run_on_rc, run_on_unique};
 use super::support::{LETTERS, is, must, must_refuse};
-use hip_bytes::{Kind, Rc, Unique};
+use hip_bytes::Kind;
 use std::alloc::Global;
 use std::borrow::CowSlice;
 use std::process::Abort;
@@ -87,12 +87,12 @@ impl Suite for Conversions {
 
 #[test]
 fn conversions_on_rc(rt: HostRuntime) {
-    on::<Conversions, Rc>(&rt, rt.alloc());
+    run_on_rc::<Conversions>(&rt, rt.alloc());
 }
 
 #[test]
 fn conversions_on_unique(rt: HostRuntime) {
-    on::<Conversions, Unique>(&rt, rt.alloc());
+    run_on_unique::<Conversions>(&rt, rt.alloc());
 }
 
 struct HandedBack;
@@ -107,6 +107,6 @@ impl Suite for HandedBack {
 /// A body that always hands the value back is proved: no contract counts owners.
 #[test]
 fn into_vec_handed_back(rt: HostRuntime) {
-    on::<HandedBack, Rc>(&rt, rt.alloc());
-    on::<HandedBack, Unique>(&rt, rt.alloc());
+    run_on_rc::<HandedBack>(&rt, rt.alloc());
+    run_on_unique::<HandedBack>(&rt, rt.alloc());
 }

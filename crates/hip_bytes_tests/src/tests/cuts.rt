@@ -1,8 +1,8 @@
 //! Pushes, cuts in place and slices.
 use super::bytes::Bytes;
-use super::suite::{Suite, on};
+use super::suite::{Suite, run_on_rc, run_on_unique};
 use super::support::{LETTERS, holds, is, must};
-use hip_bytes::{Kind, Meter, Rc, Unique};
+use hip_bytes::{Kind, Meter};
 use std::alloc::Global;
 use std::ops::Bound;
 use std::process::Abort;
@@ -233,20 +233,20 @@ impl Suite for Slices {
 
 #[test]
 fn in_place_on_rc(rt: HostRuntime) {
-    on::<InPlace, Rc>(&rt, rt.alloc());
+    run_on_rc::<InPlace>(&rt, rt.alloc());
 }
 
 #[test]
 fn in_place_on_unique(rt: HostRuntime) {
-    on::<InPlace, Unique>(&rt, rt.alloc());
+    run_on_unique::<InPlace>(&rt, rt.alloc());
 }
 
 #[test]
 fn slices_on_rc(rt: HostRuntime) {
-    on::<Slices, Rc>(&rt, rt.alloc());
+    run_on_rc::<Slices>(&rt, rt.alloc());
 }
 
 #[test]
 fn slices_on_unique(rt: HostRuntime) {
-    on::<Slices, Unique>(&rt, rt.alloc());
+    run_on_unique::<Slices>(&rt, rt.alloc());
 }

@@ -1,9 +1,9 @@
 //! Ranges that are refused: what the error tells, and its texts.
 use super::bytes::Bytes;
 use super::faults::{Refusal, Told};
-use super::suite::{Suite, on};
+use super::suite::{Suite, run_on_rc, run_on_unique};
 use super::support::must;
-use hip_bytes::{Rc, SliceErrorKind, Unique};
+use hip_bytes::SliceErrorKind;
 use std::alloc::Global;
 use std::ops::Bound;
 use std::process::Abort;
@@ -193,10 +193,10 @@ impl Suite for Errors {
 
 #[test]
 fn on_rc(rt: HostRuntime) {
-    on::<Errors, Rc>(&rt, rt.alloc());
+    run_on_rc::<Errors>(&rt, rt.alloc());
 }
 
 #[test]
 fn on_unique(rt: HostRuntime) {
-    on::<Errors, Unique>(&rt, rt.alloc());
+    run_on_unique::<Errors>(&rt, rt.alloc());
 }

@@ -1,8 +1,8 @@
 //! Bytes that are taken out, or lent out by a guard, as a vector.
 use super::bytes::Bytes;
-use super::suite::{Suite, on};
+use super::suite::{Suite, run_on_rc, run_on_unique};
 use super::support::{LETTERS, holds, is, must, text_of};
-use hip_bytes::{HipByt, Kind, Meter, Rc, Unique, mutate, with_mutated};
+use hip_bytes::{HipByt, Kind, Meter, Rc, mutate, with_mutated};
 use std::alloc::Global;
 use std::process::Abort;
 
@@ -147,10 +147,10 @@ fn a_closure_writes(rt: HostRuntime) {
 
 #[test]
 fn guards_on_rc(rt: HostRuntime) {
-    on::<Guards, Rc>(&rt, rt.alloc());
+    run_on_rc::<Guards>(&rt, rt.alloc());
 }
 
 #[test]
 fn guards_on_unique(rt: HostRuntime) {
-    on::<Guards, Unique>(&rt, rt.alloc());
+    run_on_unique::<Guards>(&rt, rt.alloc());
 }

@@ -1,8 +1,8 @@
 //! Repetitions, joins and room that is given back.
 use super::bytes::Bytes;
-use super::suite::{Suite, on};
+use super::suite::{Suite, run_on_rc, run_on_unique};
 use super::support::{LETTERS, holds, is, must};
-use hip_bytes::{GrowFault, Kind, Meter, Rc, Unique};
+use hip_bytes::{GrowFault, Kind, Meter};
 use std::alloc::Global;
 use std::process::Abort;
 
@@ -153,10 +153,10 @@ impl Suite for Joins {
 
 #[test]
 fn joins_on_rc(rt: HostRuntime) {
-    on::<Joins, Rc>(&rt, rt.alloc());
+    run_on_rc::<Joins>(&rt, rt.alloc());
 }
 
 #[test]
 fn joins_on_unique(rt: HostRuntime) {
-    on::<Joins, Unique>(&rt, rt.alloc());
+    run_on_unique::<Joins>(&rt, rt.alloc());
 }

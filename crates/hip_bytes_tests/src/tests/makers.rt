@@ -1,8 +1,8 @@
 //! Makers, views and clones.
 use super::bytes::Bytes;
-use super::suite::{Suite, on};
+use super::suite::{Suite, run_on_rc, run_on_unique};
 use super::support::{LETTERS, holds, is, must, must_refuse};
-use hip_bytes::{Kind, Meter, Rc, Unique};
+use hip_bytes::{Kind, Meter};
 use std::alloc::Global;
 use std::cmp::Ordering;
 use std::process::Abort;
@@ -111,10 +111,10 @@ impl Suite for Makers {
 
 #[test]
 fn on_rc(rt: HostRuntime) {
-    on::<Makers, Rc>(&rt, rt.alloc());
+    run_on_rc::<Makers>(&rt, rt.alloc());
 }
 
 #[test]
 fn on_unique(rt: HostRuntime) {
-    on::<Makers, Unique>(&rt, rt.alloc());
+    run_on_unique::<Makers>(&rt, rt.alloc());
 }

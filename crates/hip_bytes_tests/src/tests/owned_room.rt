@@ -1,8 +1,8 @@
 //! What the owner of one handle copies as it grows, and what room it has then.
 use super::bytes::Bytes;
-use super::suite::{Suite, on};
+use super::suite::{Suite, run_on_unique};
 use super::support::{LETTERS, must};
-use hip_bytes::{Kind, Meter, Unique};
+use hip_bytes::{Kind, Meter};
 use std::alloc::Global;
 use std::process::Abort;
 
@@ -40,7 +40,7 @@ impl Suite for Doubles {
 
 #[test]
 fn a_full_room_doubles(rt: HostRuntime) {
-    on::<Doubles, Unique>(&rt, rt.alloc());
+    run_on_unique::<Doubles>(&rt, rt.alloc());
 }
 
 struct GrowsOneByOne;
@@ -58,7 +58,7 @@ impl Suite for GrowsOneByOne {
 
 #[test]
 fn bytes_one_by_one(rt: HostRuntime) {
-    on::<GrowsOneByOne, Unique>(&rt, rt.alloc());
+    run_on_unique::<GrowsOneByOne>(&rt, rt.alloc());
 }
 
 struct GoesInAndOut;
@@ -76,7 +76,7 @@ impl Suite for GoesInAndOut {
 
 #[test]
 fn a_vector_goes_in_and_out(rt: HostRuntime) {
-    on::<GoesInAndOut, Unique>(&rt, rt.alloc());
+    run_on_unique::<GoesInAndOut>(&rt, rt.alloc());
 }
 
 /// Appends that fit, and a loan for writing, take no memory: the capacity stays.
@@ -95,5 +95,5 @@ impl Suite for IsFilled {
 
 #[test]
 fn room_is_kept(rt: HostRuntime) {
-    on::<IsFilled, Unique>(&rt, rt.alloc());
+    run_on_unique::<IsFilled>(&rt, rt.alloc());
 }

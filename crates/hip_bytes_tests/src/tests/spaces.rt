@@ -1,8 +1,8 @@
 //! The same 32 bytes by each maker: equal wherever they lie, and different from a part of them.
 use super::bytes::Bytes;
-use super::suite::{Suite, on};
+use super::suite::{Suite, run_on_rc, run_on_unique};
 use super::support::{holds, must};
-use hip_bytes::{Kind, Rc, Unique};
+use hip_bytes::Kind;
 use std::alloc::Global;
 use std::borrow::CowSlice;
 use std::process::Abort;
@@ -85,10 +85,10 @@ impl Suite for Spaces {
 
 #[test]
 fn spaces_on_rc(rt: HostRuntime) {
-    on::<Spaces, Rc>(&rt, rt.alloc());
+    run_on_rc::<Spaces>(&rt, rt.alloc());
 }
 
 #[test]
 fn spaces_on_unique(rt: HostRuntime) {
-    on::<Spaces, Unique>(&rt, rt.alloc());
+    run_on_unique::<Spaces>(&rt, rt.alloc());
 }

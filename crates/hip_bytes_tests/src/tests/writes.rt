@@ -1,8 +1,8 @@
 //! Bytes that are lent for writing, and ASCII case.
 use super::bytes::Bytes;
-use super::suite::{Suite, on};
+use super::suite::{Suite, run_on_rc, run_on_unique};
 use super::support::{LETTERS, holds, is, must};
-use hip_bytes::{Kind, Meter, Rc, Unique};
+use hip_bytes::{Kind, Meter};
 use std::alloc::Global;
 use std::process::Abort;
 
@@ -90,10 +90,10 @@ impl Suite for Writes {
 
 #[test]
 fn writes_on_rc(rt: HostRuntime) {
-    on::<Writes, Rc>(&rt, rt.alloc());
+    run_on_rc::<Writes>(&rt, rt.alloc());
 }
 
 #[test]
 fn writes_on_unique(rt: HostRuntime) {
-    on::<Writes, Unique>(&rt, rt.alloc());
+    run_on_unique::<Writes>(&rt, rt.alloc());
 }

@@ -5,7 +5,7 @@ use super::support::{kind_of_copy, must, must_refuse};
 use hip_bytes::{
     BorshFault, ByteSink, ByteSource, FromRead, Fuse, HipByt, SliceSource, ToWrite, VecSink,
 };
-use hip_text::{Backend, HipStr, Rc, Unique};
+use hip_text::{HipStr, Rc, Unique};
 use std::alloc::Global;
 use std::process::Abort;
 
@@ -164,20 +164,18 @@ fn texts<F: Form>(rt: &impl Abort, alloc: Global) {
     }
 }
 
-fn written_and_read<B: Backend>(rt: &impl Abort, alloc: Global) {
-    bytes::<HipByt<'static, B>>(rt, alloc);
-    texts::<HipStr<'static, B>>(rt, alloc);
-    one_behind_another::<HipByt<'static, B>, HipStr<'static, B>>(rt, alloc);
-}
-
 #[test]
 fn written_and_read_on_rc(rt: HostRuntime) {
-    written_and_read::<Rc>(&rt, rt.alloc());
+    bytes::<HipByt<'static, Rc>>(&rt, rt.alloc());
+    texts::<HipStr<'static, Rc>>(&rt, rt.alloc());
+    one_behind_another::<HipByt<'static, Rc>, HipStr<'static, Rc>>(&rt, rt.alloc());
 }
 
 #[test]
 fn written_and_read_on_unique(rt: HostRuntime) {
-    written_and_read::<Unique>(&rt, rt.alloc());
+    bytes::<HipByt<'static, Unique>>(&rt, rt.alloc());
+    texts::<HipStr<'static, Unique>>(&rt, rt.alloc());
+    one_behind_another::<HipByt<'static, Unique>, HipStr<'static, Unique>>(&rt, rt.alloc());
 }
 
 /// To a writer and from a reader of the standard library.

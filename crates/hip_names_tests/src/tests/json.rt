@@ -3,7 +3,7 @@ use super::handle::{Handle, Json};
 use super::support::{kind_of_copy, must, must_refuse};
 use hip_bytes::{HipByt, JsonFault};
 use hip_names::{HipOsStr, HipPath};
-use hip_text::{Backend, HipStr, Rc, Unique};
+use hip_text::{HipStr, Rc, Unique};
 use serde_json::Value;
 use std::alloc::Global;
 use std::process::Abort;
@@ -169,21 +169,20 @@ fn texts<J: Json>(rt: &impl Abort, alloc: Global) {
     }
 }
 
-fn values<B: Backend>(rt: &impl Abort, alloc: Global) {
-    byte_strings::<HipByt<'static, B>>(rt, alloc);
-    os_strings::<HipOsStr<'static, B>>(rt, alloc);
-    texts::<HipStr<'static, B>>(rt, alloc);
-    texts::<HipPath<'static, B>>(rt, alloc);
-}
-
 #[test]
 fn values_on_rc(rt: HostRuntime) {
-    values::<Rc>(&rt, rt.alloc());
+    byte_strings::<HipByt<'static, Rc>>(&rt, rt.alloc());
+    os_strings::<HipOsStr<'static, Rc>>(&rt, rt.alloc());
+    texts::<HipStr<'static, Rc>>(&rt, rt.alloc());
+    texts::<HipPath<'static, Rc>>(&rt, rt.alloc());
 }
 
 #[test]
 fn values_on_unique(rt: HostRuntime) {
-    values::<Unique>(&rt, rt.alloc());
+    byte_strings::<HipByt<'static, Unique>>(&rt, rt.alloc());
+    os_strings::<HipOsStr<'static, Unique>>(&rt, rt.alloc());
+    texts::<HipStr<'static, Unique>>(&rt, rt.alloc());
+    texts::<HipPath<'static, Unique>>(&rt, rt.alloc());
 }
 
 #[test]

@@ -3,7 +3,7 @@ use super::handle::Handle;
 use super::name::{Name, OsStr};
 use super::support::{must, must_refuse, text_of};
 use super::{calls, decoding, hostile, maps};
-use hip_names::{Backend, HipOsStr, HipPath, Kind, Rc, Unique};
+use hip_names::{HipOsStr, HipPath, Kind, Rc, Unique};
 use std::alloc::Global;
 use std::cmp::Ordering;
 use std::process::Abort;
@@ -303,33 +303,24 @@ fn on_paths<N: Name>(rt: &impl Abort, alloc: Global) {
     hostile::of_paths::<N>(rt);
 }
 
-// The proof that a name is what the tests ask of it costs many seconds in each function that needs it, so one function does for both
-// backends.
-
-fn os_strings<B: Backend>(rt: &impl Abort, alloc: Global) {
-    on_os_strings::<HipOsStr<'static, B>>(rt, alloc);
-}
-
-fn paths<B: Backend>(rt: &impl Abort, alloc: Global) {
-    on_paths::<HipPath<'static, B>>(rt, alloc);
-}
+// That a name is what the tests ask of it costs seconds, and five times as many in a function that is generic in the backend.
 
 #[test]
 fn os_strings_on_rc(rt: HostRuntime) {
-    os_strings::<Rc>(&rt, rt.alloc());
+    on_os_strings::<HipOsStr<'static, Rc>>(&rt, rt.alloc());
 }
 
 #[test]
 fn os_strings_on_unique(rt: HostRuntime) {
-    os_strings::<Unique>(&rt, rt.alloc());
+    on_os_strings::<HipOsStr<'static, Unique>>(&rt, rt.alloc());
 }
 
 #[test]
 fn paths_on_rc(rt: HostRuntime) {
-    paths::<Rc>(&rt, rt.alloc());
+    on_paths::<HipPath<'static, Rc>>(&rt, rt.alloc());
 }
 
 #[test]
 fn paths_on_unique(rt: HostRuntime) {
-    paths::<Unique>(&rt, rt.alloc());
+    on_paths::<HipPath<'static, Unique>>(&rt, rt.alloc());
 }

@@ -1,5 +1,5 @@
 //! What hipstr's own tests ask of texts, and the worked rows.
-use super::suite::{Suite, on};
+use super::suite::{Suite, run_on_rc, run_on_unique};
 use super::support::{is, must, reads};
 use super::text::{Bytes, Text};
 use hip_text::{Backend, HipStr, Kind, Meter, Rc, Unique};
@@ -202,12 +202,12 @@ impl Suite for Carried {
 
 #[test]
 fn on_rc(rt: HostRuntime) {
-    on::<Carried, Rc>(&rt, rt.alloc());
+    run_on_rc::<Carried>(&rt, rt.alloc());
 }
 
 #[test]
 fn on_unique(rt: HostRuntime) {
-    on::<Carried, Unique>(&rt, rt.alloc());
+    run_on_unique::<Carried>(&rt, rt.alloc());
 }
 
 /// What borrows from a string stays borrowed, beside what borrows from elsewhere.

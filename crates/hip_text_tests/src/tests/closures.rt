@@ -41,10 +41,10 @@ fn splits<B: Backend>(alloc: Global) -> bool {
 }
 
 /// The places of the pieces that are left, as the digits of a number.
-pub(crate) fn places_of<'h, 'b, B: Backend, I: Ranges + Drop>(
-    pieces: PiecesAt<'h, HipStr<'b, B>, I>,
+pub(crate) fn places_of<'h, 'b, I: Ranges + Drop>(
+    pieces: PiecesAt<'h, HipStr<'b, Rc>, I>,
 ) -> Result<u64, AllocError>
-    requires { ⟦<PiecesAt<'h, HipStr<'b, B>, I> as Walk>⟧.ready pieces }
+    requires { ⟦<PiecesAt<'h, HipStr<'b, Rc>, I> as Walk>⟧.ready pieces }
 {
     let mut seen = 0u64;
     for (place, piece) in pieces {
@@ -55,17 +55,17 @@ pub(crate) fn places_of<'h, 'b, B: Backend, I: Ranges + Drop>(
 }
 
 /// Those of the parts between digits.
-fn places<B: Backend>(alloc: Global) -> Result<u64, AllocError> {
-    let source = HipStr::<B>::borrowed("a1b22c");
+fn places(alloc: Global) -> Result<u64, AllocError> {
+    let source = HipStr::<Rc>::borrowed("a1b22c");
     let pattern = CharPred::with(|c| c.is_ascii_digit(), chosen_digits());
     places_of(source.pieces_at(alloc, Split::new(source.as_str(), pattern)))
 }
 
 /// The same from the back.
-fn places_back_of<'h, 'b, B: Backend, I: RangesBack + Drop>(
-    pieces: PiecesAt<'h, HipStr<'b, B>, I>,
+fn places_back_of<'h, 'b, I: RangesBack + Drop>(
+    pieces: PiecesAt<'h, HipStr<'b, Rc>, I>,
 ) -> Result<u64, AllocError>
-    requires { ⟦<PiecesAt<'h, HipStr<'b, B>, I> as Walk>⟧.ready pieces }
+    requires { ⟦<PiecesAt<'h, HipStr<'b, Rc>, I> as Walk>⟧.ready pieces }
 {
     let mut seen = 0u64;
     for (place, part) in pieces.rev() {
@@ -75,14 +75,14 @@ fn places_back_of<'h, 'b, B: Backend, I: RangesBack + Drop>(
     Ok(seen)
 }
 
-fn places_back<B: Backend>(alloc: Global) -> Result<u64, AllocError> {
-    let source = HipStr::<B>::borrowed("a1b22c");
+fn places_back(alloc: Global) -> Result<u64, AllocError> {
+    let source = HipStr::<Rc>::borrowed("a1b22c");
     let pattern = CharPred::with(|c| c.is_ascii_digit(), chosen_digits());
     places_back_of(source.pieces_at(alloc, Split::new(source.as_str(), pattern)))
 }
 
-fn goes<B: Backend>(alloc: Global) -> bool {
-    (places::<B>(alloc), places_back::<B>(alloc)) == (Ok(245), Ok(5420))
+fn goes(alloc: Global) -> bool {
+    (places(alloc), places_back(alloc)) == (Ok(245), Ok(5420))
 }
 
 fn finds<B: Backend>(alloc: Global) -> bool {
@@ -93,12 +93,10 @@ fn finds<B: Backend>(alloc: Global) -> bool {
 
 #[test]
 fn on_rc(rt: HostRuntime) {
-    assert!(rt; splits::<Rc>(rt.alloc()) & finds::<Rc>(rt.alloc()) & goes::<Rc>(rt.alloc()));
+    assert!(rt; splits::<Rc>(rt.alloc()) & finds::<Rc>(rt.alloc()) & goes(rt.alloc()));
 }
 
 #[test]
 fn on_unique(rt: HostRuntime) {
-    assert!(rt;
-        splits::<Unique>(rt.alloc()) & finds::<Unique>(rt.alloc()) & goes::<Unique>(rt.alloc())
-    );
+    assert!(rt; splits::<Unique>(rt.alloc()) & finds::<Unique>(rt.alloc()));
 }

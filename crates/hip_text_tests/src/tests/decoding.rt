@@ -1,8 +1,8 @@
 //! Bytes that are UTF-8, that aren't, and their repair.
-use super::suite::{Suite, on};
+use super::suite::{Suite, run_on_rc, run_on_unique};
 use super::support::{cause_of, debugged, must, must_refuse, reads, shown};
 use super::text::{Bytes, FromUtf8Error, Text};
-use hip_text::{Kind, Rc, Unique};
+use hip_text::Kind;
 use std::alloc::Global;
 use std::process::Abort;
 
@@ -137,10 +137,10 @@ impl Suite for Decoding {
 
 #[test]
 fn on_rc(rt: HostRuntime) {
-    on::<Decoding, Rc>(&rt, rt.alloc());
+    run_on_rc::<Decoding>(&rt, rt.alloc());
 }
 
 #[test]
 fn on_unique(rt: HostRuntime) {
-    on::<Decoding, Unique>(&rt, rt.alloc());
+    run_on_unique::<Decoding>(&rt, rt.alloc());
 }

@@ -1,9 +1,9 @@
 //! Ranges that are refused, and bytes that aren't a text.
 use super::faults::{Refusal, Told};
-use super::suite::{Suite, on};
+use super::suite::{Suite, run_on_rc, run_on_unique};
 use super::support::{cause_of, is, must, must_refuse, reads, shown};
 use super::text::{Bytes, FromUtf8Error, Text};
-use hip_text::{BytesFault, Kind, Rc, SliceErrorKind, Unique};
+use hip_text::{BytesFault, Kind, SliceErrorKind};
 use std::alloc::Global;
 use std::ops::Bound::{self, Excluded, Included, Unbounded};
 use std::process::Abort;
@@ -200,10 +200,10 @@ impl Suite for TextErrors {
 
 #[test]
 fn on_rc(rt: HostRuntime) {
-    on::<TextErrors, Rc>(&rt, rt.alloc());
+    run_on_rc::<TextErrors>(&rt, rt.alloc());
 }
 
 #[test]
 fn on_unique(rt: HostRuntime) {
-    on::<TextErrors, Unique>(&rt, rt.alloc());
+    run_on_unique::<TextErrors>(&rt, rt.alloc());
 }

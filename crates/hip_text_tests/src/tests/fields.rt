@@ -3,14 +3,11 @@ ghost use Rattle.std.specs.Prelude.{◌≡◌, ◌==◌, ◌↔◌, IfOk, IsTrue
 ghost use Rattle.hip_match.specs.Characters.{char_ends};
 ghost use Rattle.hip_match.specs.Pieces.{split};
 
-use hip_cuts::{Backend, HipStr, TextCuts};
+use hip_cuts::{HipStr, Rc, TextCuts};
 use std::alloc::{AllocError, Global};
 
 /// The length of the longest field of a line.
-pub(crate) fn longest_field<'b, B: Backend>(
-    line: &HipStr<'b, B>,
-    alloc: Global,
-) -> Result<usize, AllocError> {
+pub(crate) fn longest_field<'b>(line: &HipStr<'b, Rc>, alloc: Global) -> Result<usize, AllocError> {
     let mut longest = 0;
     for field in line.split(alloc, ',') {
         longest = longest.max(field?.len());
@@ -19,7 +16,7 @@ pub(crate) fn longest_field<'b, B: Backend>(
 }
 
 /// The same of the fields before the first that is refused for memory.
-pub(crate) fn longest_drawn<'b, B: Backend>(line: &HipStr<'b, B>, alloc: Global) -> usize {
+pub(crate) fn longest_drawn<'b>(line: &HipStr<'b, Rc>, alloc: Global) -> usize {
     let mut fields = line.split(alloc, ',');
     let mut longest = 0;
     while let Some(Ok(field)) = fields.next() {
@@ -29,8 +26,8 @@ pub(crate) fn longest_drawn<'b, B: Backend>(line: &HipStr<'b, B>, alloc: Global)
 }
 
 /// Whether a line has so many fields.
-pub(crate) fn has_fields<'b, B: Backend>(
-    line: &HipStr<'b, B>,
+pub(crate) fn has_fields<'b>(
+    line: &HipStr<'b, Rc>,
     count: usize,
     alloc: Global,
 ) -> Result<bool, AllocError>

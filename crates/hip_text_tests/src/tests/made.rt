@@ -1,8 +1,8 @@
 //! Joins and repetitions, and texts of units of UTF-16.
-use super::suite::{Suite, on};
+use super::suite::{Suite, run_on_rc, run_on_unique};
 use super::support::{is, must, must_refuse, reads};
 use super::text::{Bytes, FromUtf8Error, Text};
-use hip_text::{GrowFault, HipStr, Kind, Meter, Rc, Unique, Utf16Fault};
+use hip_text::{GrowFault, HipStr, Kind, Meter, Rc, Utf16Fault};
 use std::alloc::Global;
 use std::process::Abort;
 
@@ -126,12 +126,12 @@ impl Suite for Made {
 
 #[test]
 fn on_rc(rt: HostRuntime) {
-    on::<Made, Rc>(&rt, rt.alloc());
+    run_on_rc::<Made>(&rt, rt.alloc());
 }
 
 #[test]
 fn on_unique(rt: HostRuntime) {
-    on::<Made, Unique>(&rt, rt.alloc());
+    run_on_unique::<Made>(&rt, rt.alloc());
 }
 
 #[test]

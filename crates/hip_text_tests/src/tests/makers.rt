@@ -1,8 +1,8 @@
 //! Makers, conversions, pushes, `pop`, case, comparisons and guards.
-use super::suite::{Suite, on};
+use super::suite::{Suite, run_on_rc, run_on_unique};
 use super::support::{holds, is, must, must_refuse, reads};
 use super::text::Text;
-use hip_text::{Kind, Rc, Unique};
+use hip_text::Kind;
 use std::alloc::{AllocError, Global};
 use std::borrow::CowStr;
 use std::cmp::Ordering;
@@ -177,10 +177,10 @@ impl Suite for TextMakers {
 
 #[test]
 fn on_rc(rt: HostRuntime) {
-    on::<TextMakers, Rc>(&rt, rt.alloc());
+    run_on_rc::<TextMakers>(&rt, rt.alloc());
 }
 
 #[test]
 fn on_unique(rt: HostRuntime) {
-    on::<TextMakers, Unique>(&rt, rt.alloc());
+    run_on_unique::<TextMakers>(&rt, rt.alloc());
 }

@@ -1,7 +1,7 @@
-//! Tests that are run on the texts of either backend. The proof that a text is what the tests ask of it costs many seconds in each
-//! function that needs it, so one function does for all suites.
+//! Tests that are run on the texts of either backend. That a text is what the tests ask of it costs seconds in each function that needs it,
+//! and five times as many in one that is generic in the backend, so these two name theirs.
 use super::text::Text;
-use hip_text::{Backend, HipStr};
+use hip_text::{HipStr, Rc, Unique};
 use std::alloc::Global;
 use std::process::Abort;
 
@@ -9,7 +9,12 @@ pub trait Suite {
     fn run<T: Text>(rt: &impl Abort, alloc: Global);
 }
 
-/// Runs a suite on a backend.
-pub(crate) fn on<S: Suite, B: Backend>(rt: &impl Abort, alloc: Global) {
-    S::run::<HipStr<'static, B>>(rt, alloc);
+/// Runs a suite on shared owners.
+pub(crate) fn run_on_rc<S: Suite>(rt: &impl Abort, alloc: Global) {
+    S::run::<HipStr<'static, Rc>>(rt, alloc);
+}
+
+/// Runs a suite on owners of one handle each.
+pub(crate) fn run_on_unique<S: Suite>(rt: &impl Abort, alloc: Global) {
+    S::run::<HipStr<'static, Unique>>(rt, alloc);
 }
