@@ -1,9 +1,12 @@
-//! Tests of `hipstr::run`, from outside of hipstr: lists of commands on a pool of handles, whose answers come from elsewhere.
+//! Tests of what is above the types, from outside of it: lists of commands on a pool of handles, scripts of lines, and the five uses, whose
+//! answers come from elsewhere. They stand in one crate, since a crate that stands on `hipstr` costs a minute before its first function.
 //!
-//! - `sessions`: the lists, on both backends of hipstr.
+//! - `sessions`: lists of commands, on both backends of hipstr.
 //! - `cuts`: texts that are cut once.
 //! - `ways`: each way to take a text apart, by every script of up to six ends.
 //! - `own_backend`: the same on a backend that a user wrote.
+//! - `plays`: scripts, bad lines, and readers and writers that fail, by `hip_script::play`.
+//! - `uses`: template, tokens, queue, interner and table.
 //! - `user`: functions of a pattern and over a closure, and a struct that keeps a walk, by the names of hipstr alone.
 //!
 //! What costs the check and what saves it is told in `hip_bytes_tests`.

@@ -1,4 +1,6 @@
 mod cuts;
 mod own_backend;
+mod plays;
 mod sessions;
+mod uses;
 mod ways;

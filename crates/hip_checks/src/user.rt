@@ -1,5 +1,6 @@
 //! What a user writes who names `hipstr` alone: loops over walks, functions of a pattern and over a closure, with clauses that cite what a
-//! call is said to give, and a struct that keeps a walk.
+//! call is said to give, and a struct that keeps a walk. A function that is generic in the backend is proved once for all, and takes two to
+//! five times as long as one that names it: most of these loops name theirs.
 ghost use Rattle.std.specs.Prelude.{◌≡◌, ◌==◌, ℕ, IfOk, length};
 ghost use Rattle.std.specs.Char.{IsScalar, is_ascii_digit};
 ghost use Rattle.hipstr.specs.Answers.{answer_at};
@@ -9,7 +10,7 @@ ghost use Rattle.hipstr.specs.Pieces.{split};
 
 use hipstr::pattern::{CharPred, Chosen, Pattern, Split, choose_by};
 use hipstr::string::{HipStr, IterWrapper, TextCuts};
-use hipstr::{Backend, Rc, Unique};
+use hipstr::{Backend, LocalHipStr, Rc, Unique};
 use std::alloc::{AllocError, Global};
 
 /// The parts of a text between the occurrences of a pattern.
@@ -74,7 +75,7 @@ fn longest_field<'b, B: Backend>(alloc: Global, line: &HipStr<'b, B>) -> Result<
 }
 
 /// The length of the longest word of a text, by its lines.
-fn longest_word<'b, B: Backend>(alloc: Global, text: &HipStr<'b, B>) -> Result<usize, AllocError> {
+fn longest_word(alloc: Global, text: &LocalHipStr<'_>) -> Result<usize, AllocError> {
     let mut longest = 0;
     for line in text.lines(alloc) {
         let line = line?;
@@ -86,7 +87,7 @@ fn longest_word<'b, B: Backend>(alloc: Global, text: &HipStr<'b, B>) -> Result<u
 }
 
 /// Where the commas of a line are.
-fn commas<'b, B: Backend>(alloc: Global, line: &HipStr<'b, B>) -> Result<Vec<usize>, AllocError> {
+fn commas(alloc: Global, line: &LocalHipStr<'_>) -> Result<Vec<usize>, AllocError> {
     let mut places = Vec::new(alloc);
     for (place, _comma) in line.match_indices(alloc, ',') {
         places.push(place)?;
@@ -95,10 +96,10 @@ fn commas<'b, B: Backend>(alloc: Global, line: &HipStr<'b, B>) -> Result<Vec<usi
 }
 
 /// The last field of a line that isn't empty.
-fn last_filled<'b, B: Backend>(
+fn last_filled<'b>(
     alloc: Global,
-    line: &HipStr<'b, B>,
-) -> Result<Option<HipStr<'b, B>>, AllocError> {
+    line: &LocalHipStr<'b>,
+) -> Result<Option<LocalHipStr<'b>>, AllocError> {
     for field in line.split(alloc, ',').rev() {
         let field = field?;
         if !field.is_empty() {
@@ -109,10 +110,7 @@ fn last_filled<'b, B: Backend>(
 }
 
 /// The length of the longest part of a text between its digits.
-fn longest_between_digits<'b, B: Backend>(
-    alloc: Global,
-    text: &HipStr<'b, B>,
-) -> Result<usize, AllocError> {
+fn longest_between_digits(alloc: Global, text: &LocalHipStr<'_>) -> Result<usize, AllocError> {
     let digits = CharPred::with(|c| c.is_ascii_digit(), chosen_digits());
     let mut longest = 0;
     for (_, part) in text.pieces_at(alloc, Split::new(text.as_str(), digits)) {
@@ -171,9 +169,9 @@ fn reads<B: Backend>(alloc: Global) -> bool {
 }
 
 /// Whether loops over walks answer as they should.
-fn goes_over<B: Backend>(alloc: Global) -> Result<bool, AllocError> {
-    let line = HipStr::<B>::borrowed("ab,,c1d,");
-    let text = HipStr::<B>::borrowed("a bcd\n\nefg hijk\n");
+fn goes_over(alloc: Global) -> Result<bool, AllocError> {
+    let line = LocalHipStr::borrowed("ab,,c1d,");
+    let text = LocalHipStr::borrowed("a bcd\n\nefg hijk\n");
     let places = commas(alloc, &line)?;
     let lengths = (
         count_fields(alloc, &line)?,
@@ -189,7 +187,7 @@ fn goes_over<B: Backend>(alloc: Global) -> Result<bool, AllocError> {
 }
 
 /// Whether this is the text.
-fn is_text<B: Backend>(text: Option<HipStr<'_, B>>, expected: &str) -> bool {
+fn is_text(text: Option<LocalHipStr<'_>>, expected: &str) -> bool {
     match text {
         Some(text) => text.str_eq(expected),
         None => false,
@@ -197,13 +195,16 @@ fn is_text<B: Backend>(text: Option<HipStr<'_, B>>, expected: &str) -> bool {
 }
 
 #[test]
+fn loops(rt: HostRuntime) {
+    assert!(rt; goes_over(rt.alloc()) == Ok(true));
+}
+
+#[test]
 fn on_rc(rt: HostRuntime) {
     assert!(rt; reads::<Rc>(rt.alloc()));
-    assert!(rt; goes_over::<Rc>(rt.alloc()) == Ok(true));
 }
 
 #[test]
 fn on_unique(rt: HostRuntime) {
     assert!(rt; reads::<Unique>(rt.alloc()));
-    assert!(rt; goes_over::<Unique>(rt.alloc()) == Ok(true));
 }

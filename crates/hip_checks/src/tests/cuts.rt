@@ -1,9 +1,9 @@
 //! Texts that are cut once: trims, strips, and parts before and behind a match.
-use super::sessions::must;
+use super::sessions::{answers_to, must};
 use super::ways::holds;
 use hipstr::Command::{Once, Strip, Trim, TrimMatches};
 use hipstr::Pat::{Char, Set, Text};
-use hipstr::{Answer, Backend, Command, End, Meter, Pool, Side, run};
+use hipstr::{Answer, Backend, Command, End, Meter, Pool, Side};
 use std::alloc::Global;
 use std::process::Abort;
 
@@ -155,7 +155,7 @@ fn is_cut<B: Backend>(rt: &impl Abort, alloc: Global, cut: Cut) -> bool {
         command,
     ];
     let mut meter = Meter::new();
-    let answers = must(rt, run(alloc, &mut pool, &commands, &mut meter));
+    let answers = answers_to(rt, alloc, &mut pool, &commands, &mut meter);
     let wanted = if first.is_some() {
         Answer::Done
     } else {

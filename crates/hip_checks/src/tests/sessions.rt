@@ -278,6 +278,17 @@ pub(crate) fn must<T, E: Drop>(rt: &impl Abort, outcome: Result<T, E>) -> T {
     }
 }
 
+/// What commands answer. What `run` promises is left here: a function that knows it is dear, and a test compares.
+pub(crate) fn answers_to<'b, B: Backend>(
+    rt: &impl Abort,
+    alloc: Global,
+    pool: &mut Pool<'b, B>,
+    commands: &[Command<'b>],
+    meter: &mut Meter,
+) -> Vec<Answer> {
+    must(rt, run(alloc, pool, commands, meter))
+}
+
 /// Runs the commands of the rows, and compares their answers.
 fn answers<'b, B: Backend>(
     rt: &impl Abort,
@@ -292,7 +303,7 @@ fn answers<'b, B: Backend>(
         must(rt, commands.push(*command));
         must(rt, wanted.push(*answer));
     }
-    let answers = must(rt, run(alloc, pool, commands.as_slice(), meter));
+    let answers = answers_to(rt, alloc, pool, commands.as_slice(), meter);
     assert_eq!(rt; answers.as_slice(), wanted.as_slice());
 }
 
@@ -366,10 +377,7 @@ fn shrunk() -> &'static [Row] {
 }
 
 fn capacity_of<B: Backend>(rt: &impl Abort, alloc: Global, pool: &mut Pool<B>) -> usize {
-    let answers = must(
-        rt,
-        run(alloc, pool, &[Command::Capacity(0)], &mut Meter::new()),
-    );
+    let answers = answers_to(rt, alloc, pool, &[Command::Capacity(0)], &mut Meter::new());
     let [Answer::Number(capacity)] = answers.as_slice() else {
         panic!(rt; "no number");
     };
@@ -451,7 +459,7 @@ fn pools<B: Backend>(rt: &impl Abort, alloc: Global) {
         (pool.len(), pool.is_empty(), pool.slot(3).is_none()),
         (3, false, true)
     );
-    assert!(rt; must(rt, run(alloc, &mut pool, &[], &mut Meter::new())).is_empty());
+    assert!(rt; answers_to(rt, alloc, &mut pool, &[], &mut Meter::new()).is_empty());
     assert!(rt; must(rt, Pool::<B>::new(alloc, 0)).is_empty());
 }
 

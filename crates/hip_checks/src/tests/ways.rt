@@ -1,6 +1,6 @@
 //! Each way to take a text apart, by every script of up to six ends.
-use super::sessions::must;
-use hipstr::{Answer, Backend, Command, End, How, Kind, Meter, Pat, Pool, Reason, Slot, run};
+use super::sessions::{answers_to, must};
+use hipstr::{Answer, Backend, Command, End, How, Kind, Meter, Pat, Pool, Reason, Slot};
 use std::alloc::Global;
 use std::process::Abort;
 
@@ -219,31 +219,30 @@ const LONG_RUNS: Taken = (
     )],
 );
 
-/// How many parts there are.
-const PARTS: usize = 19;
+const ALL: &[Taken] = &[
+    LETTERS,
+    LETTERS_TOO,
+    COMMAS,
+    COMMAS_TOO,
+    SPACES,
+    SPACES_TOO,
+    OVERLAPPING,
+    OVERLAPPING_TOO,
+    BOUNDARIES,
+    BOUNDARIES_TOO,
+    NOTHING,
+    DOTS,
+    COUNTS,
+    COUNTS_TOO,
+    ENDED,
+    LINES,
+    RUNS,
+    DOTS_ALONE,
+    LONG_RUNS,
+];
 
-fn part(number: usize) -> Taken {
-    match number {
-        0 => LETTERS,
-        1 => LETTERS_TOO,
-        2 => COMMAS,
-        3 => COMMAS_TOO,
-        4 => SPACES,
-        5 => SPACES_TOO,
-        6 => OVERLAPPING,
-        7 => OVERLAPPING_TOO,
-        8 => BOUNDARIES,
-        9 => BOUNDARIES_TOO,
-        10 => NOTHING,
-        11 => DOTS,
-        12 => COUNTS,
-        13 => COUNTS_TOO,
-        14 => ENDED,
-        15 => LINES,
-        16 => RUNS,
-        17 => DOTS_ALONE,
-        _ => LONG_RUNS,
-    }
+fn all() -> &'static [Taken] {
+    ALL
 }
 
 /// Whether a slot holds this piece, borrowed as its text is, or nothing where there is none.
@@ -273,7 +272,7 @@ fn takes_apart<'s, B: Backend>(
         Command::Pieces(0, how, script, 1),
     ];
     let mut meter = Meter::new();
-    let answers = must(rt, run(alloc, &mut pool, &commands, &mut meter));
+    let answers = answers_to(rt, alloc, &mut pool, &commands, &mut meter);
     let is_refused = !has_both_ends && script.contains(&End::Back);
     let wanted = if is_refused {
         Answer::Refused(Reason::OneEnd)
@@ -331,8 +330,8 @@ fn takes_each_apart<B: Backend>(rt: &impl Abort, alloc: Global, taken: Taken, sc
 /// Each way, by every script of up to six ends: the ends of a script of six are the digits of a number, and its beginnings are the others.
 pub(crate) fn takes_all_apart<B: Backend>(rt: &impl Abort, alloc: Global) {
     for number in 0..64 {
-        for i in 0..PARTS {
-            takes_each_apart::<B>(rt, alloc, part(i), &ends_of(number));
+        for taken in all() {
+            takes_each_apart::<B>(rt, alloc, *taken, &ends_of(number));
         }
     }
 }

@@ -1,5 +1,5 @@
 //! Scripts and what they print, on either backend.
-use crate::support::{FIRST_ANSWERS, FIRST_RUN, played};
+use super::support::{FIRST_ANSWERS, FIRST_RUN, played};
 use hipstr::{Backend, Rc, Unique};
 use std::alloc::Global;
 use std::process::Abort;

@@ -1,5 +1,5 @@
 //! Scripts that are refused, on either backend.
-use crate::support::played;
+use super::support::played;
 use hip_script::PlayFault;
 use hipstr::{Backend, Rc, Unique};
 use std::alloc::Global;

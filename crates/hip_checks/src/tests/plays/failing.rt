@@ -1,5 +1,5 @@
 //! Failing and slow readers and writers, and the texts of faults.
-use crate::support::{FIRST_ANSWERS, FIRST_RUN, WELL, played_by};
+use super::support::{FIRST_ANSWERS, FIRST_RUN, WELL, played_by};
 use hip_script::PlayFault;
 use hip_script::play::play;
 use hipstr::{Backend, Rc, Unique};

@@ -1,0 +1,5 @@
+//! The lines of scripts and their answers, lines that are no commands, and readers and writers that fail.
+mod bad_lines;
+mod failing;
+mod scripts;
+mod support;

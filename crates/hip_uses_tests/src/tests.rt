@@ -1,6 +1,0 @@
-mod intern;
-mod queue;
-mod support;
-mod table;
-mod template;
-mod tokens;
