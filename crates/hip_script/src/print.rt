@@ -28,18 +28,28 @@ pub(crate) fn print_answer<W: Write>(out: &mut W, answer: Answer) -> io::Result<
 /// Prints bytes as a literal: 0x20 to 0x7E stand for themselves save `\"` and `\\`.
 pub(crate) fn print_literal<W: Write>(out: &mut W, bytes: &[u8]) -> io::Result<()> {
     out.write_all(b"\"")?;
-    for byte in bytes {
-        print_byte(out, *byte)?;
+    for part in bytes.split_inclusive(|byte| !is_plain(*byte)) {
+        match part.split_last() {
+            Some((last, plain)) if !is_plain(*last) => {
+                out.write_all(plain)?;
+                print_escaped(out, *last)?;
+            }
+            _ => out.write_all(part)?,
+        }
     }
     out.write_all(b"\"")
 }
 
-/// Prints a byte of a literal.
-fn print_byte<W: Write>(out: &mut W, byte: u8) -> io::Result<()> {
+/// Whether a byte stands for itself in a literal.
+fn is_plain(byte: u8) -> bool {
+    matches!(byte, 0x20..=0x7E) && byte != b'"' && byte != b'\\'
+}
+
+/// Prints a byte of a literal that doesn't stand for itself.
+fn print_escaped<W: Write>(out: &mut W, byte: u8) -> io::Result<()> {
     match byte {
         b'"' => out.write_all(b"\\\""),
         b'\\' => out.write_all(b"\\\\"),
-        0x20..=0x7E => out.write_all(&[byte]),
         _ => write!(out, "\\x{byte:02x}"),
     }
 }

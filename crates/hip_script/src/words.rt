@@ -125,17 +125,19 @@ fn range(word: &[u8]) -> Option<(Bound<usize>, Bound<usize>)> {
 fn decode<'l>(text: &'l [u8], buffer: &mut Vec<u8>) -> Result<&'l [u8], LineFault> {
     let mut rest = text;
     while let Some((first, after)) = rest.split_first() {
-        rest = after;
-        match *first {
-            b'"' => return Ok(rest),
+        match first {
+            b'"' => return Ok(after),
             b'\\' => {
-                let Some((byte, after)) = unescape(rest) else {
-                    return Err(LineFault::NotACommand);
-                };
+                let (byte, after) = unescape(after).ok_or(LineFault::NotACommand)?;
                 buffer.push(byte)?;
                 rest = after;
             }
-            byte => buffer.push(byte)?,
+            _ => {
+                let more = after.iter().position(|byte| matches!(byte, b'"' | b'\\'));
+                let (plain, from) = rest.split_at(more.ok_or(LineFault::NotACommand)? + 1);
+                buffer.extend_from_slice(plain)?;
+                rest = from;
+            }
         }
     }
     Err(LineFault::NotACommand)
@@ -152,10 +154,20 @@ fn unescape(text: &[u8]) -> Option<(u8, &[u8])>
     }
 }
 
-/// The value of a hexadecimal digit of either case.
+/// The value of a hexadecimal digit of either case. It is chosen without a branch, since which of the two kinds comes can't be foreseen.
 fn hex_digit(byte: u8) -> Option<u8>
     ensures { IfSome result (λ digit. digit < 16) }
 {
-    let digit = char::from(byte).to_digit(16)?;
-    Some(digit as u8)
+    let digit = byte.wrapping_sub(b'0');
+    let letter = (byte | 0x20).wrapping_sub(b'a');
+    let value = if digit < 10 {
+        digit
+    } else {
+        letter.wrapping_add(10)
+    };
+    if (digit < 10) | (letter < 6) {
+        Some(value)
+    } else {
+        None
+    }
 }
