@@ -1,20 +1,19 @@
 //! Comparisons of eight pairs of equal values. The input has 4096 bytes.
-use hipstr::Rc;
-use hipstr::bytes::HipByt;
+use hipstr::LocalHipByt;
 use std::alloc::Global;
 use std::cmp::Ordering;
 
 /// Eight pairs of values, each copied by itself.
-fn pairs<'b>(
+fn pairs(
     alloc: Global,
     input: &[u8],
     len: usize,
-) -> Option<Vec<(HipByt<'b, Rc>, HipByt<'b, Rc>)>> {
+) -> Option<Vec<(LocalHipByt<'static>, LocalHipByt<'static>)>> {
     let mut pairs = Vec::new(alloc);
     for k in 0..8usize {
         let bytes = input.get(300 * k..)?.get(..len)?;
-        let first = HipByt::from_slice(alloc, bytes).ok()?;
-        let second = HipByt::from_slice(alloc, bytes).ok()?;
+        let first = LocalHipByt::from_slice(alloc, bytes).ok()?;
+        let second = LocalHipByt::from_slice(alloc, bytes).ok()?;
         pairs.push((first, second)).ok()?;
     }
     Some(pairs)

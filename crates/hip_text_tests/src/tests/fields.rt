@@ -6,16 +6,7 @@ ghost use Rattle.hip_match.specs.Pieces.{split};
 use hip_cuts::{HipStr, Rc, TextCuts};
 use std::alloc::{AllocError, Global};
 
-/// The length of the longest field of a line.
-pub(crate) fn longest_field<'b>(line: &HipStr<'b, Rc>, alloc: Global) -> Result<usize, AllocError> {
-    let mut longest = 0;
-    for field in line.split(alloc, ',') {
-        longest = longest.max(field?.len());
-    }
-    Ok(longest)
-}
-
-/// The same of the fields before the first that is refused for memory.
+/// The length of the longest field of a line before the first that is refused for memory.
 pub(crate) fn longest_drawn<'b>(line: &HipStr<'b, Rc>, alloc: Global) -> usize {
     let mut fields = line.split(alloc, ',');
     let mut longest = 0;

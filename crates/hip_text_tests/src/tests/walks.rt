@@ -1,5 +1,5 @@
 //! Pieces that are drawn without a meter, from either end. Each walk's pieces, counted, are those of `hipstr::run` (`ways` of hip_checks).
-use super::fields::{has_fields, longest_drawn, longest_field};
+use super::fields::{has_fields, longest_drawn};
 use hip_cuts::hip_match::ranges::RangesBack;
 use hip_cuts::{Backend, HipStr, IterWrapper, Rc, TextCuts, Unique, Unnumbered};
 use std::alloc::{AllocError, Global};
@@ -93,8 +93,7 @@ fn draws<B: Backend>(alloc: Global) -> bool {
 
 fn reads_fields(alloc: Global) -> bool {
     let line = HipStr::<Rc>::borrowed("a,bcd,,é");
-    (longest_field(&line, alloc) == Ok(3))
-        & (longest_drawn(&line, alloc) == 3)
+    (longest_drawn(&line, alloc) == 3)
         & (has_fields(&line, 4, alloc) == Ok(true))
         & (has_fields(&line, 3, alloc) == Ok(false))
 }
