@@ -18,7 +18,7 @@
 //!
 //! A test function is proved safe, and each branch in it, as a `?` or an assertion, costs seconds that grow with what stands before
 //! it. So calls on data are rows of a table, which one loop runs, and what is asserted of a handle is one helper, in `support`. A
-//! function that is generic in the backend is proved once, and takes two to five times as long as one that names it.
+//! function that is generic in the backend is proved once, and takes longer than one that names it.
 //!
 //! Most of what stands before a branch is what contracts say of handles, and a test needs none of it, since it compares while it runs. So
 //! tests call handles through the trait `bytes::Bytes`, whose methods say nothing, and `support::must` ends a test where a call was

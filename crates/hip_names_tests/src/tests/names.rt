@@ -303,7 +303,7 @@ fn on_paths<N: Name>(rt: &impl Abort, alloc: Global) {
     hostile::of_paths::<N>(rt);
 }
 
-// That a name is what the tests ask of it costs seconds, and five times as many in a function that is generic in the backend.
+// That a name is what the tests ask of it costs seconds, and more in a function that is generic in the backend.
 
 #[test]
 fn os_strings_on_rc(rt: HostRuntime) {

@@ -1,5 +1,5 @@
 //! Tests that are run on the texts of either backend. That a text is what the tests ask of it costs seconds in each function that needs it,
-//! and five times as many in one that is generic in the backend, so these two name theirs.
+//! and more in one that is generic in the backend, so these two name theirs.
 use super::text::Text;
 use hip_text::{HipStr, Rc, Unique};
 use std::alloc::Global;
