@@ -1,5 +1,5 @@
 //! Tests of what is above the types, from outside of it: lists of commands on a pool of handles, scripts of lines, and the five uses, whose
-//! answers come from elsewhere. They stand in one crate, since a crate that stands on `hipstr` costs a minute before its first function.
+//! answers come from elsewhere. They stand in one crate, since one that stands on `hipstr` costs 20 to 25 seconds before its first function.
 //!
 //! - `sessions`: lists of commands, on both backends of hipstr.
 //! - `cuts`: texts that are cut once.

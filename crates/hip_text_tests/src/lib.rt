@@ -1,5 +1,6 @@
 //! Tests of texts, whole and taken apart, from outside of hip_text and hip_cuts: what no clause says, as that calls succeed where there is
-//! memory, exact texts, and values that come from elsewhere, as the answers of Rust's own `str`. On either backend.
+//! memory, exact texts, and values that come from elsewhere, as the answers of Rust's own `str`. On either backend, but where texts are lent
+//! and no owner is met.
 //!
 //! A test is proved safe before it runs, and each call and branch in it costs the prover time. So calls are rows of tables, which one
 //! loop runs, and helpers answer whether what they saw is what is wanted, which a test asserts once.

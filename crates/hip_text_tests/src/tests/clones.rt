@@ -1,5 +1,5 @@
-//! Clones of walks that have given their first piece: they and the walks themselves give the same rest. A clone takes no piece, so one backend
-//! does.
+//! Clones of walks that have given their first piece: they and the walks themselves give the same rest. The texts are lent, so no owner is
+//! met, and one backend does.
 use super::closures::{chosen_for, places_of};
 use super::places::is_match;
 use super::walks::gives;
