@@ -28,18 +28,31 @@ pub struct Token<'b, B: Backend> {
     pub text: HipStr<'b, B>,
 }
 
+const W: Class = Class::Word;
+
+const D: Class = Class::Digits;
+
+const S: Class = Class::Space;
+
+const M: Class = Class::Mark;
+
+/// The class of each byte.
+const CLASSES: &[Class; 256] = &[
+    M, M, M, M, M, M, M, M, M, S, S, M, S, S, M, M, M, M, M, M, M, M, M, M, M, M, M, M, M, M, M, M,
+    S, M, M, M, M, M, M, M, M, M, M, M, M, M, M, M, D, D, D, D, D, D, D, D, D, D, M, M, M, M, M, M,
+    M, W, W, W, W, W, W, W, W, W, W, W, W, W, W, W, W, W, W, W, W, W, W, W, W, W, W, M, M, M, M, W,
+    M, W, W, W, W, W, W, W, W, W, W, W, W, W, W, W, W, W, W, W, W, W, W, W, W, W, W, M, M, M, M, M,
+    W, W, W, W, W, W, W, W, W, W, W, W, W, W, W, W, W, W, W, W, W, W, W, W, W, W, W, W, W, W, W, W,
+    W, W, W, W, W, W, W, W, W, W, W, W, W, W, W, W, W, W, W, W, W, W, W, W, W, W, W, W, W, W, W, W,
+    W, W, W, W, W, W, W, W, W, W, W, W, W, W, W, W, W, W, W, W, W, W, W, W, W, W, W, W, W, W, W, W,
+    W, W, W, W, W, W, W, W, W, W, W, W, W, W, W, W, W, W, W, W, W, W, W, W, W, W, W, W, W, W, W, W,
+];
+
+#[inline]
 fn class_of(byte: u8) -> Class
     ensures { result ≡ class_of byte }
 {
-    if byte >= 0x80 || byte.is_ascii_alphabetic() || byte == b'_' {
-        Class::Word
-    } else if byte.is_ascii_digit() {
-        Class::Digits
-    } else if byte.is_ascii_whitespace() {
-        Class::Space
-    } else {
-        Class::Mark
-    }
+    CLASSES[byte as usize]
 }
 
 fn is_of(byte: u8, class: Class) -> bool
