@@ -1,11 +1,9 @@
 -- The words of a text get their numbers one after another.
-use Rattle.std.proofs.Common.{◌≡◌, ◌==◌, true, false, ◌∙◌, ℕ, List, [], ◌∷◌, ◌++◌, Option, None, Some, Result, Ok, length, take, ap, sym, subst, refl, arith}
+use Rattle.std.proofs.Common.{◌≡◌, ◌∙◌, ℕ, zero, suc, ◌-◌, ◌<◌, ◌≤◌, List, [], ◌∷◌, ◌++◌, Option, None, Some, length, take, drop, length-drop, ap, sym, subst, refl, arith}
 use Rattle.std.specs.Prelude.{slice_range}
-use Rattle.std.proofs.lemmas.Bool.{true≢false}
 use Rattle.std.proofs.lemmas.List.{append-nil, append_assoc, length-take, take-append-le}
 use Rattle.std.proofs.Math.Seq.{take-length}
-use Rattle.hipstr.specs.Handle.{Handle}
-use Rattle.hipstr.specs.Piece.{DrawsFirst, Left}
+use Rattle.hipstr.specs.Occurrence.{IsCut}
 use Rattle.hip_uses.specs.Words.{filled_parts, with_filled}
 use Rattle.hip_uses.specs.Number.{AreNumbers, all_interned, interned, interned_from, number_of}
 use Rattle.hip_uses.proofs.Interned.{number_from-push}
@@ -69,49 +67,49 @@ numbered-all old now all numbers so_far =
     (subst (λ l. AreNumbers now l numbers) whole so_far.are, so_far.texts ∙ ap (all_interned old) whole)
 
 -- what is to come where a part is a word, and where it is none
-word-first : (bytes : List ℕ) (words : List (List ℕ)) → (length bytes == 0) ≡ false → with_filled bytes words ≡ bytes ∷ words
-word-first [] words filled = absurd (true≢false filled)
-word-first (byte ∷ bytes) words filled = refl
+word-first : (long : ℕ) (bytes : List ℕ) (words : List (List ℕ)) → 0 < long → 0 < length bytes → with_filled (take long bytes) words ≡ take long bytes ∷ words
+word-first zero bytes words some filled = absurd (omega arith)
+word-first (suc long) [] words some filled = absurd (omega arith)
+word-first (suc long) (byte ∷ bytes) words some filled = refl
 
-word-none : (bytes : List ℕ) (words : List (List ℕ)) → (length bytes == 0) ≡ true → with_filled bytes words ≡ words
-word-none [] words empty = refl
-word-none (byte ∷ bytes) words empty = absurd (grind (arith, empty))
+range-first : (text : List ℕ) (range : ℕ × ℕ) (words : List (List ℕ)) → IsCut text range → range.0 < range.1
+    → with_filled (slice_range text range.0 range.1) words ≡ slice_range text range.0 range.1 ∷ words
+range-first text range words cut some =
+    word-first (range.1 - range.0) (drop range.0 text) words (omega arith) (omega (arith, length-drop range.0 text, cut.end.0))
+
+range-none : (text : List ℕ) (range : ℕ × ℕ) (words : List (List ℕ)) → range.1 ≤ range.0 → with_filled (slice_range text range.0 range.1) words ≡ words
+range-none text range words none = let long : range.1 - range.0 ≡ 0 = omega arith in ap (λ n. with_filled (take n (drop range.0 text)) words) long
 
 -- of the parts at all ranges of a text the words that were drawn have their numbers
-pub record Walked (old : List (List ℕ)) (text : Handle) (all : List (ℕ × ℕ)) (now : List (List ℕ)) (left : Left) (numbers : List ℕ) : Type 0 where
-  pub words : Numbered old now (filled_parts text.items all) (filled_parts text.items left.rest) numbers
-  pub source : left.source ≡ text
+pub record Walked (old : List (List ℕ)) (text : List ℕ) (all : List (ℕ × ℕ)) (now : List (List ℕ)) (rest : List (ℕ × ℕ)) (numbers : List ℕ) : Type 0 where
+  pub words : Numbered old now (filled_parts text all) (filled_parts text rest) numbers
   pub kept : take (length old) now ≡ old
 
-pub walked-none : (old : List (List ℕ)) (text : Handle) (left : Left) → left.source ≡ text → Walked old text left.rest old left []
-walked-none old text left source = record { words = numbered-none old (filled_parts text.items left.rest); source = source; kept = take-length old }
+pub walked-none : (old : List (List ℕ)) (text : List ℕ) (all : List (ℕ × ℕ)) → Walked old text all old all []
+walked-none old text all = record { words = numbered-none old (filled_parts text all); kept = take-length old }
 
-module _ (old : List (List ℕ)) (text : Handle) (all : List (ℕ × ℕ)) (now : List (List ℕ)) (left next : Left) (numbers : List ℕ) (E : Type 0) (part : Handle)
-    (so_far : Walked old text all now left numbers) (draws : DrawsFirst left (let result : Option (Result Handle E) = Some (Ok part) in result) next) where
-  to_come : filled_parts text.items left.rest ≡ with_filled part.items (filled_parts text.items next.rest)
-  to_come =
-      ap (filled_parts text.items) draws.1.1
-      ∙ ap (λ bytes. with_filled bytes (filled_parts text.items next.rest)) (sym (draws.1.3.items_are ∙ ap (λ (source : Handle). slice_range source.items draws.1.0.0 draws.1.0.1) so_far.source))
+module _ (old : List (List ℕ)) (text : List ℕ) (all : List (ℕ × ℕ)) (now : List (List ℕ)) (rest next : List (ℕ × ℕ)) (numbers : List ℕ) (range : ℕ × ℕ)
+    (so_far : Walked old text all now rest numbers) (first : rest ≡ range ∷ next) where
+  to_come : filled_parts text rest ≡ with_filled (slice_range text range.0 range.1) (filled_parts text next)
+  to_come = ap (filled_parts text) first
 
-  pub walked-on : (later : List (List ℕ)) (more : List ℕ) (number : ℕ) → (length part.items == 0) ≡ false → later ≡ interned now part.items → number_of part.items later ≡ Some number → more ≡ numbers ++ number ∷ []
-      → Walked old text all later next more
-  walked-on later more number filled is has pushed = rw (is, pushed) (record {
-    words = numbered-more old now (filled_parts text.items all) (filled_parts text.items left.rest) (filled_parts text.items next.rest) numbers part.items number so_far.words
-        (to_come ∙ word-first part.items (filled_parts text.items next.rest) filled) (rw (← is) has);
-    source = draws.0 ∙ so_far.source;
-    kept = kept-interned old now part.items so_far.kept;
+  pub walked-on : (later : List (List ℕ)) (more : List ℕ) (number : ℕ) → IsCut text range → range.0 < range.1 → later ≡ interned now (slice_range text range.0 range.1)
+      → number_of (slice_range text range.0 range.1) later ≡ Some number → more ≡ numbers ++ number ∷ [] → Walked old text all later next more
+  walked-on later more number cut some is has pushed = rw (is, pushed) (record {
+    words = numbered-more old now (filled_parts text all) (filled_parts text rest) (filled_parts text next) numbers (slice_range text range.0 range.1) number so_far.words
+        (to_come ∙ range-first text range (filled_parts text next) cut some) (rw (← is) has);
+    kept = kept-interned old now (slice_range text range.0 range.1) so_far.kept;
   })
 
-  pub walked-over : (length part.items == 0) ≡ true → Walked old text all now next numbers
-  walked-over empty = record {
-    words = subst (λ rest. Numbered old now (filled_parts text.items all) rest numbers) (to_come ∙ word-none part.items (filled_parts text.items next.rest) empty) so_far.words;
-    source = draws.0 ∙ so_far.source;
+  pub walked-over : range.1 ≤ range.0 → Walked old text all now next numbers
+  walked-over none = record {
+    words = subst (λ left. Numbered old now (filled_parts text all) left numbers) (to_come ∙ range-none text range (filled_parts text next) none) so_far.words;
     kept = so_far.kept;
   }
 
 -- all were drawn
-pub walked-all : (old : List (List ℕ)) (text : Handle) (all : List (ℕ × ℕ)) (now : List (List ℕ)) (left : Left) (numbers : List ℕ) → Walked old text all now left numbers → left.rest ≡ []
-    → AreNumbers now (filled_parts text.items all) numbers × (now ≡ all_interned old (filled_parts text.items all))
-walked-all old text all now left numbers so_far none =
-    numbered-all old now (filled_parts text.items all) numbers
-    (subst (λ (rest : List (ℕ × ℕ)). Numbered old now (filled_parts text.items all) (filled_parts text.items rest) numbers) none so_far.words)
+pub walked-all : (old : List (List ℕ)) (text : List ℕ) (all : List (ℕ × ℕ)) (now : List (List ℕ)) (rest : List (ℕ × ℕ)) (numbers : List ℕ) → Walked old text all now rest numbers → rest ≡ []
+    → AreNumbers now (filled_parts text all) numbers × (now ≡ all_interned old (filled_parts text all))
+walked-all old text all now rest numbers so_far none =
+    numbered-all old now (filled_parts text all) numbers
+    (subst (λ (left : List (ℕ × ℕ)). Numbered old now (filled_parts text all) (filled_parts text left) numbers) none so_far.words)

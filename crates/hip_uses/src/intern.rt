@@ -68,6 +68,13 @@ impl<'b, B: Backend> Interner<'b, B> {
         found(&self.numbers, text).copied()
     }
 
+    /// The same of a text that has no handle.
+    pub(crate) fn number_of(&self, text: &str) -> Option<u32>
+        ensures { result ≡ number_of text.now self.now }
+    {
+        found(&self.numbers, &HipStr::borrowed(text)).copied()
+    }
+
     /// The text of a number, if there is one.
     pub fn text(&self, number: u32) -> Option<&HipStr<'b, B>>
         ensures text { MatchOption result (length self.now ≤ number)

@@ -1,6 +1,7 @@
 //! Texts that get numbers.
 ghost use Rattle.std.specs.Prelude.{◌≡◌, ◌≤◌, ◌^◌, [], ◌∷◌, ◌++◌, length, true, None, Some};
-ghost use Rattle.std.specs.Prelude.{IfOk, IsErrOf, IsOk, IsSome, OnErr, OnOk};
+ghost use Rattle.std.specs.Prelude.{IfOk, IsErrOf, IsOk, IsSome, OnErr, OnOk, slice_range};
+ghost use Rattle.hipstr.specs.Occurrence.{IsCut};
 ghost use Rattle.hipstr.specs.Meter.{RisesAtMost};
 ghost use Rattle.hip_uses.specs.Number.{interned, number_of};
 ghost use Rattle.hip_uses.specs.declared.fault.InternFault.TheVariants.{TooMany};
@@ -52,10 +53,52 @@ impl<'b, B: Backend> Interner<'b, B> {
         if let Some(number) = self.find(&text) {
             return Ok(number);
         }
+        self.intern_new(alloc, text, meter)
+    }
+
+    /// The next number, for a text that has none.
+    fn intern_new(
+        &mut self,
+        alloc: Global,
+        text: HipStr<'b, B>,
+        meter: &mut Meter,
+    ) -> Result<u32, InternFault>
+        requires { number_of text.items self.now ≡ None }
+        ensures number { IfOk result (λ number.
+            number_of text.entry.items self.new ≡ Some number) }
+        ensures texts { OnOk result (self.new ≡ self.old ++ text.entry.items ∷ []) }
+        ensures refused { OnErr result (self.new ≡ self.old) }
+        ensures too_many { IsErrOf result TooMany → 2 ^ 32 ≤ length self.old }
+        ensures shared { B.SHARES ≡ true → RisesAtMost meter.old meter.new 23 }
+    {
         let Ok(number) = u32::try_from(self.len()) else {
             return Err(InternFault::TooMany);
         };
         self.add(alloc, text, number, meter)?;
         Ok(number)
+    }
+
+    /// The number of a part of a text, which is cut only where it has none.
+    pub(crate) fn intern_part(
+        &mut self,
+        alloc: Global,
+        text: &HipStr<'b, B>,
+        start: usize,
+        end: usize,
+    ) -> Result<u32, InternFault>
+        requires { IsCut text.now.items (start, end) }
+        ensures number { IfOk result (λ number.
+            number_of (slice_range text.now.items start end) self.new ≡ Some number) }
+        ensures texts { OnOk result
+            (self.new ≡ interned self.old (slice_range text.now.items start end)) }
+        ensures refused { OnErr result (self.new ≡ self.old) }
+        ensures too_many { IsErrOf result TooMany → 2 ^ 32 ≤ length self.old }
+    {
+        if let Some(number) = self.number_of(&text.as_str()[start..end]) {
+            return Ok(number);
+        }
+        let mut meter = Meter::new();
+        let part = text.part_metered(alloc, start, end, &mut meter)?;
+        self.intern_new(alloc, part, &mut meter)
     }
 }

@@ -4,13 +4,13 @@ ghost use Rattle.std.specs.Char.{IsScalar};
 ghost use Rattle.hipstr.specs.Answers.{answer_at};
 ghost use Rattle.hipstr.specs.Characters.{char_ends};
 ghost use Rattle.hip_uses.specs.Number.{AreNumbers, all_interned};
-ghost use Rattle.hip_uses.specs.Words.{is_gap, parts_between};
+ghost use Rattle.hip_uses.specs.Words.{filled_parts, is_gap, parts_between};
 ghost use Rattle.hip_uses.specs.declared.fault.InternFault.TheVariants.{TooMany};
 
 use crate::intern::{InternFault, Interner};
-use hipstr::pattern::{CharPred, Chosen, Pattern, choose_by};
-use hipstr::string::{HipStr, TextCuts};
-use hipstr::{Backend, Meter};
+use hipstr::Backend;
+use hipstr::pattern::{CharPred, Chosen, Pattern, Ranges, Split, choose_by};
+use hipstr::string::HipStr;
 use std::alloc::Global;
 
 /// Whether a character stands between words, as one of ASCII does that is no letter and no digit.
@@ -43,11 +43,29 @@ impl<'b, B: Backend> Interner<'b, B> {
         ensures kept { take (length self.old) self.new ≡ self.old }
         ensures too_many { IsErrOf result TooMany → 2 ^ 32 ≤ length self.new }
     {
+        self.intern_at(alloc, text, Split::new(text.as_str(), pattern))
+    }
+
+    /// The same of the parts at ranges of the text. A part is cut only where it has no number yet.
+    fn intern_at<I: Ranges + Drop>(
+        &mut self,
+        alloc: Global,
+        text: &HipStr<'b, B>,
+        mut ranges: I,
+    ) -> Result<Vec<u32>, InternFault>
+        requires ready { I.ready ranges }
+        requires text { I.text ranges ≡ text.now.items }
+        ensures numbers { IfOk result (λ numbers. AreNumbers self.new
+            (filled_parts text.now.items (I.rest ranges)) numbers.items) }
+        ensures texts { OnOk result (self.new
+            ≡ all_interned self.old (filled_parts text.now.items (I.rest ranges))) }
+        ensures kept { take (length self.old) self.new ≡ self.old }
+        ensures too_many { IsErrOf result TooMany → 2 ^ 32 ≤ length self.new }
+    {
         let mut numbers = Vec::new(alloc);
-        for part in text.split(alloc, pattern) {
-            let part = part?;
-            if !part.is_empty() {
-                numbers.push(self.intern(alloc, part, &mut Meter::new())?)?;
+        while let Some((start, end)) = ranges.next() {
+            if start < end {
+                numbers.push(self.intern_part(alloc, text, start, end)?)?;
             }
         }
         Ok(numbers)
