@@ -88,7 +88,7 @@ fn clones_of<'b, B: Backend>(
     ensures shared { B.SHARES ≡ true → RisesAtMost meter.old meter.new (23 * count) }
 {
     one_part_copies_little::<B>();
-    let mut clones = Vec::new(alloc);
+    let mut clones = Vec::with_capacity(alloc, count)?;
     while clones.len() < count {
         clones.push(message.clone_metered(alloc, meter)?)?;
     }
