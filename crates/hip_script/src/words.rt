@@ -4,6 +4,7 @@ ghost use Rattle.std.specs.Char.{digit_value};
 
 use crate::fault::LineFault;
 use crate::said::Span;
+use crate::verb::{VERBS, Verb, rows_of};
 use memchr::memchr;
 use std::ops::Bound;
 
@@ -28,7 +29,8 @@ impl<'l> Words<'l> {
     /// The next word.
     pub(crate) fn next(&mut self) -> Option<&'l [u8]> {
         let rest = self.rest?;
-        match memchr(b' ', rest) {
+        // Words are short, so a call of a search costs more than a look at each byte.
+        match rest.iter().position(|byte| *byte == b' ') {
             Some(at) => {
                 self.rest = Some(&rest[at + 1..]);
                 Some(&rest[..at])
@@ -40,6 +42,16 @@ impl<'l> Words<'l> {
         }
     }
 
+    /// The verb whose name is the next word.
+    pub(crate) fn verb(&mut self) -> Option<Verb> {
+        let word = self.next()?;
+        let (from, to) = rows_of(*word.first()?);
+        VERBS
+            .get(from..to)
+            .and_then(|rows| named(rows, word))
+            .or_else(|| named(VERBS, word))
+    }
+
     /// What the next word is the name of.
     pub(crate) fn one_of<T: Copy>(&mut self, names: &[(&'static str, T)]) -> Option<T> {
         named(names, self.next()?)
@@ -48,6 +60,12 @@ impl<'l> Words<'l> {
     /// The next word as a number.
     pub(crate) fn number(&mut self) -> Option<usize> {
         number(self.next()?)
+    }
+
+    /// The next two words as numbers.
+    pub(crate) fn two_numbers(&mut self) -> Option<(usize, usize)> {
+        let first = self.number()?;
+        Some((first, self.number()?))
     }
 
     /// The next word as a number that is at most 255.
