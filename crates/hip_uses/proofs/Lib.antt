@@ -1,3 +1,4 @@
+pub mod Holes
 pub mod Interned
 pub mod Little
 pub mod Published

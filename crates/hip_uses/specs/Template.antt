@@ -1,9 +1,10 @@
 -- What a template is, as it is written and as it is filled.
-use Rattle.std.specs.Prelude.{◌≡◌, ℕ, nat_eq, List, [], ◌∷◌, ◌++◌, Option, None, Some, Result, Ok, Err, IsSome, All, codes, if◌then◌else◌}
+use Rattle.std.specs.Prelude.{◌≡◌, ℕ, ◌+◌, nat_eq, List, [], ◌∷◌, ◌++◌, length, Option, None, Some, Result, Ok, Err, IsSome, All, codes, if◌then◌else◌}
 use Rattle.std.specs.List.{flat_map}
 use Rattle.std.specs.Map.{lookup}
 use Rattle.std.specs.Option.{option_map_or}
 use Rattle.std.specs.Cmp.Lexicographic.{pointwise}
+use Rattle.std.specs.Str.{IsUtf8}
 use Rattle.hipstr.specs.Handle.{Handle}
 use Rattle.hipstr.specs.Parted.{IsParted, Lacks}
 use Rattle.hip_uses.specs.Number.{bytes_of}
@@ -56,6 +57,18 @@ ParseFails template (Unclosed text) =
     (front : List ℕ) × (template ≡ front ++ (opening ++ text.items)) × Lacks closing text.items
 ParseFails template (Unknown name) = ⊥
 ParseFails template Memory = Unit {0}
+
+-- the text ends with these bytes
+abbrev pub IsEnd : List ℕ → List ℕ → Type 0
+IsEnd text rest = (front : List ℕ) × (text ≡ front ++ rest)
+
+-- the part stands in the text right before a place, from which on the text is UTF-8
+pub record LiesBefore (text part : List ℕ) (end : ℕ) : Type 0 where
+  pub front : List ℕ
+  pub back : List ℕ
+  pub joined : text ≡ front ++ (part ++ back)
+  pub end_is : end ≡ length front + length part
+  pub utf8 : IsUtf8 back
 
 -- the first hole of a text and what follows it, nothing where it has none, or why that can't be told
 abbrev pub FirstHole : {B S P : Type 0} → List ℕ → Result (Option (Hole B S P × Handle)) (TemplateFault B S P) → Type 0

@@ -1,14 +1,14 @@
 //! Templates: `{{name}}` in a text stands for what goes under that name.
-ghost use Rattle.std.specs.Prelude.{◌≡◌, ◌++◌, IfErr, IfOk};
+ghost use Rattle.std.specs.Prelude.{◌≡◌, ◌++◌, IfErr, IfOk, IsTrue};
 ghost use Rattle.hipstr.specs.Trimmed.{PartedAs};
-ghost use Rattle.hip_uses.specs.Template.{FirstHole, IsParsed, ParseFails, written};
+ghost use Rattle.hip_uses.specs.Template.{FirstHole, IsEnd, IsParsed, LiesBefore, ParseFails, written};
 
 pub use crate::fault::TemplateFault;
 pub use crate::template::filling::fill;
 pub use crate::template::values::Values;
-use hipstr::Backend;
 use hipstr::laws::split_once_parts_at_the_first;
 use hipstr::string::{HipStr, TextCuts};
+use hipstr::{Backend, Meter};
 use std::alloc::{AllocError, Global};
 
 mod filling;
@@ -41,20 +41,60 @@ fn parted<'b, B: Backend>(
     text.split_once(alloc, separator)
 }
 
-/// The first hole of a text and what follows it, if there is one.
-fn first_hole<'b, B: Backend>(
+/// A part of a template, which lies before this place, as a part of it.
+fn part_before<'b, B: Backend>(
     alloc: Global,
-    text: &HipStr<'b, B>,
-) -> Result<Option<(Hole<'b, B>, HipStr<'b, B>)>, TemplateFault<'b, B>>
-    ensures { FirstHole text.now.items result }
+    template: &HipStr<'b, B>,
+    part: &str,
+    end: usize,
+) -> Result<HipStr<'b, B>, AllocError>
+    requires { LiesBefore template.now.items part.now end }
+    ensures { IfOk result (λ made. made.items ≡ part.now) }
 {
-    let Some((before, behind)) = parted(alloc, text, "{{")? else {
+    template.part_metered(alloc, end - part.len(), end, &mut Meter::new())
+}
+
+/// The first hole in the end of a template, and what follows it, if there is one. That end is lent, so that nothing but the parts
+/// that stay is cut of the template.
+fn first_hole<'b, 'h, B: Backend>(
+    alloc: Global,
+    template: &HipStr<'b, B>,
+    rest: &HipStr<'h, B>,
+) -> Result<Option<(Hole<'b, B>, HipStr<'h, B>)>, TemplateFault<'b, B>>
+    requires { IsEnd template.now.items rest.now.items }
+    ensures { FirstHole rest.now.items result }
+{
+    let Some((before, behind)) = parted(alloc, rest, "{{")? else {
         return Ok(None);
     };
-    match parted(alloc, &behind, "}}")? {
-        Some((name, after)) => Ok(Some((Hole { before, name }, after))),
-        None => Err(TemplateFault::Unclosed(behind)),
+    let Some((name, after)) = parted(alloc, &behind, "}}")? else {
+        let behind = part_before(alloc, template, behind.as_str(), template.len())?;
+        return Err(TemplateFault::Unclosed(behind));
+    };
+    let open = template.len() - behind.as_str().len() - 2;
+    let close = template.len() - after.as_str().len() - 2;
+    let hole = Hole {
+        before: part_before(alloc, template, before.as_str(), open)?,
+        name: part_before(alloc, template, name.as_str(), close)?,
+    };
+    Ok(Some((hole, after)))
+}
+
+/// What lies behind the last hole: the template's end, or all of it where there is no hole.
+fn last_part<'b, B: Backend>(
+    alloc: Global,
+    template: &HipStr<'b, B>,
+    rest: &str,
+    is_whole: bool,
+) -> Result<HipStr<'b, B>, AllocError>
+    requires end { IsEnd template.now.items rest.now }
+    requires whole { IsTrue is_whole → template.now.items ≡ rest.now }
+    ensures { IfOk result (λ made. made.items ≡ rest.now) }
+{
+    if is_whole {
+        return template.clone(alloc);
     }
+    part_before(alloc, template, rest, template.len())
 }
 
 /// Cuts a template at its holes, the leftmost first.
@@ -69,10 +109,11 @@ pub fn parse<'b, B: Backend>(
     ensures fault { IfErr result (ParseFails template.now.items) }
 {
     let mut holes = Vec::new(alloc);
-    let mut rest = template.clone(alloc)?;
-    while let Some((hole, after)) = first_hole(alloc, &rest)? {
+    let mut rest = HipStr::borrowed(template.as_str());
+    while let Some((hole, after)) = first_hole(alloc, template, &rest)? {
         holes.push(hole)?;
         rest = after;
     }
+    let rest = last_part(alloc, template, rest.as_str(), holes.is_empty())?;
     Ok(Template { holes, rest })
 }

@@ -1,4 +1,4 @@
-use Rattle.std.proofs.Common.{List, [], Option, Ok, subst, refl}
+use Rattle.std.proofs.Common.{◌∙◌, ℕ, List, [], Option, Ok, subst, sym, refl}
 use Rattle.std.proofs.lemmas.List.{append-nil}
 use Rattle.hipstr.specs.Handle.{Handle}
 use Rattle.hipstr.specs.Parted.{Lacks}
@@ -9,7 +9,7 @@ use Rattle.hip_uses.proofs.template.parse.Goals as goal
 
 pub returns-in_err-hole-clause-fault : goal.returns-in_err-hole-clause-fault
 returns-in_err-hole-clause-fault g c =
-    handed_on (ParseFails c.args.template.now.items) c.from_residual-in_err-hole.result c.in_err-hole.field-0.0 c.from_residual-in_err-hole.ensures.1
+    handed_on (ParseFails c.args.template.now.items) c.from_residual.result c.in_err-hole.field-0.0 c.from_residual.ensures.1
     (fails-more (written c.loop-rest.holes.items) c.loop-rest.rest.items c.args.template.now.items c.in_err-hole.field-0.0 c.loop-rest.invariant.written c.in_err-hole.ensures)
 
 pub returns-clause-parsed : goal.returns-clause-parsed
@@ -17,7 +17,8 @@ returns-clause-parsed g c =
     let AHole : Type 0 = Hole g.row.B.Denot g.row.B-Sole.Denot g.row.B-Start.Denot in
     let rest = c.loop-rest.rest.items in
     let lacks : Lacks opening rest = subst (λ (found : Option (AHole × Handle)). FirstHole rest (Ok found)) c.in_default.is c.in_ok-hole.ensures in
-    subst (λ (holes : List AHole). IsParsed c.args.template.now.items holes rest) (append-nil c.loop-rest.holes.items) (c.loop-rest.invariant.parsed [] rest (refl, lacks))
+    subst (λ (last : List ℕ). IsParsed c.args.template.now.items c.loop-rest.holes.items last) (sym (c.in_ok-rest.ensures ∙ c.as_str-2.ensures.items))
+    (subst (λ (holes : List AHole). IsParsed c.args.template.now.items holes rest) (append-nil c.loop-rest.holes.items) (c.loop-rest.invariant.parsed [] rest (refl, lacks)))
 
 pub loop-rest-smaller : goal.loop-rest-smaller
 loop-rest-smaller g c =
