@@ -1,9 +1,11 @@
 pub mod Holes
 pub mod Interned
+pub mod LaneLemmas
 pub mod Little
 pub mod Published
 pub mod Pushed
 pub mod Runs
 pub mod Tables
 pub mod Templates
+pub mod TurnLemmas
 pub mod Words

@@ -2,5 +2,6 @@ pub mod Cells
 pub mod Number
 pub mod Template
 pub mod Token
+pub mod Turns
 pub mod Waiting
 pub mod Words

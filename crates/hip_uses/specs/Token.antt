@@ -1,5 +1,5 @@
 -- What a token is of its source.
-use Rattle.std.specs.Prelude.{◌≡◌, ◌≢◌, ℕ, ◌+◌, ◌<◌, ◌≤◌, ◌==◌, ◌||◌, nat_le, List, length, slice_index, slice_range, if◌then◌else◌}
+use Rattle.std.specs.Prelude.{◌≡◌, ◌≢◌, ℕ, ◌+◌, ◌<◌, ◌≤◌, ◌==◌, ◌||◌, nat_le, Bool, List, length, slice_index, slice_range, if◌then◌else◌}
 use Rattle.std.specs.Char.{is_ascii_alphabetic, is_ascii_digit, is_ascii_whitespace}
 use Rattle.hipstr.specs.Handle.{Handle}
 use Rattle.hipstr.specs.Made.{IsPart}
@@ -12,6 +12,13 @@ abbrev pub class_of : ℕ → Class
 class_of byte =
     if nat_le 128 byte || (is_ascii_alphabetic byte || byte == 95) then Word
     else (if is_ascii_digit byte then Digits else (if is_ascii_whitespace byte then Space else Mark))
+
+-- a byte of a word or a digit, and one of a word or white space: these two tell the class
+abbrev pub is_word_or_digit : ℕ → Bool
+is_word_or_digit byte = nat_le 128 byte || (is_ascii_alphabetic byte || byte == 95) || is_ascii_digit byte
+
+abbrev pub is_word_or_space : ℕ → Bool
+is_word_or_space byte = nat_le 128 byte || (is_ascii_alphabetic byte || byte == 95) || is_ascii_whitespace byte
 
 -- from `start` up to `end` the bytes are of one class, and the next is of another
 pub record IsRun (bytes : List ℕ) (class : Class) (start end : ℕ) : Type 0 where

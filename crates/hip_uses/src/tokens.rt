@@ -1,15 +1,19 @@
 //! Tokens: a source is cut into the longest runs of one class, each a part of the source at its place.
-ghost use Rattle.std.specs.Prelude.{◌≡◌, ◌↔◌, ◌*◌, ◌<◌, length, slice_index, true};
+ghost use Rattle.std.specs.Prelude.{◌≡◌, ℕ, ◌↔◌, ◌*◌, ◌<◌, ◌≤◌, length, slice_index, true};
 ghost use Rattle.std.specs.Prelude.{All, IfOk, IsTrue};
 ghost use Rattle.std.specs.List.{flat_map};
 ghost use Rattle.std.specs.Str.{IsCharBoundary};
 ghost use Rattle.hipstr.specs.Meter.{RisesAtMost};
 ghost use Rattle.hip_uses.specs.Token.{IsRun, IsTokenOf, bytes_of, class_of};
+ghost use Rattle.hip_uses.specs.Turns.{Ahead};
 
+use crate::tokens::turns::Turns;
 use hipstr::laws::one_part_copies_little;
 use hipstr::string::HipStr;
 use hipstr::{Backend, Meter};
 use std::alloc::{AllocError, Global};
+
+mod turns;
 
 /// What stands together. A character that isn't ASCII belongs to a word.
 #[derive(Clone, Copy, Debug, PartialEq, Eq)]
@@ -61,19 +65,37 @@ fn is_of(byte: u8, class: Class) -> bool
     class_of(byte) == class
 }
 
-/// Where the run that begins at `start` ends.
-fn run_end(text: &str, start: usize, class: Class) -> usize
-    requires bound { start < length text.now }
-    requires class { class_of (slice_index text.now start) ≡ class }
+/// Where the run that begins at `start` ends, whose bytes up to `from` are of its class.
+fn run_end(text: &str, start: usize, from: usize, class: Class) -> usize
+    requires bound { (start < from) × (from ≤ length text.now) }
+    requires class { (k : ℕ) → start ≤ k → k < from
+        → class_of (slice_index text.now k) ≡ class }
     ensures run { IsRun text.now class start result }
     ensures boundary { IsCharBoundary text.now result }
+    ensures behind { from ≤ result }
 {
     let bytes = text.as_bytes();
-    let mut end = start + 1;
+    let mut end = from;
     while end < bytes.len() && is_of(bytes[end], class) {
         end += 1;
     }
     end
+}
+
+/// The same by the ends of runs that are found many at a time, as far as they can be.
+#[inline(always)]
+fn next_end(text: &str, start: usize, class: Class, turns: &mut Turns) -> usize
+    requires bound { start < length text.now }
+    requires class { class_of (slice_index text.now start) ≡ class }
+    requires ahead { Ahead text.now start turns.old.upto turns.old.turns }
+    ensures run { IsRun text.now class start result }
+    ensures boundary { IsCharBoundary text.now result }
+    ensures ahead { Ahead text.now result turns.new.upto turns.new.turns }
+{
+    match turns.next(text.as_bytes(), start) {
+        Some(last) => last + 1,
+        None => run_end(text, start, turns.upto().max(start + 1), class),
+    }
 }
 
 /// The tokens of a source. Where owners are shared, each copies at most the 23 bytes that a handle
@@ -90,11 +112,12 @@ pub fn tokens<'b, B: Backend>(
 {
     one_part_copies_little::<B>();
     let whole = source.as_str();
+    let mut turns = Turns::new(whole.as_bytes());
     let mut tokens = Vec::new(alloc);
     let mut start = 0;
     while start < whole.len() {
         let class = class_of(whole.as_bytes()[start]);
-        let end = run_end(whole, start, class);
+        let end = next_end(whole, start, class, &mut turns);
         let text = source.part_metered(alloc, start, end, meter)?;
         tokens.push(Token { class, start, text })?;
         start = end;

@@ -1,0 +1,197 @@
+-- Bits that tell where runs of a class end.
+use Rattle.std.proofs.Common.{◌≡◌, ◌∙◌, ◌≢◌, ℕ, zero, suc, ◌+◌, ◌-◌, ◌*◌, ◌%◌, ◌/◌, ◌^◌, ◌<◌, ◌≤◌, min, max, Bool, true, false, cond, List, map, length, get_or, bit_and, bit_or, ap, sym, subst, refl, arith, ⊎_elim}
+use Rattle.std.proofs.Math.Nat.{mod-eq_of_lt}
+use Rattle.std.proofs.Math.Pow.{pow-lt}
+use Rattle.std.proofs.lemmas.Bool.{cases_lt}
+use Rattle.std.proofs.lemmas.List.FromFn.{get_or-map-range_with_len}
+use Rattle.std.proofs.lemmas.Nat.Bits.{bit_at-lt, bit_at-suc, bit_at-zero, bit_at_above, bit_at_and, bit_at_ones, bit_at_ones_above, bit_at_or, bit_at_xor, bit_at-pow_same, bit_at-pow_other, bit_at-trailing_zeros}
+use Rattle.std.specs.Int.{bit_at, trailing_zeros, w64}
+use Rattle.std.specs.Int.Bits.{bit_xor}
+use Rattle.std.specs.List.{range_with_len}
+use Rattle.hip_uses.specs.declared.tokens.Class.{Class}
+use Rattle.hip_uses.specs.declared.tokens.Class.TheVariants.{Word, Digits, Space, Mark}
+use Rattle.hip_uses.specs.Token.{IsRun, class_of, is_word_or_digit, is_word_or_space}
+use Rattle.hip_uses.specs.Turns.{Ahead, AreMarks, AreTurns, IsNextTurn, IsTail, NoTurn, NoTurnAt, Tells}
+
+-- the class by two tests
+abbrev of_two : Bool → Bool → Class
+of_two true true = Word
+of_two true false = Digits
+of_two false true = Space
+of_two false false = Mark
+
+by_two : ℕ → Class
+by_two byte = of_two (is_word_or_digit byte) (is_word_or_space byte)
+
+same_classes : map by_two (range_with_len 0 256) ≡ map class_of (range_with_len 0 256)
+unfolding by_two
+same_classes = refl
+
+class_by_two : (byte : ℕ) → byte < 256 → of_two (is_word_or_digit byte) (is_word_or_space byte) ≡ class_of byte
+unfolding by_two
+class_by_two byte low =
+    sym (get_or-map-range_with_len by_two 0 256 byte byte Mark low (omega arith))
+    ∙ ap (λ (l : List Class). get_or l byte Mark) same_classes
+    ∙ get_or-map-range_with_len class_of 0 256 byte byte Mark low (omega arith)
+
+told : (p q p' q' : Bool) (bit : ℕ) → bit ≡ min (max ((cond p 1 0 + cond p' 1 0) % 2) ((cond q 1 0 + cond q' 1 0) % 2)) 1
+    → (bit ≡ 0 → of_two p q ≡ of_two p' q') × (bit ≡ 1 → of_two p q ≢ of_two p' q')
+told true true true true bit is = (λ zero. refl, λ one. absurd (omega (arith, is, one)))
+told true true true false bit is = (λ zero. absurd (omega (arith, is, zero)), λ one same. cc)
+told true true false true bit is = (λ zero. absurd (omega (arith, is, zero)), λ one same. cc)
+told true true false false bit is = (λ zero. absurd (omega (arith, is, zero)), λ one same. cc)
+told true false true true bit is = (λ zero. absurd (omega (arith, is, zero)), λ one same. cc)
+told true false true false bit is = (λ zero. refl, λ one. absurd (omega (arith, is, one)))
+told true false false true bit is = (λ zero. absurd (omega (arith, is, zero)), λ one same. cc)
+told true false false false bit is = (λ zero. absurd (omega (arith, is, zero)), λ one same. cc)
+told false true true true bit is = (λ zero. absurd (omega (arith, is, zero)), λ one same. cc)
+told false true true false bit is = (λ zero. absurd (omega (arith, is, zero)), λ one same. cc)
+told false true false true bit is = (λ zero. refl, λ one. absurd (omega (arith, is, one)))
+told false true false false bit is = (λ zero. absurd (omega (arith, is, zero)), λ one same. cc)
+told false false true true bit is = (λ zero. absurd (omega (arith, is, zero)), λ one same. cc)
+told false false true false bit is = (λ zero. absurd (omega (arith, is, zero)), λ one same. cc)
+told false false false true bit is = (λ zero. absurd (omega (arith, is, zero)), λ one same. cc)
+told false false false false bit is = (λ zero. refl, λ one. absurd (omega (arith, is, one)))
+
+-- the bit at k of what two numbers of marks give
+two_marks : (m n k : ℕ) → k < 63 → bit_at (bit_and (bit_or (bit_xor m (m / 2)) (bit_xor n (n / 2))) (2 ^ 63 - 1)) k
+    ≡ min (max ((bit_at m k + bit_at m (suc k)) % 2) ((bit_at n k + bit_at n (suc k)) % 2)) 1
+two_marks m n k low =
+    bit_at_and (bit_or (bit_xor m (m / 2)) (bit_xor n (n / 2))) (2 ^ 63 - 1) k
+    ∙ (λ i. min (bit_at_or (bit_xor m (m / 2)) (bit_xor n (n / 2)) k i) (bit_at_ones 63 k low i))
+    ∙ (λ i. min (max (one m i) (one n i)) 1)
+  where
+    one : (m : ℕ) → bit_at (bit_xor m (m / 2)) k ≡ (bit_at m k + bit_at m (suc k)) % 2
+    one m = bit_at_xor m (m / 2) k ∙ ap (λ b. (bit_at m k + b) % 2) (sym (bit_at-suc m k))
+
+pub turns-told : (t : List ℕ) (at m n : ℕ) → ((k : ℕ) → get_or t k 0 < 256) → AreMarks is_word_or_digit t at m → AreMarks is_word_or_space t at n
+    → AreTurns t at (bit_and (bit_or (bit_xor m (m / 2)) (bit_xor n (n / 2))) (2 ^ 63 - 1))
+turns-told t at m n bytes digits spaces k low =
+    let here = get_or t (at + k) 0 in
+    let next = get_or t (at + k + 1) 0 in
+    let place : at + suc k ≡ at + k + 1 = omega arith in
+    let both = told (is_word_or_digit here) (is_word_or_space here) (is_word_or_digit next) (is_word_or_space next) _
+    (two_marks m n k low
+    ∙ (λ i. min (max ((digits k (omega arith) i + (digits (suc k) (omega arith) ∙ ap (λ j. cond (is_word_or_digit (get_or t j 0)) 1 0) place) i) % 2)
+    ((spaces k (omega arith) i + (spaces (suc k) (omega arith) ∙ ap (λ j. cond (is_word_or_space (get_or t j 0)) 1 0) place) i) % 2)) 1)) in
+    let here_is = class_by_two here (bytes (at + k)) in
+    let next_is = class_by_two next (bytes (at + k + 1)) in
+    (λ zero. sym here_is ∙ both.0 zero ∙ next_is, λ one same. both.1 one (here_is ∙ same ∙ sym next_is))
+
+pub turns-few : (a k : ℕ) → 63 ≤ k → bit_at (bit_and a (2 ^ 63 - 1)) k ≡ 0
+turns-few a k high = bit_at_and a (2 ^ 63 - 1) k ∙ omega (arith, bit_at_ones_above 63 k high)
+
+-- a bit by itself
+pub one_bit : (r : ℕ) → r < 64 → 1 * 2 ^ r % 2 ^ 64 ≡ 2 ^ r
+one_bit r low = ap (λ x. x % 2 ^ 64) (omega arith) ∙ mod-eq_of_lt (pow-lt low)
+
+xor_same : (m r : ℕ) → bit_at m r ≡ 1 → bit_at (bit_xor m (2 ^ r)) r ≡ 0
+xor_same m r one = bit_at_xor m (2 ^ r) r ∙ omega (arith, one, bit_at-pow_same r)
+
+xor_other : (m r k : ℕ) → k ≢ r → bit_at (bit_xor m (2 ^ r)) k ≡ bit_at m k
+xor_other m r k apart = bit_at_xor m (2 ^ r) k ∙ omega (arith, bit_at-pow_other r k apart, bit_at-lt m k)
+
+module _ (t : List ℕ) (from upto m : ℕ) (h : Ahead t from upto m) where
+  pub none-ahead : m ≡ 0 → NoTurn t from upto
+  none-ahead none k lo hi =
+      ⊎_elim (λ (before : k + 63 < upto). h.between k lo before)
+      (λ (ge : upto ≤ k + 63). (h.left k lo hi ge).0 (ap (λ x. bit_at x (k + 63 - upto)) none ∙ bit_at-zero (k + 63 - upto)))
+      (cases_lt (k + 63) upto)
+
+  pub ahead-more : (n : ℕ) → m ≡ 0 → upto + 64 ≤ length t → AreTurns t upto n → ((k : ℕ) → 63 ≤ k → bit_at n k ≡ 0) → Ahead t from (upto + 63) n
+  ahead-more n none room turns few = record {
+    within = omega arith;
+    inside = λ some. omega arith;
+    full = λ some. omega arith;
+    reached = λ more. (let reached = h.reached room in omega arith);
+    few = few;
+    between = λ k lo hi. none-ahead none k lo (omega arith);
+    taken = λ j low. (let reached = h.reached room in absurd (omega arith));
+    left = λ k lo hi ge.
+        let j = k - upto in
+        let place : upto + j ≡ k = omega arith in
+        let index : j ≡ k + 63 - (upto + 63) = omega arith in
+        subst (λ i. Tells t k (bit_at n i)) index (subst (λ i. Tells t i (bit_at n j)) place (turns j (omega arith)));
+  }
+
+  pub turn-found : 0 < m → m < 2 ^ 64 → (trailing_zeros w64 m < 63) × (63 ≤ upto) × IsNextTurn t from (upto - 63 + trailing_zeros w64 m)
+      × Ahead t (upto - 63 + trailing_zeros w64 m + 1) upto (bit_xor m (2 ^ trailing_zeros w64 m))
+  turn-found some fits =
+      let r = trailing_zeros w64 m in
+      let first = bit_at-trailing_zeros w64 m some fits in
+      let low : r < 63 = ⊎_elim (λ (lt : r < 63). lt) (λ (ge : 63 ≤ r). absurd (omega (arith, first.1, h.few r ge))) (cases_lt r 63) in
+      let full = h.full some in
+      let inside = h.inside (omega (arith, full)) in
+      let at = upto - 63 + r in
+      let after : from ≤ at = ⊎_elim (λ (lt : r + upto < from + 63). absurd (omega (arith, first.1, h.taken r lt))) (λ (ge : from + 63 ≤ r + upto). omega (arith, ge, full)) (cases_lt (r + upto) (from + 63)) in
+      let index : at + 63 - upto ≡ r = omega (arith, full) in
+      let told_ : Tells t at (bit_at m r) = subst (λ i. Tells t at (bit_at m i)) index (h.left at after (omega (arith, full, low)) (omega (arith, full))) in
+      let before : NoTurn t from at = λ k lo hi. ⊎_elim (λ (gone : k + 63 < upto). h.between k lo gone)
+      (λ (ge : upto ≤ k + 63). (h.left k lo (omega (arith, full, low)) ge).0 (first.2 (k + 63 - upto) (omega (arith, full))))
+      (cases_lt (k + 63) upto) in (
+        low,
+        full,
+        record { after = after; within = omega (arith, full, low, inside); is = told_.1 first.1; first = before },
+        record {
+          within = h.within;
+          inside = h.inside;
+          full = λ more. full;
+          reached = λ more. omega (arith, full, low);
+          few = λ j high. xor_other m r j (λ e. omega (arith, e, low, high)) ∙ h.few j high;
+          between = λ k lo hi. absurd (omega (arith, full));
+          taken = λ j lo. ⊎_elim (λ (lt : j < r). xor_other m r j (λ e. omega (arith, e, lt)) ∙ first.2 j lt)
+              (λ (ge : r ≤ j). let same : j ≡ r = omega (arith, full) in ap (bit_at (bit_xor m (2 ^ r))) same ∙ xor_same m r first.1)
+              (cases_lt j r);
+          left = λ k lo hi ge.
+              let apart : k + 63 - upto ≢ r = λ e. omega (arith, full, e) in
+              subst (Tells t k) (sym (xor_other m r (k + 63 - upto) apart)) (h.left k (omega (arith, after)) hi ge);
+        },
+      )
+
+pub ahead-new : (t : List ℕ) → Ahead t 0 0 0
+ahead-new t = record {
+  within = omega arith;
+  inside = λ some. absurd (omega arith);
+  full = λ some. absurd (omega arith);
+  reached = λ room. omega arith;
+  few = λ j high. bit_at-zero j;
+  between = λ k lo hi. absurd (omega arith);
+  taken = λ j low. bit_at-zero j;
+  left = λ k lo hi. absurd (omega arith);
+}
+
+-- behind the end of a run in the tail of a text
+pub ahead-tail : (t : List ℕ) (from upto turns end : ℕ) → Ahead t from upto turns → IsTail t from upto turns → upto ≤ end → Ahead t end upto turns
+ahead-tail t from upto turns end h tail past = record {
+  within = h.within;
+  inside = h.inside;
+  full = h.full;
+  reached = λ room. (let short = tail.short in absurd (omega arith));
+  few = h.few;
+  between = λ k lo hi. absurd (omega arith);
+  taken = λ j low. ap (λ x. bit_at x j) tail.taken ∙ bit_at-zero j;
+  left = λ k lo hi. absurd (omega arith);
+}
+
+-- where no turn lies, all bytes are of one class
+pub one-class : (t : List ℕ) (from k : ℕ) → from ≤ k → NoTurn t from k → class_of (get_or t k 0) ≡ class_of (get_or t from 0)
+one-class t from zero le none = let same : zero ≡ from = omega arith in ap (λ i. class_of (get_or t i 0)) same
+one-class t from (suc k) le none =
+    ⊎_elim
+    (λ (lt : from < suc k).
+    let place : k + 1 ≡ suc k = omega arith in
+    ap (λ i. class_of (get_or t i 0)) (sym place) ∙ sym (none k (omega arith) (omega arith)) ∙ one-class t from k (omega arith) (λ j lo hi. none j lo (omega arith)))
+    (λ (ge : suc k ≤ from). let same : suc k ≡ from = omega arith in ap (λ i. class_of (get_or t i 0)) same)
+    (cases_lt from (suc k))
+
+-- up to a turn
+pub run-to-turn : (t : List ℕ) (class : Class) (start at : ℕ) → class_of (get_or t start 0) ≡ class → IsNextTurn t start at → IsRun t class start (at + 1)
+run-to-turn t class start at is next =
+    let after = next.after in
+    let same : (k : ℕ) → start ≤ k → k ≤ at → class_of (get_or t k 0) ≡ class = λ k lo hi. one-class t start k lo (λ j low high. next.first j low (omega arith)) ∙ is in
+    record {
+      filled = omega arith;
+      within = (let within = next.within in omega arith);
+      one_class = λ k lo hi. same k lo (omega arith);
+      longest = λ lt other. next.is (same at after (omega arith) ∙ sym other);
+    }
