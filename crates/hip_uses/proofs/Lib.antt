@@ -1,3 +1,4 @@
+pub mod Gaps
 pub mod Holes
 pub mod Interned
 pub mod LaneLemmas

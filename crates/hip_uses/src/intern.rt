@@ -14,6 +14,7 @@ use std::collections::HashMap;
 use std::marker::Model;
 
 mod adding;
+mod gaps;
 pub mod words;
 
 /// The different texts, in the order in which they came.

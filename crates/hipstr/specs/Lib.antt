@@ -35,6 +35,7 @@ pub use Rattle.hip_bytes.specs.Transfer
 pub use Rattle.hip_text.specs.BorshText
 pub use Rattle.hip_names.specs.JsonPath
 pub use Rattle.hip_match.specs.Answers
+pub use Rattle.hip_match.specs.CharLaws
 pub use Rattle.hip_match.specs.Characters
 pub use Rattle.hip_match.specs.Clones
 pub use Rattle.hip_match.specs.Draw

@@ -1,31 +1,16 @@
 //! The numbers of the words of a text.
-ghost use Rattle.std.specs.Prelude.{◌≡◌, ◌≤◌, ◌^◌, ℕ, IfOk, IsErrOf, OnOk, length, take};
-ghost use Rattle.std.specs.Char.{IsScalar};
-ghost use Rattle.hipstr.specs.Answers.{answer_at};
+ghost use Rattle.std.specs.Prelude.{◌≡◌, ◌≤◌, ◌^◌, IfOk, IsErrOf, OnOk, length, take};
 ghost use Rattle.hipstr.specs.Characters.{char_ends};
 ghost use Rattle.hip_uses.specs.Number.{AreNumbers, all_interned};
 ghost use Rattle.hip_uses.specs.Words.{filled_parts, is_gap, parts_between};
 ghost use Rattle.hip_uses.specs.declared.fault.InternFault.TheVariants.{TooMany};
 
+use crate::intern::gaps::Gaps;
 use crate::intern::{InternFault, Interner};
 use hipstr::Backend;
-use hipstr::pattern::{CharPred, Chosen, Pattern, Ranges, Split, choose_by};
+use hipstr::pattern::{Pattern, Ranges, Split};
 use hipstr::string::HipStr;
 use std::alloc::Global;
-
-/// Whether a character stands between words, as one of ASCII does that is no letter and no digit.
-fn is_gap(c: char) -> bool
-    ensures { result ≡ is_gap c }
-{
-    c.is_ascii() && !c.is_ascii_alphanumeric()
-}
-
-/// That gaps pass.
-fn chosen_gaps() -> Chosen
-    ensures { (c : ℕ) → IsScalar c → answer_at result.answers c ≡ is_gap c }
-{
-    choose_by(&())
-}
 
 impl<'b, B: Backend> Interner<'b, B> {
     /// The numbers of the parts of a text between the occurrences of a pattern that aren't empty.
@@ -84,7 +69,6 @@ impl<'b, B: Backend> Interner<'b, B> {
         ensures kept { take (length self.old) self.new ≡ self.old }
         ensures too_many { IsErrOf result TooMany → 2 ^ 32 ≤ length self.new }
     {
-        let gap = CharPred::with(|c| is_gap(c), chosen_gaps());
-        self.intern_parts(alloc, text, gap)
+        self.intern_parts(alloc, text, Gaps)
     }
 }
