@@ -14,5 +14,6 @@
 mod all;
 mod line;
 pub mod reader;
+mod separator;
 
 pub use all::{records, records_metered};

@@ -3,9 +3,11 @@ ghost use Rattle.std.specs.Prelude.{◌≡◌, slice_range, IfOk};
 ghost use Rattle.hip_text.specs.Meter.{RisesAtMost};
 ghost use Rattle.hip_match.specs.Joined.{parts};
 ghost use Rattle.hip_match.specs.Occurrence.{IsCut};
-ghost use Rattle.hip_fields.specs.Records.{AreFields, fields_cost};
+ghost use Rattle.hip_fields.specs.Records.{AreFields, fields_cost, fields_of};
 
+use crate::separator::Separator;
 use hip_cuts::hip_match::ranges::Ranges;
+use hip_cuts::hip_match::split::Split;
 use hip_cuts::{Backend, HipStr, Meter};
 use hip_text::laws::slice_of_slice;
 use std::alloc::{AllocError, Global};
@@ -34,4 +36,43 @@ pub(crate) fn fields_at<'b, B: Backend, I: Ranges + Drop>(
         fields.push(source.part_metered(alloc, start + from, start + to, meter)?)?;
     }
     Ok(fields)
+}
+
+/// The fields of the line that lies from `start` up to `end`, in a vector with room for `room` at least.
+pub(crate) fn fields_between<'b, B: Backend>(
+    alloc: Global,
+    source: &HipStr<'b, B>,
+    start: usize,
+    end: usize,
+    separator: char,
+    room: usize,
+    meter: &mut Meter,
+) -> Result<Vec<HipStr<'b, B>>, AllocError>
+    requires cut { IsCut source.now.items (start, end) }
+    ensures fields { IfOk result (λ fields.
+        AreFields source.now (fields_of separator (slice_range source.now.items start end)) fields.items) }
+    ensures counted { RisesAtMost meter.old meter.new
+        (fields_cost B.SHARES source.now.kind (fields_of separator (slice_range source.now.items start end))) }
+{
+    let line = &source.as_str()[start..end];
+    match Separator::of(separator) {
+        Some(near) => fields_at(
+            alloc,
+            source,
+            start,
+            end,
+            Split::new(line, near),
+            room,
+            meter,
+        ),
+        None => fields_at(
+            alloc,
+            source,
+            start,
+            end,
+            Split::new(line, separator),
+            room,
+            meter,
+        ),
+    }
 }

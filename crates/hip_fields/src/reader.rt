@@ -5,10 +5,9 @@ ghost use Rattle.hip_match.specs.Joined.{parts};
 ghost use Rattle.hip_fields.specs.Records.{AreRecords, FirstRecord, FirstRecordCosts};
 ghost use Rattle.hip_fields.specs.Records.{fields_of, records_cost, records_of};
 
-use crate::line::fields_at;
+use crate::line::fields_between;
 use hip_cuts::hip_match::lines::Lines;
 use hip_cuts::hip_match::ranges::Ranges;
-use hip_cuts::hip_match::split::Split;
 use hip_cuts::{Backend, HipStr, Meter, Source};
 use std::alloc::{AllocError, Global};
 use std::marker::Model;
@@ -91,8 +90,15 @@ impl<'h, 'b, B: Backend, I: Ranges + Drop> Records<'h, HipStr<'b, B>, I> {
         ensures source { self.new.source ≡ self.old.source }
     {
         let (start, end) = self.lines.next()?;
-        let fields = Split::new(&self.source.as_str()[start..end], self.separator);
-        let drawn = fields_at(alloc, self.source, start, end, fields, self.room, meter);
+        let drawn = fields_between(
+            alloc,
+            self.source,
+            start,
+            end,
+            self.separator,
+            self.room,
+            meter,
+        );
         self.room = count_of(&drawn);
         Some(drawn)
     }
