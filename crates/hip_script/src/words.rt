@@ -1,5 +1,5 @@
 //! The words of a line, with one space between two, and what single words say.
-ghost use Rattle.std.specs.Prelude.{◌<◌, length, IfSome, SomeIff};
+ghost use Rattle.std.specs.Prelude.{◌<◌, ◌≤◌, length, IfSome, SomeIff};
 ghost use Rattle.std.specs.Char.{digit_value};
 
 use crate::fault::LineFault;
@@ -7,6 +7,9 @@ use crate::said::Span;
 use crate::verb::{VERBS, Verb, rows_of};
 use memchr::memchr;
 use std::ops::Bound;
+use std::simd::prelude::*;
+
+const LANES: usize = 16;
 
 /// What is left of a line.
 #[derive(Drop)]
@@ -151,15 +154,33 @@ fn decode<'l>(text: &'l [u8], buffer: &mut Vec<u8>) -> Result<&'l [u8], LineFaul
                 buffer.push(byte)?;
                 rest = after;
             }
+            _ if rest.len() < LANES => {
+                buffer.push(*first)?;
+                rest = after;
+            }
             _ => {
-                let more = after.iter().position(|byte| matches!(byte, b'"' | b'\\'));
-                let (plain, from) = rest.split_at(more.ok_or(LineFault::NotACommand)? + 1);
-                buffer.extend_from_slice(plain)?;
-                rest = from;
+                // Plain bytes are mostly few, so all sixteen are added, and then those taken away that aren't plain.
+                let plain = plain_bytes(rest);
+                let start = buffer.len();
+                buffer.extend_from_slice(&rest[..LANES])?;
+                buffer.truncate(start + plain);
+                rest = &rest[plain..];
             }
         }
     }
     Err(LineFault::NotACommand)
+}
+
+/// How many of the first sixteen bytes come before a `"` or a `\`, where the first one does.
+#[inline(always)]
+fn plain_bytes(text: &[u8]) -> usize
+    requires { 16 ≤ length text.now }
+    ensures some { 0 < result }
+    ensures few { result ≤ 16 }
+{
+    let lanes = u8x16::from_slice(text);
+    let ends = lanes.simd_eq(u8x16::splat(b'"')) | lanes.simd_eq(u8x16::splat(b'\\'));
+    (ends.to_bitmask().trailing_zeros() as usize).clamp(1, LANES)
 }
 
 /// The byte that `\"`, `\\` or `\xHH` stands for, and what follows it. The text begins behind the `\`.
