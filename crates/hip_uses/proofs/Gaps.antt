@@ -1,5 +1,5 @@
 -- The gaps between words, by bytes: no byte of a character beyond ASCII is one of ASCII.
-use Rattle.std.proofs.Common.{◌≡◌, ◌∙◌, ℕ, ◌+◌, ◌*◌, ◌%◌, ◌-◌, ◌^◌, ◌<◌, ◌≤◌, min, max, Bool, true, false, cond, List, Option, Some, None, length, drop, get_or, not, bit_and, refl, ap, sym, arith, ⊎_elim, add-zero, get_or-drop}
+use Rattle.std.proofs.Common.{◌≡◌, ◌∙◌, ℕ, ◌+◌, ◌-◌, ◌^◌, ◌<◌, ◌≤◌, Bool, true, false, cond, List, Option, Some, None, length, drop, not, bit_and, refl, ap, sym, arith, ⊎_elim, add-zero, get_or-drop}
 use Rattle.std.specs.Prelude.{MatchOption, slice_index}
 use Rattle.std.specs.Int.{bit_at, trailing_zeros, w64}
 use Rattle.std.specs.Int.Bits.{bit_xor}
@@ -9,9 +9,9 @@ use Rattle.std.specs.Str.{IsUtf8}
 use Rattle.std.proofs.lemmas.Bool.Decides.{nat_tests}
 use Rattle.std.proofs.lemmas.Bool.{cases_lt, cases_Bool, false≢true}
 use Rattle.std.proofs.lemmas.Nat.Bits.{bit_at-trailing_zeros, bit_at-zero, bit_at_and, bit_at_ones, bit_at_ones_above, bit_at_xor}
-use Rattle.std.proofs.lemmas.Option.{none-some, same_Some}
+use Rattle.std.proofs.lemmas.Option.{same_Some}
 use Rattle.std.proofs.lemmas.Str.{byte_from_char, IsCharBoundary-before_ascii}
-use Rattle.hipstr.specs.CharLaws.{StartsChar, is_boundary-true, is_boundary-is, starts_char, char_at-ascii, char_at-end, char_at-off, char_ends-no, char_ends-none, char_ends-yes}
+use Rattle.hipstr.specs.CharLaws.{is_boundary-true, is_boundary-is, starts_char, char_at-ascii, char_at-end, char_at-off, char_ends-no, char_ends-none, char_ends-yes}
 use Rattle.hipstr.specs.Characters.{char_ends}
 use Rattle.hipstr.specs.Occurrence.{IsNextMatch, is_boundary}
 use Rattle.hip_uses.specs.Words.{IsNextGap, NoGap, is_gap}

@@ -1,11 +1,11 @@
 -- From the lanes of one load to the bytes of a list.
-use Rattle.std.proofs.Common.{◌≡◌, ℕ, replicate, ◌+◌, ◌%◌, ◌^◌, ◌<◌, ◌≤◌, Bool, true, false, cond, List, map, length, get_or, Fits, w8, ap, ◌∙◌, arith}
+use Rattle.std.proofs.Common.{◌≡◌, ℕ, ◌+◌, ◌%◌, ◌^◌, ◌<◌, ◌≤◌, Bool, true, false, cond, List, map, length, get_or, Fits, w8, ap, ◌∙◌, arith}
 use Rattle.std.proofs.lemmas.Bool.{agree_below, agree_below_at}
 use Rattle.std.proofs.lemmas.Simd.{map-map, mask_l-mod, length-chunk, get_or-chunk, bit_mask_l}
 use Rattle.std.proofs.lemmas.List.{length-map, get_or-map}
 use Rattle.std.specs.Int.{bit_at}
 use lib.Lanes.{chunk, mask_l, top, zip2}
-use Rattle.std.proofs.lemmas.Simd.{zip2_of_maps, zip2_splat, splat_is_map}
+use Rattle.std.proofs.lemmas.Simd.{zip2_of_maps}
 
 -- lane by lane, z is f of the n bytes from i on, and its lanes are set just where the bytes pass the test
 pub marked : (test : ℕ → Bool) (xs : List ℕ) (i n : ℕ) (z : List ℕ) (f : ℕ → ℕ) → i + n ≤ length xs → n ≤ 64

@@ -4,14 +4,14 @@ use Rattle.std.proofs.Math.Nat.{mod-eq_of_lt}
 use Rattle.std.proofs.Math.Pow.{pow-lt}
 use Rattle.std.proofs.lemmas.Bool.{cases_lt}
 use Rattle.std.proofs.lemmas.List.FromFn.{get_or-map-range_with_len}
-use Rattle.std.proofs.lemmas.Nat.Bits.{bit_at-lt, bit_at-suc, bit_at-zero, bit_at_above, bit_at_and, bit_at_ones, bit_at_ones_above, bit_at_or, bit_at_xor, bit_at-pow_same, bit_at-pow_other, bit_at-trailing_zeros}
+use Rattle.std.proofs.lemmas.Nat.Bits.{bit_at-lt, bit_at-suc, bit_at-zero, bit_at_and, bit_at_ones, bit_at_ones_above, bit_at_or, bit_at_xor, bit_at-pow_same, bit_at-pow_other, bit_at-trailing_zeros}
 use Rattle.std.specs.Int.{bit_at, trailing_zeros, w64}
 use Rattle.std.specs.Int.Bits.{bit_xor}
 use Rattle.std.specs.List.{range_with_len}
 use Rattle.hip_uses.specs.declared.tokens.Class.{Class}
 use Rattle.hip_uses.specs.declared.tokens.Class.TheVariants.{Word, Digits, Space, Mark}
 use Rattle.hip_uses.specs.Token.{IsRun, class_of, is_word_or_digit, is_word_or_space}
-use Rattle.hip_uses.specs.Turns.{Ahead, AreMarks, AreTurns, IsNextTurn, IsTail, NoTurn, NoTurnAt, Tells}
+use Rattle.hip_uses.specs.Turns.{Ahead, AreMarks, AreTurns, IsNextTurn, IsTail, NoTurn, Tells}
 
 -- the class by two tests
 abbrev of_two : Bool → Bool → Class

@@ -1,4 +1,4 @@
-use Rattle.std.proofs.Common.{◌∙◌, ℕ, ◌+◌, List, length, subst, arith}
+use Rattle.std.proofs.Common.{◌∙◌, ℕ, ◌+◌, List, subst, arith}
 use Rattle.hip_uses.specs.Token.{IsRun}
 use Rattle.hip_uses.specs.Turns.{IsNextTurn, NoTurn}
 use Rattle.hip_uses.proofs.Runs.{run-boundary}

@@ -1,4 +1,4 @@
-use Rattle.std.proofs.Common.{◌≡◌, ◌∙◌, ℕ, ◌<◌, ◌≤◌, Bool, true, false, List, length, ap, sym, subst}
+use Rattle.std.proofs.Common.{◌≡◌, ◌∙◌, ℕ, ◌<◌, ◌≤◌, true, false, List, length, ap, sym, subst}
 use Rattle.std.specs.Prelude.{slice_index}
 use Rattle.hipstr.specs.CharLaws.{char_at-end, char_ends-none}
 use Rattle.hip_uses.specs.Words.{is_gap}
