@@ -154,33 +154,40 @@ fn decode<'l>(text: &'l [u8], buffer: &mut Vec<u8>) -> Result<&'l [u8], LineFaul
                 buffer.push(byte)?;
                 rest = after;
             }
-            _ if rest.len() < LANES => {
-                buffer.push(*first)?;
-                rest = after;
-            }
             _ => {
-                // Plain bytes are mostly few, so all sixteen are added, and then those taken away that aren't plain.
-                let plain = plain_bytes(rest);
-                let start = buffer.len();
-                buffer.extend_from_slice(&rest[..LANES])?;
-                buffer.truncate(start + plain);
-                rest = &rest[plain..];
+                if let Some(plain) = plain_before_sign(rest) {
+                    // Plain bytes are mostly few, so all sixteen are added, and those from the sign on taken away.
+                    let start = buffer.len();
+                    buffer.extend_from_slice(&rest[..LANES])?;
+                    buffer.truncate(start + plain);
+                    rest = &rest[plain..];
+                } else {
+                    let more = after.iter().position(|byte| matches!(byte, b'"' | b'\\'));
+                    let (plain, from) = rest.split_at(more.ok_or(LineFault::NotACommand)? + 1);
+                    buffer.extend_from_slice(plain)?;
+                    rest = from;
+                }
             }
         }
     }
     Err(LineFault::NotACommand)
 }
 
-/// How many of the first sixteen bytes come before a `"` or a `\`, where the first one does.
+/// How many bytes come before the first `"` or `\` among the first sixteen, where the very first is none.
 #[inline(always)]
-fn plain_bytes(text: &[u8]) -> usize
-    requires { 16 ≤ length text.now }
-    ensures some { 0 < result }
-    ensures few { result ≤ 16 }
+fn plain_before_sign(text: &[u8]) -> Option<usize>
+    ensures some { IfSome result (λ plain. 0 < plain) }
+    ensures few { IfSome result (λ plain. plain ≤ 16 × 16 ≤ length text.now) }
 {
+    if text.len() < LANES {
+        return None;
+    }
     let lanes = u8x16::from_slice(text);
-    let ends = lanes.simd_eq(u8x16::splat(b'"')) | lanes.simd_eq(u8x16::splat(b'\\'));
-    (ends.to_bitmask().trailing_zeros() as usize).clamp(1, LANES)
+    let signs = lanes.simd_eq(u8x16::splat(b'"')) | lanes.simd_eq(u8x16::splat(b'\\'));
+    match signs.to_bitmask() {
+        0 => None,
+        found => Some((found.trailing_zeros() as usize).clamp(1, LANES)),
+    }
 }
 
 /// The byte that `\"`, `\\` or `\xHH` stands for, and what follows it. The text begins behind the `\`.
