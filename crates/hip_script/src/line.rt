@@ -1,8 +1,8 @@
 //! What lines say, with their literals.
 
-use crate::said::{Parting, Said, Sought};
+use crate::said::{Said, Sought};
 use crate::script::Script;
-use crate::verb::{LiteralVerb, NumbersVerb, SlotVerb, Way};
+use crate::verb::{Verb, Way};
 use hipstr::{Command, How, Pat};
 use std::str;
 
@@ -28,99 +28,91 @@ pub(crate) enum Line<'b> {
 
 impl Script {
     /// What a line says.
-    pub(crate) fn line(&self, said: Said) -> Line<'_> {
-        Line::Command(match said {
-            Said::Slot(verb, slot) => of_slot(verb, slot),
-            Said::Literal(verb, slot, literal) => of_literal(verb, slot, literal.of(&self.bytes)),
-            Said::Numbers(verb, first, second) => of_numbers(verb, first, second),
-            Said::Slice(from, to, low, high) => Command::Slice(from, to, low, high),
-            Said::Set(slot, place, byte) => Command::Set(slot, place, byte),
-            Said::Repeat(from, to, times) => Command::Repeat(from, to, times),
-            Said::Join(first, count, literal, to) => {
-                Command::Join(first, count, literal.of(&self.bytes), to)
-            }
-            Said::Trim(from, to, side) => Command::Trim(from, to, side),
-            Said::TrimMatches(from, to, side, sought) => {
-                Command::TrimMatches(from, to, side, self.pattern(sought))
-            }
-            Said::Strip(from, to, end, sought) => {
-                Command::Strip(from, to, end, self.pattern(sought))
-            }
-            Said::Pieces(from, parting, ends, to) => {
-                Command::Pieces(from, self.how(parting), ends.of(&self.ends), to)
-            }
-            Said::Once(from, before, behind, end, sought) => {
-                Command::Once(from, before, behind, end, self.pattern(sought))
-            }
-            Said::Aside(aside) => return Line::Aside(aside),
+    pub(crate) fn line(&self, said: &Said) -> Line<'_> {
+        Line::Command(match said.verb {
+            Verb::New => Command::New(said.first),
+            Verb::Inline => Command::Inline(said.first, self.literal(said)),
+            Verb::Borrow => Command::Borrow(said.first, self.literal(said)),
+            Verb::Copy => Command::Copy(said.first, self.literal(said)),
+            Verb::Room => Command::Room(said.first, said.second),
+            Verb::Clone => Command::Clone(said.first, said.second),
+            Verb::Slice => Command::Slice(said.first, said.second, said.low, said.high),
+            Verb::Push => Command::Push(said.first, self.literal(said)),
+            Verb::Pop => Command::Pop(said.first),
+            Verb::Truncate => Command::Truncate(said.first, said.second),
+            Verb::Clear => Command::Clear(said.first),
+            Verb::Shrink => Command::Shrink(said.first, said.second),
+            Verb::Upper => Command::Upper(said.first),
+            Verb::Lower => Command::Lower(said.first),
+            Verb::Set => Command::Set(said.first, said.second, said.byte),
+            Verb::Repeat => Command::Repeat(said.first, said.second, said.third),
+            Verb::Join => Command::Join(said.first, said.second, self.literal(said), said.third),
+            Verb::Mutate => Command::Mutate(said.first, self.literal(said)),
+            Verb::Owned => Command::Owned(said.first),
+            Verb::Text => Command::Text(said.first),
+            Verb::Bytes => Command::Bytes(said.first),
+            Verb::Trim => Command::Trim(said.first, said.second, said.side),
+            Verb::TrimMatches => Command::TrimMatches(
+                said.first,
+                said.second,
+                said.side,
+                self.pattern(said),
+            ),
+            Verb::Strip => Command::Strip(said.first, said.second, said.end, self.pattern(said)),
+            Verb::Pieces => Command::Pieces(
+                said.first,
+                self.how(said),
+                said.ends.of(&self.ends),
+                said.second,
+            ),
+            Verb::Once => Command::Once(
+                said.first,
+                said.second,
+                said.third,
+                said.end,
+                self.pattern(said),
+            ),
+            Verb::Compare => Command::Compare(said.first, said.second),
+            Verb::ComparePath => Command::ComparePath(said.first, said.second),
+            Verb::Len => Command::Len(said.first),
+            Verb::Kind => Command::Kind(said.first),
+            Verb::Capacity => Command::Capacity(said.first),
+            Verb::Show => return Line::Aside(Aside::Show(said.first)),
+            Verb::Copied => return Line::Aside(Aside::Copied),
+            Verb::Fields => return Line::Aside(Aside::Fields(said.first, said.separator)),
         })
     }
 
+    /// The bytes of a line's literal.
+    fn literal(&self, said: &Said) -> &[u8] {
+        said.literal.of(&self.bytes)
+    }
+
     /// What a line looks for.
-    fn pattern(&self, sought: Sought) -> Pat<'_> {
-        match sought {
-            Sought::Text(span) => Pat::Text(str::from_utf8(span.of(&self.bytes)).unwrap_or("")),
+    fn pattern(&self, said: &Said) -> Pat<'_> {
+        match said.sought {
+            Sought::Text => Pat::Text(str::from_utf8(self.literal(said)).unwrap_or("")),
             Sought::Char(c) => Pat::Char(c),
-            Sought::Set(span) => Pat::Set(span.of(&self.chars)),
+            Sought::Set => Pat::Set(said.literal.of(&self.chars)),
         }
     }
 
     /// How a line takes a text apart.
-    fn how(&self, parting: Parting) -> How<'_> {
-        let pattern = self.pattern(parting.sought);
-        match parting.way {
+    fn how(&self, said: &Said) -> How<'_> {
+        let pattern = self.pattern(said);
+        match said.way {
             Way::Split => How::Split(pattern),
             Way::Inclusive => How::Inclusive(pattern),
             Way::Terminator => How::Terminator(pattern),
-            Way::SplitN => How::SplitN(parting.count, pattern),
+            Way::SplitN => How::SplitN(said.count, pattern),
             Way::Matches => How::Matches(pattern),
             Way::RSplit => How::RSplit(pattern),
             Way::RTerminator => How::RTerminator(pattern),
-            Way::RSplitN => How::RSplitN(parting.count, pattern),
+            Way::RSplitN => How::RSplitN(said.count, pattern),
             Way::RMatches => How::RMatches(pattern),
             Way::Lines => How::Lines,
             Way::Words => How::Words,
             Way::AsciiWords => How::AsciiWords,
         }
-    }
-}
-
-/// What is done to a slot, or asked of it.
-fn of_slot<'b>(verb: SlotVerb, slot: usize) -> Command<'b> {
-    match verb {
-        SlotVerb::New => Command::New(slot),
-        SlotVerb::Pop => Command::Pop(slot),
-        SlotVerb::Clear => Command::Clear(slot),
-        SlotVerb::Upper => Command::Upper(slot),
-        SlotVerb::Lower => Command::Lower(slot),
-        SlotVerb::Owned => Command::Owned(slot),
-        SlotVerb::Text => Command::Text(slot),
-        SlotVerb::Bytes => Command::Bytes(slot),
-        SlotVerb::Len => Command::Len(slot),
-        SlotVerb::Kind => Command::Kind(slot),
-        SlotVerb::Capacity => Command::Capacity(slot),
-    }
-}
-
-/// What is done with a slot and bytes.
-fn of_literal<'b>(verb: LiteralVerb, slot: usize, literal: &'b [u8]) -> Command<'b> {
-    match verb {
-        LiteralVerb::Inline => Command::Inline(slot, literal),
-        LiteralVerb::Borrow => Command::Borrow(slot, literal),
-        LiteralVerb::Copy => Command::Copy(slot, literal),
-        LiteralVerb::Push => Command::Push(slot, literal),
-        LiteralVerb::Mutate => Command::Mutate(slot, literal),
-    }
-}
-
-/// What is done with two numbers.
-fn of_numbers<'b>(verb: NumbersVerb, first: usize, second: usize) -> Command<'b> {
-    match verb {
-        NumbersVerb::Room => Command::Room(first, second),
-        NumbersVerb::Clone => Command::Clone(first, second),
-        NumbersVerb::Truncate => Command::Truncate(first, second),
-        NumbersVerb::Shrink => Command::Shrink(first, second),
-        NumbersVerb::Compare => Command::Compare(first, second),
-        NumbersVerb::ComparePath => Command::ComparePath(first, second),
     }
 }

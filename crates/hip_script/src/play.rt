@@ -68,7 +68,7 @@ fn play_lines<B: Backend, W: Write>(
     let mut meter = Meter::new();
     let mut commands = Vec::new(alloc);
     for said in &script.lines {
-        match script.line(*said) {
+        match script.line(said) {
             Line::Command(command) => commands.push(command)?,
             Line::Aside(aside) => {
                 perform(alloc, &mut pool, commands.as_slice(), &mut meter, out)?;

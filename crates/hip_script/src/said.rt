@@ -1,7 +1,6 @@
 //! What a line says, by positions.
 
-use crate::line::Aside;
-use crate::verb::{LiteralVerb, NumbersVerb, SlotVerb, Way};
+use crate::verb::{Verb, Way};
 use hipstr::{End, Side};
 use std::ops::Bound;
 
@@ -13,6 +12,9 @@ pub(crate) struct Span {
 }
 
 impl Span {
+    /// A stretch of nothing.
+    pub(crate) const EMPTY: Span = Span { start: 0, end: 0 };
+
     /// What of a buffer stands there.
     pub(crate) fn of<T>(self, buffer: &[T]) -> &[T] {
         buffer.get(self.start..self.end).unwrap_or(&[])
@@ -22,37 +24,56 @@ impl Span {
 /// What is looked for in a text.
 #[derive(Clone, Copy)]
 pub(crate) enum Sought {
-    /// The text whose bytes stand there.
-    Text(Span),
+    /// The line's literal.
+    Text,
     /// A character.
     Char(char),
-    /// Each of the characters that stand there.
-    Set(Span),
+    /// Each character of the line's literal.
+    Set,
 }
 
-/// How a text is taken apart, and by what, where it takes a pattern.
+/// What a line says. What its verb doesn't ask for is as in [`Said::new`].
 #[derive(Clone, Copy)]
-pub(crate) struct Parting {
+pub(crate) struct Said {
+    pub(crate) verb: Verb,
+    pub(crate) first: usize,
+    pub(crate) second: usize,
+    pub(crate) third: usize,
+    pub(crate) byte: u8,
+    pub(crate) low: Bound<usize>,
+    pub(crate) high: Bound<usize>,
+    pub(crate) side: Side,
+    pub(crate) end: End,
     pub(crate) way: Way,
     pub(crate) count: usize,
     pub(crate) sought: Sought,
+    /// The character between fields.
+    pub(crate) separator: char,
+    /// Where the literal's bytes stand, or of a set its characters.
+    pub(crate) literal: Span,
+    /// Where the ends stand that pieces are drawn from.
+    pub(crate) ends: Span,
 }
 
-/// What a line says: its verb, and what its words say, in their order.
-#[derive(Clone, Copy)]
-pub(crate) enum Said {
-    Slot(SlotVerb, usize),
-    Literal(LiteralVerb, usize, Span),
-    Numbers(NumbersVerb, usize, usize),
-    Slice(usize, usize, Bound<usize>, Bound<usize>),
-    Set(usize, usize, u8),
-    Repeat(usize, usize, usize),
-    Join(usize, usize, Span, usize),
-    Trim(usize, usize, Side),
-    TrimMatches(usize, usize, Side, Sought),
-    Strip(usize, usize, End, Sought),
-    /// Where the ends stand that pieces are drawn from is the third.
-    Pieces(usize, Parting, Span, usize),
-    Once(usize, usize, usize, End, Sought),
-    Aside(Aside),
+impl Said {
+    /// A verb alone.
+    pub(crate) fn new(verb: Verb) -> Self {
+        Said {
+            verb,
+            first: 0,
+            second: 0,
+            third: 0,
+            byte: 0,
+            low: Bound::Unbounded,
+            high: Bound::Unbounded,
+            side: Side::Both,
+            end: End::Front,
+            way: Way::Lines,
+            count: 0,
+            sought: Sought::Text,
+            separator: ',',
+            literal: Span::EMPTY,
+            ends: Span::EMPTY,
+        }
+    }
 }

@@ -3,9 +3,8 @@ ghost use Rattle.std.specs.Prelude.{◌≡◌, ◌<◌, ℕ, Err, length};
 ghost use Rattle.hip_script.specs.declared.fault.PlayFault.TheVariants.{NotACommand};
 
 use crate::fault::{LineFault, PlayFault};
-use crate::line::Aside;
-use crate::said::{Parting, Said, Sought, Span};
-use crate::verb::{ENDS, KINDS, Kind, LiteralVerb, Need, SIDES, Verb, WAYS};
+use crate::said::{Said, Sought, Span};
+use crate::verb::{ENDS, KINDS, Kind, Need, SIDES, WAYS, Word};
 use crate::words::Words;
 use hipstr::End;
 use memchr::memchr;
@@ -86,7 +85,10 @@ impl Script {
         }
         let mut words = Words::new(line);
         let verb = words.verb().ok_or(LineFault::NotACommand)?;
-        let said = self.read_said(verb, &mut words)?;
+        let mut said = Said::new(verb);
+        for word in verb.words() {
+            self.read_word(*word, &mut words, &mut said)?;
+        }
         if !words.is_empty() {
             return Err(LineFault::NotACommand);
         }
@@ -94,110 +96,68 @@ impl Script {
         Ok(())
     }
 
-    /// Reads the words behind a verb.
-    fn read_said(&mut self, verb: Verb, words: &mut Words<'_>) -> Result<Said, LineFault> {
-        match verb {
-            Verb::Literal(verb) => self.read_literal(verb, words),
-            Verb::Join => self.read_join(words),
-            Verb::TrimMatches => self.read_trim_matches(words),
-            Verb::Strip => self.read_strip(words),
-            Verb::Pieces => self.read_pieces(words),
-            Verb::Once => self.read_once(words),
-            Verb::Fields => self.read_fields(words),
-            plain => read_plain(plain, words).ok_or(LineFault::NotACommand),
+    /// Reads a word, or those of a pattern or of a way.
+    fn read_word(
+        &mut self,
+        word: Word,
+        words: &mut Words<'_>,
+        said: &mut Said,
+    ) -> Result<(), LineFault> {
+        match word {
+            Word::Literal => self.read_literal(words, said),
+            Word::Separator => self.read_separator(words, said),
+            Word::Pattern => self.read_pattern(words, said),
+            Word::Way => self.read_way(words, said),
+            Word::Ends => self.read_ends(words, said),
+            plain => read_plain(plain, words, said).ok_or(LineFault::NotACommand),
         }
     }
 
-    /// Reads a slot and a literal.
-    fn read_literal(
-        &mut self,
-        verb: LiteralVerb,
-        words: &mut Words<'_>,
-    ) -> Result<Said, LineFault> {
-        let slot = words.number().ok_or(LineFault::NotACommand)?;
-        let literal = words.literal(&mut self.bytes)?;
-        Ok(Said::Literal(verb, slot, literal))
+    /// Reads a literal.
+    fn read_literal(&mut self, words: &mut Words<'_>, said: &mut Said) -> Result<(), LineFault> {
+        said.literal = words.literal(&mut self.bytes)?;
+        Ok(())
     }
 
-    /// Reads what is joined, and where it goes.
-    fn read_join(&mut self, words: &mut Words<'_>) -> Result<Said, LineFault> {
-        let (first, count) = words.two_numbers().ok_or(LineFault::NotACommand)?;
-        let literal = words.literal(&mut self.bytes)?;
-        let slot = words.number().ok_or(LineFault::NotACommand)?;
-        Ok(Said::Join(first, count, literal, slot))
-    }
-
-    /// Reads what is trimmed, and of what.
-    fn read_trim_matches(&mut self, words: &mut Words<'_>) -> Result<Said, LineFault> {
-        let (from, to) = words.two_numbers().ok_or(LineFault::NotACommand)?;
-        let side = words.one_of(SIDES).ok_or(LineFault::NotACommand)?;
-        let sought = self.read_pattern(words)?;
-        Ok(Said::TrimMatches(from, to, side, sought))
-    }
-
-    /// Reads what is stripped, and of what.
-    fn read_strip(&mut self, words: &mut Words<'_>) -> Result<Said, LineFault> {
-        let (from, to) = words.two_numbers().ok_or(LineFault::NotACommand)?;
-        let end = words.one_of(ENDS).ok_or(LineFault::NotACommand)?;
-        let sought = self.read_pattern(words)?;
-        Ok(Said::Strip(from, to, end, sought))
-    }
-
-    /// Reads what is taken apart, how, and where its pieces go.
-    fn read_pieces(&mut self, words: &mut Words<'_>) -> Result<Said, LineFault> {
-        let from = words.number().ok_or(LineFault::NotACommand)?;
-        let parting = self.read_parting(words)?;
-        let ends = self.read_ends(words)?;
-        let to = words.number().ok_or(LineFault::NotACommand)?;
-        Ok(Said::Pieces(from, parting, ends, to))
-    }
-
-    /// Reads what is parted once, and where the two parts go.
-    fn read_once(&mut self, words: &mut Words<'_>) -> Result<Said, LineFault> {
-        let (from, before) = words.two_numbers().ok_or(LineFault::NotACommand)?;
-        let behind = words.number().ok_or(LineFault::NotACommand)?;
-        let end = words.one_of(ENDS).ok_or(LineFault::NotACommand)?;
-        let sought = self.read_pattern(words)?;
-        Ok(Said::Once(from, before, behind, end, sought))
-    }
-
-    /// Reads whose fields are printed, and the character between them.
-    fn read_fields(&mut self, words: &mut Words<'_>) -> Result<Said, LineFault> {
-        let slot = words.number().ok_or(LineFault::NotACommand)?;
-        let literal = words.literal(&mut self.bytes)?;
-        let separator = only_char(text_of(literal.of(&self.bytes))?)?;
-        Ok(Said::Aside(Aside::Fields(slot, separator)))
+    /// Reads the character between fields.
+    fn read_separator(&mut self, words: &mut Words<'_>, said: &mut Said) -> Result<(), LineFault> {
+        said.literal = words.literal(&mut self.bytes)?;
+        said.separator = only_char(text_of(said.literal.of(&self.bytes))?)?;
+        Ok(())
     }
 
     /// Reads what is looked for in a text.
-    fn read_pattern(&mut self, words: &mut Words<'_>) -> Result<Sought, LineFault> {
+    fn read_pattern(&mut self, words: &mut Words<'_>, said: &mut Said) -> Result<(), LineFault> {
         let kind = words.one_of(KINDS).ok_or(LineFault::NotACommand)?;
-        let literal = words.literal(&mut self.bytes)?;
-        let text = text_of(literal.of(&self.bytes))?;
+        said.literal = words.literal(&mut self.bytes)?;
+        let text = text_of(said.literal.of(&self.bytes))?;
         match kind {
-            Kind::Text => Ok(Sought::Text(literal)),
-            Kind::Char => Ok(Sought::Char(only_char(text)?)),
-            Kind::Any => Ok(Sought::Set(add_chars(&mut self.chars, text)?)),
+            Kind::Text => said.sought = Sought::Text,
+            Kind::Char => said.sought = Sought::Char(only_char(text)?),
+            Kind::Any => {
+                said.sought = Sought::Set;
+                said.literal = add_chars(&mut self.chars, text)?;
+            }
+        }
+        Ok(())
+    }
+
+    /// Reads how a text is taken apart.
+    fn read_way(&mut self, words: &mut Words<'_>, said: &mut Said) -> Result<(), LineFault> {
+        let (way, need) = words.one_of(WAYS).ok_or(LineFault::NotACommand)?;
+        said.way = way;
+        match need {
+            Need::Nothing => Ok(()),
+            Need::Pattern => self.read_pattern(words, said),
+            Need::CountAndPattern => {
+                said.count = words.number().ok_or(LineFault::NotACommand)?;
+                self.read_pattern(words, said)
+            }
         }
     }
 
-    /// Reads how a text is taken apart. A way without a pattern looks for nothing.
-    fn read_parting(&mut self, words: &mut Words<'_>) -> Result<Parting, LineFault> {
-        let (way, need) = words.one_of(WAYS).ok_or(LineFault::NotACommand)?;
-        let nothing = Span { start: 0, end: 0 };
-        let (count, sought) = match need {
-            Need::Nothing => (0, Sought::Text(nothing)),
-            Need::Pattern => (0, self.read_pattern(words)?),
-            Need::CountAndPattern => {
-                let count = words.number().ok_or(LineFault::NotACommand)?;
-                (count, self.read_pattern(words)?)
-            }
-        };
-        Ok(Parting { way, count, sought })
-    }
-
     /// Reads the ends that pieces are drawn from: `-`, or letters `F` and `B`.
-    fn read_ends(&mut self, words: &mut Words<'_>) -> Result<Span, LineFault> {
+    fn read_ends(&mut self, words: &mut Words<'_>, said: &mut Said) -> Result<(), LineFault> {
         let start = self.ends.len();
         match words.next() {
             None | Some(b"") => return Err(LineFault::NotACommand),
@@ -208,40 +168,27 @@ impl Script {
                 }
             }
         }
-        Ok(Span {
+        said.ends = Span {
             start,
             end: self.ends.len(),
-        })
+        };
+        Ok(())
     }
 }
 
-/// Reads the words behind a verb that needs no buffer.
-fn read_plain(verb: Verb, words: &mut Words<'_>) -> Option<Said> {
-    match verb {
-        Verb::Slot(verb) => Some(Said::Slot(verb, words.number()?)),
-        Verb::Numbers(verb) => {
-            let (first, second) = words.two_numbers()?;
-            Some(Said::Numbers(verb, first, second))
-        }
-        Verb::Show => Some(Said::Aside(Aside::Show(words.number()?))),
-        Verb::Copied => Some(Said::Aside(Aside::Copied)),
-        other => read_two(other, words),
+/// Reads a word that needs no buffer.
+fn read_plain(word: Word, words: &mut Words<'_>, said: &mut Said) -> Option<()> {
+    match word {
+        Word::First => said.first = words.number()?,
+        Word::Second => said.second = words.number()?,
+        Word::Third => said.third = words.number()?,
+        Word::Byte => said.byte = words.byte()?,
+        Word::Range => (said.low, said.high) = words.range()?,
+        Word::Side => said.side = words.one_of(SIDES)?,
+        Word::End => said.end = words.one_of(ENDS)?,
+        _ => return None,
     }
-}
-
-/// The same, where two numbers come first.
-fn read_two(verb: Verb, words: &mut Words<'_>) -> Option<Said> {
-    let (first, second) = words.two_numbers()?;
-    match verb {
-        Verb::Slice => {
-            let (low, high) = words.range()?;
-            Some(Said::Slice(first, second, low, high))
-        }
-        Verb::Set => Some(Said::Set(first, second, words.byte()?)),
-        Verb::Repeat => Some(Said::Repeat(first, second, words.number()?)),
-        Verb::Trim => Some(Said::Trim(first, second, words.one_of(SIDES)?)),
-        _ => None,
-    }
+    Some(())
 }
 
 /// The end that a letter stands for.

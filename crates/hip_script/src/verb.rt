@@ -4,136 +4,164 @@
 
 use hipstr::{End, Side};
 
-/// What a line tells to do, by the words that follow.
+/// What a line tells to do.
 #[derive(Clone, Copy)]
 pub(crate) enum Verb {
-    /// A slot.
-    Slot(SlotVerb),
-    /// A slot and a literal.
-    Literal(LiteralVerb),
-    /// A slot and a number, or two slots.
-    Numbers(NumbersVerb),
-    /// Two slots and a range.
-    Slice,
-    /// A slot, a position and a number that is at most 255.
-    Set,
-    /// Two slots and a number.
-    Repeat,
-    /// A slot, a number, a literal and a slot.
-    Join,
-    /// Two slots and a side.
-    Trim,
-    /// Two slots, a side and a pattern.
-    TrimMatches,
-    /// Two slots, an end and a pattern.
-    Strip,
-    /// A slot, a way to take a text apart, the ends that pieces are drawn from, and a slot.
-    Pieces,
-    /// Three slots, an end and a pattern.
-    Once,
-    // These three are no commands.
-    /// A slot.
-    Show,
-    /// Nothing.
-    Copied,
-    /// A slot, and the character between fields: a literal that is just one.
-    Fields,
-}
-
-/// What is done to a slot, or asked of it.
-#[derive(Clone, Copy)]
-pub(crate) enum SlotVerb {
     New,
-    Pop,
-    Clear,
-    Upper,
-    Lower,
-    Owned,
-    Text,
-    Bytes,
-    Len,
-    Kind,
-    Capacity,
-}
-
-/// What is done with a slot and bytes.
-#[derive(Clone, Copy)]
-pub(crate) enum LiteralVerb {
     Inline,
     Borrow,
     Copy,
-    Push,
-    Mutate,
-}
-
-/// What is done with two numbers.
-#[derive(Clone, Copy)]
-pub(crate) enum NumbersVerb {
     Room,
     Clone,
+    Slice,
+    Push,
+    Pop,
     Truncate,
+    Clear,
     Shrink,
+    Upper,
+    Lower,
+    Set,
+    Repeat,
+    Join,
+    Mutate,
+    Owned,
+    Text,
+    Bytes,
+    Trim,
+    TrimMatches,
+    Strip,
+    Pieces,
+    Once,
     Compare,
     ComparePath,
+    Len,
+    Kind,
+    Capacity,
+    // These three are no commands.
+    Show,
+    Copied,
+    Fields,
 }
 
-/// The verbs by their names, in the order of their first letters.
-pub(crate) const VERBS: &[(&str, Verb)] = &[
-    ("borrow", Verb::Literal(LiteralVerb::Borrow)),
-    ("bytes", Verb::Slot(SlotVerb::Bytes)),
-    ("copy", Verb::Literal(LiteralVerb::Copy)),
-    ("clone", Verb::Numbers(NumbersVerb::Clone)),
-    ("clear", Verb::Slot(SlotVerb::Clear)),
-    ("compare", Verb::Numbers(NumbersVerb::Compare)),
-    ("comparepath", Verb::Numbers(NumbersVerb::ComparePath)),
-    ("capacity", Verb::Slot(SlotVerb::Capacity)),
-    ("copied", Verb::Copied),
-    ("fields", Verb::Fields),
-    ("inline", Verb::Literal(LiteralVerb::Inline)),
-    ("join", Verb::Join),
-    ("kind", Verb::Slot(SlotVerb::Kind)),
-    ("len", Verb::Slot(SlotVerb::Len)),
-    ("lower", Verb::Slot(SlotVerb::Lower)),
-    ("mutate", Verb::Literal(LiteralVerb::Mutate)),
-    ("new", Verb::Slot(SlotVerb::New)),
-    ("owned", Verb::Slot(SlotVerb::Owned)),
-    ("once", Verb::Once),
-    ("push", Verb::Literal(LiteralVerb::Push)),
-    ("pieces", Verb::Pieces),
-    ("pop", Verb::Slot(SlotVerb::Pop)),
-    ("room", Verb::Numbers(NumbersVerb::Room)),
-    ("repeat", Verb::Repeat),
-    ("slice", Verb::Slice),
-    ("show", Verb::Show),
-    ("set", Verb::Set),
-    ("strip", Verb::Strip),
-    ("shrink", Verb::Numbers(NumbersVerb::Shrink)),
-    ("text", Verb::Slot(SlotVerb::Text)),
-    ("truncate", Verb::Numbers(NumbersVerb::Truncate)),
-    ("trim", Verb::Trim),
-    ("trimm", Verb::TrimMatches),
-    ("upper", Verb::Slot(SlotVerb::Upper)),
-];
+/// What a word says, or the few words of a pattern and of a way.
+#[derive(Clone, Copy)]
+pub(crate) enum Word {
+    /// The line's first number, mostly a slot.
+    First,
+    /// Its second.
+    Second,
+    /// Its third.
+    Third,
+    /// A number that is at most 255.
+    Byte,
+    /// A range.
+    Range,
+    /// Which ends are trimmed.
+    Side,
+    /// One end.
+    End,
+    /// Bytes between two `"`.
+    Literal,
+    /// The character between fields: a literal that is just one.
+    Separator,
+    /// A word for a pattern, and its literal.
+    Pattern,
+    /// A word for a way to take a text apart, and what it needs.
+    Way,
+    /// The ends that pieces are drawn from.
+    Ends,
+}
 
-/// Where in [`VERBS`] the names stand that may begin with this letter. A row that is left out here is still found, by all of them.
-pub(crate) fn rows_of(first: u8) -> (usize, usize) {
-    match first {
-        b'b' => (0, 2),
-        b'c' => (2, 9),
-        b'f' => (9, 10),
-        b'i' => (10, 11),
-        b'j' => (11, 12),
-        b'k' => (12, 13),
-        b'l' => (13, 15),
-        b'm' => (15, 16),
-        b'n' => (16, 17),
-        b'o' => (17, 19),
-        b'p' => (19, 22),
-        b'r' => (22, 24),
-        b's' => (24, 29),
-        b't' => (29, 33),
-        b'u' => (33, 34),
-        _ => (0, 0),
+/// The verbs by their names, of those whose names begin with a letter.
+pub(crate) fn verbs_from(letter: u8) -> &'static [(&'static str, Verb)] {
+    match letter {
+        b'b' => &[("borrow", Verb::Borrow), ("bytes", Verb::Bytes)],
+        b'c' => &[
+            ("copy", Verb::Copy),
+            ("clone", Verb::Clone),
+            ("clear", Verb::Clear),
+            ("compare", Verb::Compare),
+            ("comparepath", Verb::ComparePath),
+            ("capacity", Verb::Capacity),
+            ("copied", Verb::Copied),
+        ],
+        b'f' => &[("fields", Verb::Fields)],
+        b'i' => &[("inline", Verb::Inline)],
+        b'j' => &[("join", Verb::Join)],
+        b'k' => &[("kind", Verb::Kind)],
+        b'l' => &[("lower", Verb::Lower), ("len", Verb::Len)],
+        b'm' => &[("mutate", Verb::Mutate)],
+        b'n' => &[("new", Verb::New)],
+        b'o' => &[("owned", Verb::Owned), ("once", Verb::Once)],
+        b'p' => &[
+            ("push", Verb::Push),
+            ("pop", Verb::Pop),
+            ("pieces", Verb::Pieces),
+        ],
+        b'r' => &[("room", Verb::Room), ("repeat", Verb::Repeat)],
+        b's' => &[
+            ("slice", Verb::Slice),
+            ("shrink", Verb::Shrink),
+            ("set", Verb::Set),
+            ("strip", Verb::Strip),
+            ("show", Verb::Show),
+        ],
+        b't' => &[
+            ("truncate", Verb::Truncate),
+            ("text", Verb::Text),
+            ("trim", Verb::Trim),
+            ("trimm", Verb::TrimMatches),
+        ],
+        b'u' => &[("upper", Verb::Upper)],
+        _ => &[],
+    }
+}
+
+impl Verb {
+    /// The words that follow the verb.
+    pub(crate) fn words(self) -> &'static [Word] {
+        match self {
+            Verb::New
+            | Verb::Pop
+            | Verb::Clear
+            | Verb::Upper
+            | Verb::Lower
+            | Verb::Owned
+            | Verb::Text
+            | Verb::Bytes
+            | Verb::Len
+            | Verb::Kind
+            | Verb::Capacity
+            | Verb::Show => &[Word::First],
+            Verb::Inline | Verb::Borrow | Verb::Copy | Verb::Push | Verb::Mutate => &[
+                Word::First,
+                Word::Literal,
+            ],
+            Verb::Room
+            | Verb::Clone
+            | Verb::Truncate
+            | Verb::Shrink
+            | Verb::Compare
+            | Verb::ComparePath => &[Word::First, Word::Second],
+            Verb::Slice => &[Word::First, Word::Second, Word::Range],
+            Verb::Set => &[Word::First, Word::Second, Word::Byte],
+            Verb::Repeat => &[Word::First, Word::Second, Word::Third],
+            Verb::Join => &[Word::First, Word::Second, Word::Literal, Word::Third],
+            Verb::Trim => &[Word::First, Word::Second, Word::Side],
+            Verb::TrimMatches => &[Word::First, Word::Second, Word::Side, Word::Pattern],
+            Verb::Strip => &[Word::First, Word::Second, Word::End, Word::Pattern],
+            Verb::Pieces => &[Word::First, Word::Way, Word::Ends, Word::Second],
+            Verb::Once => &[
+                Word::First,
+                Word::Second,
+                Word::Third,
+                Word::End,
+                Word::Pattern,
+            ],
+            Verb::Copied => &[],
+            Verb::Fields => &[Word::First, Word::Separator],
+        }
     }
 }
 

@@ -4,7 +4,7 @@ ghost use Rattle.std.specs.Char.{digit_value};
 
 use crate::fault::LineFault;
 use crate::said::Span;
-use crate::verb::{VERBS, Verb, rows_of};
+use crate::verb::{Verb, verbs_from};
 use memchr::memchr;
 use std::ops::Bound;
 use std::simd::prelude::*;
@@ -48,11 +48,7 @@ impl<'l> Words<'l> {
     /// The verb whose name is the next word.
     pub(crate) fn verb(&mut self) -> Option<Verb> {
         let word = self.next()?;
-        let (from, to) = rows_of(*word.first()?);
-        VERBS
-            .get(from..to)
-            .and_then(|rows| named(rows, word))
-            .or_else(|| named(VERBS, word))
+        named(verbs_from(*word.first()?), word)
     }
 
     /// What the next word is the name of.
@@ -63,12 +59,6 @@ impl<'l> Words<'l> {
     /// The next word as a number.
     pub(crate) fn number(&mut self) -> Option<usize> {
         number(self.next()?)
-    }
-
-    /// The next two words as numbers.
-    pub(crate) fn two_numbers(&mut self) -> Option<(usize, usize)> {
-        let first = self.number()?;
-        Some((first, self.number()?))
     }
 
     /// The next word as a number that is at most 255.
@@ -154,20 +144,22 @@ fn decode<'l>(text: &'l [u8], buffer: &mut Vec<u8>) -> Result<&'l [u8], LineFaul
                 buffer.push(byte)?;
                 rest = after;
             }
-            _ => {
-                if let Some(plain) = plain_before_sign(rest) {
-                    // Plain bytes are mostly few, so all sixteen are added, and those from the sign on taken away.
+            _ => match plain_before_sign(rest) {
+                // Plain bytes are mostly few, so all sixteen are added, and those from the sign on taken away: only where there is room,
+                // so that no more memory is asked for than the plain ones need.
+                Some(plain) if LANES <= buffer.capacity() - buffer.len() => {
                     let start = buffer.len();
                     buffer.extend_from_slice(&rest[..LANES])?;
                     buffer.truncate(start + plain);
                     rest = &rest[plain..];
-                } else {
+                }
+                _ => {
                     let more = after.iter().position(|byte| matches!(byte, b'"' | b'\\'));
                     let (plain, from) = rest.split_at(more.ok_or(LineFault::NotACommand)? + 1);
                     buffer.extend_from_slice(plain)?;
                     rest = from;
                 }
-            }
+            },
         }
     }
     Err(LineFault::NotACommand)
