@@ -1,12 +1,15 @@
 //! The order of paths.
-ghost use Rattle.std.specs.Prelude.{◌≡◌, ◌≤◌, ◌↔◌, drop, length, IsTrue};
+ghost use Rattle.std.specs.Prelude.{◌≡◌, ◌+◌, ◌≤◌, ◌↔◌, drop, length, take, IsTrue};
 ghost use Rattle.std.specs.Cmp.Lexicographic.{slice_cmp};
 ghost use Rattle.hip_names.specs.Components.{component_order, components, names, path_order};
 ghost use Rattle.hip_names.specs.Shared.{IsSharedFront};
 ghost use Rattle.hip_names.specs.Shown.{to_come};
 
 use crate::component::{Components, next_name};
+use hip_raw::equal;
 use std::cmp::Ordering;
+
+const BLOCK: usize = 8;
 
 /// How a path stands to another, in the order of their components. Both are walked from the last slash before the first byte that
 /// differs, without memory; the same bytes aren't walked at all.
@@ -47,16 +50,37 @@ fn same_bytes(left: &[u8], right: &[u8]) -> bool
 fn shared_front(left: &[u8], right: &[u8]) -> usize
     ensures { IsSharedFront left.now right.now result }
 {
-    let mut front = 0;
-    for i in 0..left.len().min(right.len()) {
-        if left[i] != right[i] {
-            break;
-        }
-        if left[i] == b'/' {
-            front = i + 1;
-        }
+    let mut front = shared_bytes(left, right);
+    while front > 0 && left[front - 1] != b'/' {
+        front -= 1;
     }
     front
+}
+
+/// How many bytes both begin with, eight at a time and then one by one.
+#[inline]
+fn shared_bytes(left: &[u8], right: &[u8]) -> usize
+    ensures within { (result ≤ length left.now) × (result ≤ length right.now) }
+    ensures same { take result left.now ≡ take result right.now }
+{
+    let both = left.len().min(right.len());
+    let mut shared = 0;
+    while BLOCK <= both - shared && same_block(left, right, shared) {
+        shared += BLOCK;
+    }
+    while shared < both && left[shared] == right[shared] {
+        shared += 1;
+    }
+    shared
+}
+
+/// Whether the eight bytes from a position on are the same.
+#[inline(always)]
+fn same_block(left: &[u8], right: &[u8], at: usize) -> bool
+    requires within { (at + 8 ≤ length left.now) × (at + 8 ≤ length right.now) }
+    ensures { IsTrue result → take 8 (drop at left.now) ≡ take 8 (drop at right.now) }
+{
+    equal(&left[at..at + BLOCK], &right[at..at + BLOCK])
 }
 
 /// How the components that are to come on one side stand to those on the other.
