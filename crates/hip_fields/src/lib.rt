@@ -13,6 +13,7 @@
 
 mod all;
 mod line;
+mod parts;
 pub mod reader;
 mod separator;
 

@@ -5,6 +5,7 @@ ghost use Rattle.hip_match.specs.Joined.{parts};
 ghost use Rattle.hip_match.specs.Occurrence.{IsCut};
 ghost use Rattle.hip_fields.specs.Records.{AreFields, fields_cost, fields_of};
 
+use crate::parts::{LANES, Parts};
 use crate::separator::Separator;
 use hip_cuts::hip_match::ranges::Ranges;
 use hip_cuts::hip_match::split::Split;
@@ -52,10 +53,22 @@ pub(crate) fn fields_between<'b, B: Backend>(
     ensures fields { IfOk result (λ fields.
         AreFields source.now (fields_of separator (slice_range source.now.items start end)) fields.items) }
     ensures counted { RisesAtMost meter.old meter.new
-        (fields_cost B.SHARES source.now.kind (fields_of separator (slice_range source.now.items start end))) }
+        (fields_cost B.SHARES source.now.kind
+        (fields_of separator (slice_range source.now.items start end))) }
 {
     let line = &source.as_str()[start..end];
     match Separator::of(separator) {
+        Some(near) if LANES <= line.len() => {
+            fields_at(
+                alloc,
+                source,
+                start,
+                end,
+                Parts::new(line, near),
+                room,
+                meter,
+            )
+        }
         Some(near) => fields_at(
             alloc,
             source,

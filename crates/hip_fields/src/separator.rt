@@ -1,4 +1,5 @@
-//! What parts the fields of a line, where it is a character of ASCII: it is mostly near, so sixteen bytes are looked at before all else.
+//! What parts the fields of a line, where it is a character of ASCII. In a short line it is near, so sixteen bytes are looked at before all
+//! else.
 ghost use Rattle.std.specs.Prelude.{◌≡◌, ◌==◌, ◌<◌, ◌≤◌, ℕ, IfSome, cond, length, slice_index};
 ghost use Rattle.std.specs.Int.{bit_at};
 ghost use Rattle.hip_match.specs.CharLaws.{char_ends-spans};
@@ -29,6 +30,14 @@ impl Separator {
         } else {
             None
         }
+    }
+
+    /// Its byte.
+    #[inline]
+    pub(crate) fn byte(self) -> u8
+        ensures { result ≡ self.byte }
+    {
+        self.byte
     }
 }
 
