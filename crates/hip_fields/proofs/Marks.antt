@@ -1,10 +1,10 @@
 -- Marks of a byte: the bits of one number, the places that they tell, and the parts between them.
-use Rattle.std.proofs.Common.{◌≡◌, ◌∙◌, ◌≢◌, ℕ, ◌+◌, ◌-◌, ◌*◌, ◌/◌, ◌%◌, ◌^◌, ◌<◌, ◌≤◌, ◌==◌, ◌&&◌, Bool, true, false, cond, List, [], ◌∷◌, Option, None, length, ap, sym, refl, arith, ⊎_elim}
+use Rattle.std.proofs.Common.{◌≡◌, ◌∙◌, ◌≢◌, ℕ, ◌+◌, ◌-◌, ◌*◌, ◌/◌, ◌%◌, ◌^◌, ◌<◌, ◌≤◌, ◌==◌, ◌&&◌, Bool, true, false, cond, List, [], ◌∷◌, Option, None, length, ap, sym, refl, arith, ⊎_elim, Some, drop, get_or-drop, length-drop}
 use Rattle.std.specs.Prelude.{nat_lt, slice_index}
 use Rattle.std.proofs.Math.Nat.{mod-eq_of_lt, mod-lt}
 use Rattle.std.proofs.lemmas.Nat.{div-add-mod', pow_pos}
 use Rattle.std.proofs.Math.Pow.{pow-lt}
-use Rattle.std.proofs.lemmas.Bool.{and_parts, cases_lt}
+use Rattle.std.proofs.lemmas.Bool.{cases_Bool, and_parts, cases_lt}
 use Rattle.std.proofs.lemmas.Bool.Decides.{nat_tests}
 use Rattle.std.proofs.lemmas.Nat.Bits.{bit_at-lt, bit_at-zero, bit_at_above, bit_at_cat_high, bit_at_xor, bit_at-pow_same, bit_at-pow_other, bit_at-trailing_zeros}
 use Rattle.std.specs.Int.{bit_at, trailing_zeros, w64}
@@ -15,7 +15,8 @@ use Rattle.hip_match.specs.Characters.{char_ends}
 use Rattle.hip_match.specs.Occurrence.{StartsFirst}
 use Rattle.hip_match.specs.Pieces.{gaps}
 use Rattle.hip_match.proofs.LeftmostLemmas.{leftmost_between-none, leftmost_between-some}
-use Rattle.hip_fields.specs.Marks.{Ahead, AreMarks, IsNextMark, NoMark, is_mark, parts_from}
+use Rattle.memchr.specs.Find.{IsFirstByte, is_byte}
+use Rattle.hip_fields.specs.Marks.{Ahead, AheadWithSome, AreMarks, IsNextMark, NoMark, is_mark, parts_from}
 use Rattle.hip_fields.proofs.Separators.{separator_here, separator_not_here}
 
 -- ---- bits
@@ -61,14 +62,56 @@ module _ (byte : ℕ) (t : List ℕ) where
       (λ (far : 64 ≤ s + k). bit ∙ bit_at_above m 64 (s + k) fits far ∙ ap (λ b. cond b 1 0) (sym (past_end (at + k) (omega arith))))
       (cases_lt (s + k) 64)
 
-  pub ahead-new : (m : ℕ) → 64 ≤ length t → AreMarks byte t 0 m → Ahead byte t 0 0 m
-  ahead-new m long marks = record {
-    within = omega arith;
+  pub ahead-at : (at m : ℕ) → at < length t → AreMarks byte t at m → Ahead byte t at at m
+  ahead-at at m within marks = record {
+    within = within;
     reached = omega arith;
     between = λ k lo hi. absurd (omega arith);
     taken = λ k low before. absurd (omega arith);
     left = λ k low after. marks k low;
   }
+
+  -- where none lies before a later place, what is ahead of that is ahead
+  pub ahead-later : (from later block m : ℕ) → from ≤ later → NoMark byte t from later → Ahead byte t later block m → Ahead byte t from block m
+  ahead-later from later block m le none h = record {
+    within = h.within;
+    reached = (let reached = h.reached in omega arith);
+    between = λ k lo hi. ⊎_elim (λ (lt : k < later). none k lo lt) (λ (ge : later ≤ k). h.between k ge hi) (cases_lt k later);
+    taken = λ k low before. h.taken k low (omega arith);
+    left = λ k low after. ⊎_elim
+        (λ (lt : block + k < later). h.taken k low lt ∙ sym (ap (λ b. cond b 1 0) (none (block + k) after lt)))
+        (λ (ge : later ≤ block + k). h.left k low ge)
+        (cases_lt (block + k) later);
+  }
+
+  -- ---- a search behind a place
+
+  behind : (from k : ℕ) → from ≤ k → slice_index (drop from t) (k - from) ≡ slice_index t k
+  behind from k le = get_or-drop from t (k - from) 0 ∙ ap (λ (i : ℕ). slice_index t i) (omega arith)
+
+  unmarked : (k : ℕ) → ¬ ((slice_index t k == byte) ≡ true) → is_mark byte t k ≡ false
+  unmarked k other = ⊎_elim
+      (λ (lt : k < length t). mark-inside k lt ∙ ⊎_elim (λ yes. absurd (other yes)) (λ no. no) (cases_Bool (slice_index t k == byte)))
+      (λ (ge : length t ≤ k). past_end k ge)
+      (cases_lt k (length t))
+
+  pub none-behind : (from : ℕ) → IsFirstByte (is_byte byte) (drop from t) None → NoMark byte t from (length t)
+  none-behind from none k lo hi =
+      unmarked k (λ is. none (k - from) (omega arith) (omega (arith, length-drop from t)) (ap (is_byte byte) (behind from k lo) ∙ is))
+
+  pub some-behind : (from i m : ℕ) → IsFirstByte (is_byte byte) (drop from t) (Some i) → AreMarks byte t (from + i) m → AheadWithSome byte t from (from + i) m
+  some-behind from i m found marks =
+      let high = found.0.high in
+      let within : from + i < length t = omega (arith, length-drop from t) in
+      let is : is_mark byte t (from + i) ≡ true = ◌∙◌ {b = slice_index t (from + i) == byte} (mark-inside (from + i) within) (ap (is_byte byte) (sym (get_or-drop from t i 0)) ∙ found.1) in
+      let zero_place : from + i + 0 ≡ from + i = omega arith in
+      let one : bit_at m 0 ≡ 1 = marks 0 (omega arith) ∙ ap (λ k. cond (is_mark byte t k) 1 0) zero_place ∙ ap (λ b. cond b 1 0) is in
+      record {
+        ahead = ahead-later from (from + i) (from + i) m (omega arith)
+            (λ k lo hi. unmarked k (λ is. found.0.before (k - from) (omega arith) (omega arith) (ap (is_byte byte) (behind from k lo) ∙ is)))
+            (ahead-at (from + i) m within marks);
+        some = ⊎_elim (λ (lt : 0 < m). lt) (λ (ge : m ≤ 0). let none : m ≡ 0 = omega arith in absurd (omega (arith, one, ap (λ x. bit_at x 0) none, bit_at-zero 0))) (cases_lt 0 m);
+      }
 
   module _ (from block m : ℕ) (h : Ahead byte t from block m) where
     in_block : (k : ℕ) → from ≤ k → block ≤ k → k < block + 64 → bit_at m (k - block) ≡ 0 → is_mark byte t k ≡ false
@@ -81,15 +124,6 @@ module _ (byte : ℕ) (t : List ℕ) where
         ⊎_elim (λ (before : k < block). h.between k lo before)
         (λ (ge : block ≤ k). in_block k lo ge hi (ap (λ x. bit_at x (k - block)) none ∙ bit_at-zero (k - block)))
         (cases_lt k block)
-
-    pub ahead-more : (n : ℕ) → m ≡ 0 → block + 64 < length t → AreMarks byte t (block + 64) n → Ahead byte t from (block + 64) n
-    ahead-more n none more marks = record {
-      within = more;
-      reached = (let reached = h.reached in omega arith);
-      between = none-ahead none;
-      taken = λ k low before. (let reached = h.reached in absurd (omega arith));
-      left = λ k low after. marks k low;
-    }
 
     pub mark-found : 0 < m → m < 2 ^ 64 → (trailing_zeros w64 m < 64) × IsNextMark byte t from (block + trailing_zeros w64 m)
         × Ahead byte t (block + trailing_zeros w64 m + 1) block (bit_xor m (2 ^ trailing_zeros w64 m))

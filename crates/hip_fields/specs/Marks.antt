@@ -31,6 +31,11 @@ pub record Ahead (byte : ℕ) (line : List ℕ) (from block marks : ℕ) : Type 
   pub taken : (k : ℕ) → k < 64 → block + k < from → bit_at marks k ≡ 0
   pub left : (k : ℕ) → k < 64 → from ≤ block + k → bit_at marks k ≡ (if is_mark byte line (block + k) then 1 else 0)
 
+-- and there is one
+pub record AheadWithSome (byte : ℕ) (line : List ℕ) (from block marks : ℕ) : Type 0 where
+  pub ahead : Ahead byte line from block marks
+  pub some : 0 < marks
+
 -- the parts from `from` on between this character
 abbrev pub parts_from : ℕ → List ℕ → ℕ → List (ℕ × ℕ)
 parts_from byte line from = gaps from (leftmost_between (char_ends (λ c. c == byte) line) from (length line)) (length line)

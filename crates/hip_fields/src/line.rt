@@ -5,7 +5,7 @@ ghost use Rattle.hip_match.specs.Joined.{parts};
 ghost use Rattle.hip_match.specs.Occurrence.{IsCut};
 ghost use Rattle.hip_fields.specs.Records.{AreFields, fields_cost, fields_of};
 
-use crate::parts::{LANES, Parts};
+use crate::parts::{BLOCK, Parts};
 use crate::separator::Separator;
 use hip_cuts::hip_match::ranges::Ranges;
 use hip_cuts::hip_match::split::Split;
@@ -58,7 +58,7 @@ pub(crate) fn fields_between<'b, B: Backend>(
 {
     let line = &source.as_str()[start..end];
     match Separator::of(separator) {
-        Some(near) if LANES <= line.len() => {
+        Some(near) if BLOCK <= line.len() => {
             fields_at(
                 alloc,
                 source,

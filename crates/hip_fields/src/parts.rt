@@ -1,18 +1,18 @@
 //! The parts of a line between a character of ASCII, which is found 64 bytes at a time.
-ghost use Rattle.std.specs.Prelude.{◌≡◌, ◌+◌, ◌<◌, ◌≤◌, [], length, MatchOption, if◌then◌else◌};
+ghost use Rattle.std.specs.Prelude.{◌≡◌, ◌==◌, ◌+◌, ◌<◌, ◌≤◌, [], length, MatchOption, if◌then◌else◌};
 ghost use Rattle.std.specs.Str.{IsCharBoundary, IsUtf8};
 ghost use Rattle.hip_match.specs.Characters.{char_ends};
 ghost use Rattle.hip_match.specs.Iterators.{Gives};
 ghost use Rattle.hip_match.specs.Pieces.{split};
-ghost use Rattle.hip_fields.specs.Marks.{Ahead, AreMarks, IsNextMark, NoMark, parts_from};
-ghost use Rattle.std.specs.Prelude.{◌==◌};
+ghost use Rattle.hip_fields.specs.Marks.{Ahead, AheadWithSome, AreMarks, IsNextMark, NoMark, parts_from};
 
 use crate::separator::Separator;
 use hip_cuts::hip_match::ranges::Ranges;
+use memchr::memchr;
 use std::simd::prelude::*;
 
-/// How many bytes a line has at least.
-pub(crate) const LANES: usize = 64;
+/// How many bytes are looked at in one step, and how many a line has at least.
+pub(crate) const BLOCK: usize = 64;
 
 // Which of the 64 bytes from `at` on are this one.
 #[inline(always)]
@@ -32,7 +32,7 @@ fn marks_at(byte: u8, bytes: &[u8], at: usize) -> u64
     requires within { at < length bytes.now }
     ensures { AreMarks byte bytes.now at result }
 {
-    let last = bytes.len() - LANES;
+    let last = bytes.len() - BLOCK;
     if at <= last {
         return block_marks(byte, bytes, at);
     }
@@ -69,22 +69,47 @@ impl Marks {
         ensures ahead { MatchOption result (Ahead byte bytes.now from self.new.block self.new.marks)
             (λ at. Ahead byte bytes.now (at + 1) self.new.block self.new.marks) }
     {
-        let mut block = self.block;
-        let mut marks = self.marks;
-        while marks == 0 {
-            if bytes.len() - block <= LANES {
-                self.block = block;
-                self.marks = marks;
-                return None;
-            }
-            block += LANES;
-            marks = marks_at(byte, bytes, block);
+        if self.marks != 0 {
+            return Some(self.pass_first(byte, bytes, from));
         }
-        let first = marks.trailing_zeros();
-        self.block = block;
-        self.marks = marks ^ (1 << first);
-        Some(block + first as usize)
+        *self = later(byte, bytes, self.block)?;
+        Some(self.pass_first(byte, bytes, from))
     }
+
+    // The first place at or after `from`, of those that are left in the block.
+    #[inline(always)]
+    fn pass_first(&mut self, byte: u8, bytes: &[u8], from: usize) -> usize
+        requires { AheadWithSome byte bytes.now from self.old.block self.old.marks }
+        ensures found { IsNextMark byte bytes.now from result }
+        ensures ahead { Ahead byte bytes.now (result + 1) self.new.block self.new.marks }
+    {
+        let first = self.marks.trailing_zeros();
+        self.marks ^= 1 << first;
+        self.block + first as usize
+    }
+}
+
+// The places in the next block, or, where it has none, behind the first that comes: a part that is so long is gone through by `memchr`.
+#[inline(always)]
+fn later(byte: u8, bytes: &[u8], block: usize) -> Option<Marks>
+    requires long { 64 ≤ length bytes.now }
+    requires within { block < length bytes.now }
+    ensures { MatchOption result (NoMark byte bytes.now (block + 64) (length bytes.now))
+        (λ marks. AheadWithSome byte bytes.now (block + 64) marks.block marks.marks) }
+{
+    if bytes.len() - block <= BLOCK {
+        return None;
+    }
+    let next = block + BLOCK;
+    let marks = marks_at(byte, bytes, next);
+    if marks != 0 {
+        return Some(Marks { block: next, marks });
+    }
+    let first = next + memchr(byte, &bytes[next..])?;
+    Some(Marks {
+        block: first,
+        marks: marks_at(byte, bytes, first),
+    })
 }
 
 /// The parts of a line of at least 64 bytes between a character of ASCII.
