@@ -32,8 +32,7 @@ impl<'l> Words<'l> {
     /// The next word.
     pub(crate) fn next(&mut self) -> Option<&'l [u8]> {
         let rest = self.rest?;
-        // Words are short, so a call of a search costs more than a look at each byte.
-        match rest.iter().position(|byte| *byte == b' ') {
+        match space_at(rest) {
             Some(at) => {
                 self.rest = Some(&rest[at + 1..]);
                 Some(&rest[..at])
@@ -87,6 +86,17 @@ impl<'l> Words<'l> {
             start,
             end: buffer.len(),
         })
+    }
+}
+
+/// Where the first space stands. Words are mostly short, so a look at each of the first bytes costs less than a search.
+fn space_at(text: &[u8]) -> Option<usize>
+    ensures { IfSome result (λ at. at < length text.now) }
+{
+    let near = &text[..text.len().min(LANES)];
+    match near.iter().position(|byte| *byte == b' ') {
+        Some(at) => Some(at),
+        None => Some(near.len() + memchr(b' ', &text[near.len()..])?),
     }
 }
 
