@@ -5,7 +5,7 @@
 //! - `cuts`: texts that are cut once.
 //! - `ways`: each way to take a text apart, by every script of up to six ends.
 //! - `own_backend`: the same on a backend that a user wrote.
-//! - `plays`: scripts, bad lines, and readers and writers that fail, by `hip_script::play`.
+//! - `plays`: scripts, bad lines, and readers and writers that fail, by `hip_script::play`, and what it prints beside the earlier code.
 //! - `uses`: template, tokens, queue, interner and table.
 //! - `user`: functions of a pattern and over a closure, and a struct that keeps a walk, by the names of hipstr alone.
 //!

@@ -1,4 +1,4 @@
-//! The lines of scripts and their answers, lines that are no commands, and readers and writers that fail.
+//! The lines of scripts and their answers, lines that are no commands, readers and writers that fail, and scripts beside the earlier code.
 mod bad_lines;
 mod earlier;
 mod failing;

@@ -1,5 +1,5 @@
-//! How scripts were read and printed before a line was told apart by what follows its verb: that code as it was, and what it prints of
-//! many made scripts, right and wrong, beside what `hip_script` prints.
+//! How scripts were read and printed before that became faster: the code as it was, and what it prints of many made scripts, right and
+//! wrong, beside what `hip_script` prints.
 mod fault;
 mod line;
 mod play;
@@ -9,18 +9,27 @@ mod script;
 mod verb;
 mod words;
 
-use super::support::{WELL, played};
+use super::support::{WELL, played, played_by};
 use hip_script::PlayFault;
 use hipstr::{Backend, Fuse, Rc, Unique};
 use std::alloc::{AllocError, Global};
 
-/// What a script printed then, and how it ended.
-fn played_earlier<B: Backend>(alloc: Global, script: &str) -> (Vec<u8>, Result<(), PlayFault>) {
+/// What a script printed then to a writer that takes so many bytes a call at most and fails at its `k`-th call alone, and how it ended.
+fn played_earlier_by<B: Backend>(
+    alloc: Global,
+    script: &str,
+    writes: (usize, u64),
+) -> (Vec<u8>, Result<(), PlayFault>) {
     let mut taken = Vec::new(alloc);
     let reader = Fuse::new(script.as_bytes(), WELL.0, WELL.1);
-    let writer = Fuse::new(&mut taken, WELL.0, WELL.1);
+    let writer = Fuse::new(&mut taken, writes.0, writes.1);
     let ended = play::play::<B, _, _>(alloc, reader, writer);
     (taken, ended)
+}
+
+/// What it printed to one that takes all.
+fn played_earlier<B: Backend>(alloc: Global, script: &str) -> (Vec<u8>, Result<(), PlayFault>) {
+    played_earlier_by::<B>(alloc, script, WELL)
 }
 
 /// Each verb, and what its words are.
@@ -119,7 +128,17 @@ impl Word {
 type Choices = (&'static [&'static str], &'static [&'static str]);
 
 const NUMBERS: Choices = (
-    &["0", "0", "1", "2", "3", "10", "007"],
+    &[
+        "0",
+        "0",
+        "1",
+        "2",
+        "3",
+        "10",
+        "007",
+        "0000000000000002",
+        "000000000000000000003",
+    ],
     &[
         "16",
         "18446744073709551615",
@@ -374,6 +393,100 @@ fn reads_literals_as_earlier(rt: HostRuntime) {
                     played_earlier::<Rc>(alloc, script.as_str()),
                     "{}",
                     script.as_str()
+                );
+            }
+        }
+    }
+}
+
+/// What comes behind some plain bytes of a literal where there is room in the buffer, and whether the line is right.
+const BEHIND_ROOM: &[(&str, bool)] = &[
+    ("\"", true),
+    ("\\\"\"", true),
+    ("\\\\ and more\"", true),
+    ("\\x41bc\\xfe\"", true),
+    ("plain to the end, and beyond\"", true),
+    ("\\x4\"", false),
+    ("\\n\"", false),
+    ("\\", false),
+    ("", false),
+];
+
+/// A script of three literals: the first takes room for its bytes alone, the second takes as much again, and leaves that less its own
+/// four; the third has so many plain bytes, and then more than sixteen up to the line's end.
+fn room_script(
+    alloc: Global,
+    before: usize,
+    plain: usize,
+    behind: &str,
+) -> Result<String, AllocError> {
+    let mut script = String::from_str(alloc, "copy 0 \"")?;
+    for _ in 0..before {
+        script.push_str("y")?;
+    }
+    script.push_str("\"\ncopy 1 \"zzzz\"\njoin 0 2 \"")?;
+    for _ in 0..plain {
+        script.push_str("x")?;
+    }
+    script.push_str(behind)?;
+    script.push_str(" 00000000000000000000002\nshow 2\n")?;
+    Ok(script)
+}
+
+/// Plain bytes that are added sixteen at once, on both sides of sixteen, and of the room that they need.
+#[test]
+fn reads_literals_into_room_as_earlier(rt: HostRuntime) {
+    let alloc = rt.alloc();
+    for before in [8, 18, 19, 20, 21, 22, 60] {
+        for plain in 0..20 {
+            for (behind, right) in BEHIND_ROOM {
+                let Ok(script) = room_script(alloc, before, plain, behind) else {
+                    panic!(rt; "no memory");
+                };
+                let now = played::<Rc>(alloc, script.as_str());
+                assert_eq!(rt; now.1.is_ok(), *right, "{}", script.as_str());
+                assert_eq!(rt;
+                    now,
+                    played_earlier::<Rc>(alloc, script.as_str()),
+                    "{}",
+                    script.as_str()
+                );
+            }
+        }
+    }
+}
+
+/// A script that prints so many bytes, and then more numbers and fields than the buffer of a writer holds, which is 8 KiB.
+fn long_script(alloc: Global, before: usize) -> Result<String, AllocError> {
+    let mut script = String::from_str(
+        alloc,
+        "copy 0 \"a,1;\\xff\"\ncopy 1 \"b\"\nrepeat 1 2 54321\ncopy 3 \"",
+    )?;
+    for _ in 0..before {
+        script.push_str("x")?;
+    }
+    script.push_str("\"\nshow 3\n")?;
+    for _ in 0..400 {
+        script.push_str("len 2\ncopied\nlen 0\nset 1 0 65\npop 0\npush 0 \"\\x01\"\n")?;
+    }
+    script.push_str("text 3\nfields 3 \"x\"\nshow 0\n")?;
+    Ok(script)
+}
+
+/// What has gone out when a write fails is the same, wherever the end of the buffer falls in a number.
+#[test]
+fn writes_as_earlier(rt: HostRuntime) {
+    let alloc = rt.alloc();
+    for before in 0..8 {
+        let Ok(script) = long_script(alloc, before) else {
+            panic!(rt; "no memory");
+        };
+        for most in [3000, usize::MAX] {
+            for k in 0..6 {
+                assert_eq!(rt;
+                    played_by::<Rc>(alloc, script.as_bytes(), WELL, (most, k)),
+                    played_earlier_by::<Rc>(alloc, script.as_str(), (most, k)),
+                    "{before} bytes, {most} a call, failing at call {k}"
                 );
             }
         }
