@@ -72,13 +72,15 @@ impl Turns {
         self.upto
     }
 
-    // The first place at or after `from` at which a run ends, or none, where there is none among the places that can be looked at 63 at a time.
+    // The first place at or after `from` at which a run ends, or none, where there is none among the places that can be looked at 63 at a
+    // time.
     #[inline(always)]
     pub(crate) fn next(&mut self, bytes: &[u8], from: usize) -> Option<usize>
         requires { Ahead bytes.now from self.old.upto self.old.turns }
         ensures found { MatchOption result
             (IsTail bytes.now from self.new.upto self.new.turns) (IsNextTurn bytes.now from) }
-        ensures ahead { MatchOption result (Ahead bytes.now from self.new.upto self.new.turns) (λ at. Ahead bytes.now (at + 1) self.new.upto self.new.turns) }
+        ensures ahead { MatchOption result (Ahead bytes.now from self.new.upto self.new.turns)
+            (λ at. Ahead bytes.now (at + 1) self.new.upto self.new.turns) }
     {
         let mut upto = self.upto;
         let mut turns = self.turns;
