@@ -1,13 +1,14 @@
 //! The order of paths.
-ghost use Rattle.std.specs.Prelude.{◌≡◌, ◌+◌, ◌≤◌, ◌↔◌, drop, length, take, IsTrue};
+ghost use Rattle.std.specs.Prelude.{◌≡◌, ◌+◌, ◌≤◌, ◌↔◌, drop, length, IsTrue};
 ghost use Rattle.std.specs.Cmp.Lexicographic.{slice_cmp};
+ghost use Rattle.hip_raw.specs.Alike.{Alike, IsAlikeRun};
 ghost use Rattle.hip_names.specs.Components.{component_order, components, names, path_order};
 ghost use Rattle.hip_names.specs.Shared.{IsSharedFront};
 ghost use Rattle.hip_names.specs.Shown.{to_come};
 
 use crate::component::{Components, next_name};
-use hip_raw::equal;
 use std::cmp::Ordering;
+use std::simd::prelude::*;
 
 const BLOCK: usize = 8;
 
@@ -61,12 +62,16 @@ fn shared_front(left: &[u8], right: &[u8]) -> usize
 #[inline]
 fn shared_bytes(left: &[u8], right: &[u8]) -> usize
     ensures within { (result ≤ length left.now) × (result ≤ length right.now) }
-    ensures same { take result left.now ≡ take result right.now }
+    ensures same { Alike left.now right.now 0 result }
 {
     let both = left.len().min(right.len());
     let mut shared = 0;
-    while BLOCK <= both - shared && same_block(left, right, shared) {
-        shared += BLOCK;
+    while BLOCK <= both - shared {
+        let run = alike_run(left, right, shared);
+        shared += run;
+        if run < BLOCK {
+            return shared;
+        }
     }
     while shared < both && left[shared] == right[shared] {
         shared += 1;
@@ -74,13 +79,20 @@ fn shared_bytes(left: &[u8], right: &[u8]) -> usize
     shared
 }
 
-/// Whether the eight bytes from a position on are the same.
+/// How many of the eight bytes from a position on are the same, from the first.
 #[inline(always)]
-fn same_block(left: &[u8], right: &[u8], at: usize) -> bool
+fn alike_run(left: &[u8], right: &[u8], at: usize) -> usize
     requires within { (at + 8 ≤ length left.now) × (at + 8 ≤ length right.now) }
-    ensures { IsTrue result → take 8 (drop at left.now) ≡ take 8 (drop at right.now) }
+    ensures { IsAlikeRun left.now right.now at 8 result }
 {
-    equal(&left[at..at + BLOCK], &right[at..at + BLOCK])
+    let unlike = u8x8::from_slice(&left[at..])
+        .simd_ne(u8x8::from_slice(&right[at..]))
+        .to_bitmask();
+    if unlike == 0 {
+        BLOCK
+    } else {
+        unlike.trailing_zeros() as usize
+    }
 }
 
 /// How the components that are to come on one side stand to those on the other.
