@@ -2,7 +2,6 @@
 
 use hipstr::string::HipStr;
 use hipstr::{Answer, Backend, Kind};
-use itoa::Buffer;
 use std::cmp::Ordering;
 use std::io;
 use std::io::Write;
@@ -10,7 +9,7 @@ use std::io::Write;
 /// Prints an answer on a line of its own.
 pub(crate) fn print_answer<W: Write>(out: &mut W, answer: Answer) -> io::Result<()> {
     let line: &[u8] = match answer {
-        Answer::Number(number) => return print_number(out, number),
+        Answer::Number(number) => return writeln!(out, "{number}"),
         Answer::Byte(byte) => return writeln!(out, "byte {byte}"),
         Answer::Char(c) => return writeln!(out, "char {}", u32::from(c)),
         Answer::Refused(reason) => return writeln!(out, "refused {reason:?}"),
@@ -24,13 +23,6 @@ pub(crate) fn print_answer<W: Write>(out: &mut W, answer: Answer) -> io::Result<
         Answer::Kind(Kind::Allocated) => b"allocated\n",
     };
     out.write_all(line)
-}
-
-/// Prints a number on a line of its own. Most answers are numbers, and a format costs several times as much.
-fn print_number<W: Write>(out: &mut W, number: usize) -> io::Result<()> {
-    let mut buffer = Buffer::new();
-    out.write_all(buffer.format(number).as_bytes())?;
-    out.write_all(b"\n")
 }
 
 /// Prints bytes as a literal: 0x20 to 0x7E stand for themselves save `\"` and `\\`.
