@@ -1,9 +1,8 @@
 -- Marks of a byte: the bits of one number, the places that they tell, and the parts between them.
-use Rattle.std.proofs.Common.{◌≡◌, ◌∙◌, ◌≢◌, ℕ, ◌+◌, ◌-◌, ◌*◌, ◌/◌, ◌%◌, ◌^◌, ◌<◌, ◌≤◌, ◌==◌, ◌&&◌, Bool, true, false, cond, List, [], ◌∷◌, Option, None, length, ap, sym, refl, arith, ⊎_elim, Some, drop, get_or-drop, length-drop}
+use Rattle.std.proofs.Common.{◌≡◌, ◌∙◌, ◌≢◌, ℕ, ◌+◌, ◌-◌, ◌*◌, ◌/◌, ◌%◌, ◌^◌, ◌<◌, ◌≤◌, ◌==◌, ◌&&◌, true, false, cond, List, [], ◌∷◌, Option, None, length, ap, sym, arith, ⊎_elim, Some, drop, get_or-drop, length-drop}
 use Rattle.std.specs.Prelude.{nat_lt, slice_index}
-use Rattle.std.proofs.Math.Nat.{mod-eq_of_lt, mod-lt}
+use Rattle.std.proofs.Math.Nat.{mod-lt}
 use Rattle.std.proofs.lemmas.Nat.{div-add-mod', pow_pos}
-use Rattle.std.proofs.Math.Pow.{pow-lt}
 use Rattle.std.proofs.lemmas.Bool.{cases_Bool, and_parts, cases_lt}
 use Rattle.std.proofs.lemmas.Bool.Decides.{nat_tests}
 use Rattle.std.proofs.lemmas.Nat.Bits.{bit_at-lt, bit_at-zero, bit_at_above, bit_at_cat_high, bit_at_xor, bit_at-pow_same, bit_at-pow_other, bit_at-trailing_zeros}
@@ -17,21 +16,9 @@ use Rattle.hip_match.specs.Pieces.{gaps}
 use Rattle.hip_match.proofs.LeftmostLemmas.{leftmost_between-none, leftmost_between-some}
 use Rattle.memchr.specs.Find.{IsFirstByte, is_byte}
 use Rattle.hip_fields.specs.Marks.{Ahead, AheadWithSome, AreMarks, IsNextMark, NoMark, is_mark, parts_from}
-use Rattle.hip_fields.proofs.Separators.{separator_here, separator_not_here}
+use Rattle.hip_fields.proofs.Separators.{bit_set, bit_unset, separator_here, separator_not_here}
 
 -- ---- bits
-
-yes : (b : Bool) (n : ℕ) → n ≡ cond b 1 0 → n ≡ 1 → b ≡ true
-yes true n is one = refl
-yes false n is one = absurd (omega arith)
-
-no : (b : Bool) (n : ℕ) → n ≡ cond b 1 0 → n ≡ 0 → b ≡ false
-no true n is none = absurd (omega arith)
-no false n is none = refl
-
--- a bit by itself
-pub one_bit : (r : ℕ) → r < 64 → 1 * 2 ^ r % 2 ^ 64 ≡ 2 ^ r
-one_bit r low = ap (λ x. x % 2 ^ 64) (omega arith) ∙ mod-eq_of_lt (pow-lt low)
 
 xor_same : (m r : ℕ) → bit_at m r ≡ 1 → bit_at (bit_xor m (2 ^ r)) r ≡ 0
 xor_same m r one = bit_at_xor m (2 ^ r) r ∙ omega (arith, one, bit_at-pow_same r)
@@ -117,7 +104,7 @@ module _ (byte : ℕ) (t : List ℕ) where
     in_block : (k : ℕ) → from ≤ k → block ≤ k → k < block + 64 → bit_at m (k - block) ≡ 0 → is_mark byte t k ≡ false
     in_block k lo ge hi none =
         let back : block + (k - block) ≡ k = omega arith in
-        ap (is_mark byte t) (sym back) ∙ no _ _ (h.left (k - block) (omega arith) (omega arith)) none
+        ap (is_mark byte t) (sym back) ∙ bit_unset _ _ (h.left (k - block) (omega arith) (omega arith)) none
 
     pub none-ahead : m ≡ 0 → NoMark byte t from (block + 64)
     none-ahead none k lo hi =
@@ -136,7 +123,7 @@ module _ (byte : ℕ) (t : List ℕ) where
           inside,
           record {
             after = after;
-            is = yes _ _ (h.left r inside after) first.1;
+            is = bit_set _ _ (h.left r inside after) first.1;
             first = λ k lo hi. ⊎_elim (λ (before : k < block). h.between k lo before)
                 (λ (ge : block ≤ k). in_block k lo ge (omega arith) (first.2 (k - block) (omega arith)))
                 (cases_lt k block);

@@ -12,11 +12,11 @@ use Rattle.hip_match.specs.Characters.{char_ends}
 use Rattle.hip_match.specs.Occurrence.{IsNextMatch}
 use Rattle.hip_match.proofs.AsciiSetLemmas.{ascii-none, ascii-some, first_byte}
 
-bit_set : (b : Bool) (n : ℕ) → n ≡ cond b 1 0 → n ≡ 1 → b ≡ true
+pub bit_set : (b : Bool) (n : ℕ) → n ≡ cond b 1 0 → n ≡ 1 → b ≡ true
 bit_set true n is one = refl
 bit_set false n is one = absurd (omega arith)
 
-bit_unset : (b : Bool) (n : ℕ) → n ≡ cond b 1 0 → n ≡ 0 → b ≡ false
+pub bit_unset : (b : Bool) (n : ℕ) → n ≡ cond b 1 0 → n ≡ 0 → b ≡ false
 bit_unset true n is none = absurd (omega arith)
 bit_unset false n is none = refl
 

@@ -2,7 +2,8 @@ use Rattle.std.proofs.Common.{ℕ, ◌+◌, subst, sym}
 use Rattle.std.specs.Int.{trailing_zeros, w64}
 use Rattle.std.specs.Int.Bits.{bit_xor}
 use Rattle.hip_fields.specs.Marks.{Ahead}
-use Rattle.hip_fields.proofs.Marks.{mark-found, one_bit}
+use Rattle.hip_match.proofs.MarkLemmas.{one_bit}
+use Rattle.hip_fields.proofs.Marks.{mark-found}
 use Rattle.hip_fields.proofs.parts.Marks.pass_first.Goals as goal
 
 pub returns-clause-found : goal.returns-clause-found
