@@ -139,6 +139,9 @@ module _ (byte : ℕ) (t : List ℕ) where
           },
         )
 
+  pub none-in-block : (at m : ℕ) → m ≡ 0 → at < length t → AreMarks byte t at m → NoMark byte t at (at + 64)
+  none-in-block at m none within marks = none-ahead at at m (ahead-at at m within marks) none
+
   -- ---- the parts
 
   module _ (ascii : byte < 128) (utf8 : IsUtf8 t) where

@@ -105,7 +105,11 @@ fn later(byte: u8, bytes: &[u8], block: usize) -> Option<Marks>
     if marks != 0 {
         return Some(Marks { block: next, marks });
     }
-    let first = next + memchr(byte, &bytes[next..])?;
+    if bytes.len() - next <= BLOCK {
+        return None;
+    }
+    let far = next + BLOCK;
+    let first = far + memchr(byte, &bytes[far..])?;
     Some(Marks {
         block: first,
         marks: marks_at(byte, bytes, first),
