@@ -5,18 +5,23 @@ use hipstr::Rc;
 use hipstr::string::HipStr;
 use std::alloc::{AllocError, Global};
 use std::cmp::Reverse;
+use std::hash::RandomState;
 
 /// The different words of a text, and how often each comes, by its number.
 #[derive(Drop)]
 pub(crate) struct Words<'b> {
-    interner: Interner<'b, Rc>,
+    interner: Interner<'b, Rc, RandomState>,
     counts: Vec<u64>,
 }
 
 impl<'b> Words<'b> {
     /// Counts the words of a text.
-    pub(crate) fn of(alloc: Global, text: &HipStr<'b, Rc>) -> Result<Self, ToolFault> {
-        let mut interner = Interner::new(alloc);
+    pub(crate) fn of(
+        state: RandomState,
+        alloc: Global,
+        text: &HipStr<'b, Rc>,
+    ) -> Result<Self, ToolFault> {
+        let mut interner = Interner::with_hasher(alloc, state);
         let numbers = interner.intern_words(alloc, text)?;
         let mut counts = vec![in alloc; 0u64; interner.len()]?;
         for number in &numbers {

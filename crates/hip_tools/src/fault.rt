@@ -23,6 +23,8 @@ pub(crate) enum ToolFault {
     NoColumn(String),
     /// There are more different words than numbers.
     TooManyWords,
+    /// The system gives no random bytes, of which the hasher of words and names is seeded.
+    NoRandomness,
 }
 
 impl ToolFault {
@@ -48,6 +50,7 @@ impl fmt::Display for ToolFault {
             ToolFault::Table(fault) => write!(f, "{fault}"),
             ToolFault::NoColumn(name) => write!(f, "line 1: no column `{name}`"),
             ToolFault::TooManyWords => f.write_str("too many different words"),
+            ToolFault::NoRandomness => f.write_str("no randomness"),
         }
     }
 }

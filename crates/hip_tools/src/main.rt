@@ -32,5 +32,5 @@ fn run(rt: &HostRuntime) -> Result<(), ToolFault> {
         words.push(word)?;
     }
     let tool = Tool::read(words.as_slice())?;
-    perform(rt.alloc(), tool, rt.reader(), io::writer(rt))
+    perform(rt, rt.alloc(), tool, rt.reader(), io::writer(rt))
 }

@@ -9,10 +9,13 @@ use hipstr::bytes::HipByt;
 use hipstr::string::HipStr;
 use hipstr::{Meter, Rc};
 use std::alloc::Global;
+use std::hash::RandomState;
 use std::io::{BufWriter, ErrorKind, Read, Write};
+use std::random::RandomSource;
 
-/// Reads the text whole, and writes what the tool makes of it.
-pub(crate) fn perform<R: Read + Drop, W: Write + Drop>(
+/// Reads the text whole, and writes what the tool makes of it. The seed of hashers is drawn from `random`.
+pub(crate) fn perform<S: RandomSource, R: Read + Drop, W: Write + Drop>(
+    random: &S,
     alloc: Global,
     tool: Tool<'_>,
     mut reader: R,
@@ -22,7 +25,7 @@ pub(crate) fn perform<R: Read + Drop, W: Write + Drop>(
     let Ok(mut out) = BufWriter::new(alloc, writer) else {
         return Err(ToolFault::Memory);
     };
-    let written = write_answer(alloc, tool, &text, &mut out);
+    let written = write_answer(random, alloc, tool, &text, &mut out);
     let flushed = match written {
         Err(ToolFault::WriteFailed) => Ok(()),
         _ => out.flush(),
@@ -58,7 +61,8 @@ fn read_text<R: Read>(alloc: Global, reader: &mut R) -> Result<HipStr<'static, R
     }
 }
 
-fn write_answer<'t, W: Write>(
+fn write_answer<'t, S: RandomSource, W: Write>(
+    random: &S,
     alloc: Global,
     tool: Tool<'t>,
     text: &HipStr<'t, Rc>,
@@ -67,8 +71,8 @@ fn write_answer<'t, W: Write>(
     match tool {
         Tool::Tokens => write_tokens(alloc, text, out),
         Tool::Table(column) => write_column(alloc, text, column, out),
-        Tool::Fill(words) => write_filled(alloc, text, words, out),
-        Tool::Count => write_counts(alloc, text, out),
+        Tool::Fill(words) => write_filled(drawn(random)?, alloc, text, words, out),
+        Tool::Count => write_counts(drawn(random)?, alloc, text, out),
     }
 }
 
@@ -90,20 +94,29 @@ fn write_column<W: Write>(
     out: &mut W,
 ) -> Result<(), ToolFault> {
     let table = Table::read(alloc, text, ',')?;
-    if table.column(column).is_none() {
+    let Some(place) = table.column(column) else {
         return Err(ToolFault::NoColumn(String::from_str(alloc, column)?));
-    }
+    };
     for row in 0..table.len() {
-        if let Some(cell) = table.cell(row, column) {
+        if let Some(cell) = table.cell_at(row, place) {
             writeln!(out, "{cell}")?;
         }
     }
     Ok(())
 }
 
+/// A seed for hashers. Words and names come from outside, where somebody may have chosen them.
+fn drawn<S: RandomSource>(random: &S) -> Result<RandomState, ToolFault> {
+    RandomState::new(random).map_err(|_| ToolFault::NoRandomness)
+}
+
 /// What the words `NAME=VALUE` give.
-fn values_of<'a>(alloc: Global, words: &'a [String]) -> Result<Values<'a, Rc>, ToolFault> {
-    let mut values = Values::new(alloc);
+fn values_of<'a>(
+    state: RandomState,
+    alloc: Global,
+    words: &'a [String],
+) -> Result<Values<'a, Rc, RandomState>, ToolFault> {
+    let mut values = Values::with_hasher(alloc, state);
     for word in words {
         let Some((name, value)) = word.as_str().split_once('=') else {
             return Err(ToolFault::Usage);
@@ -129,12 +142,13 @@ fn place_of(template: &Template<'_, Rc>, name: &HipStr<'_, Rc>) -> usize {
 }
 
 fn write_filled<'t, W: Write>(
+    state: RandomState,
     alloc: Global,
     text: &HipStr<'t, Rc>,
     words: &'t [String],
     out: &mut W,
 ) -> Result<(), ToolFault> {
-    let values = values_of(alloc, words)?;
+    let values = values_of(state, alloc, words)?;
     let template = match parse(alloc, text) {
         Ok(template) => template,
         Err(TemplateFault::Unclosed(rest)) => {
@@ -157,11 +171,12 @@ fn write_filled<'t, W: Write>(
 }
 
 fn write_counts<W: Write>(
+    state: RandomState,
     alloc: Global,
     text: &HipStr<'_, Rc>,
     out: &mut W,
 ) -> Result<(), ToolFault> {
-    let words = Words::of(alloc, text)?;
+    let words = Words::of(state, alloc, text)?;
     for (number, count) in &words.by_count(alloc)? {
         if let Some(word) = words.text(*number) {
             writeln!(out, "{count} {word}")?;

@@ -1,13 +1,18 @@
 -- Where the parts of a hole stand in a template.
-use Rattle.std.proofs.Common.{◌≡◌, ◌∙◌, ℕ, ◌+◌, ◌-◌, ◌≤◌, List, [], ◌++◌, Option, Result, Ok, Some, rules, length, take, drop, ap, sym, subst, append_assoc, length-append, arith}
+use Rattle.std.proofs.Common.{◌≡◌, ◌∙◌, ℕ, ◌+◌, ◌-◌, ◌≤◌, List, [], ◌++◌, Option, Result, Ok, Some, rules, length, take, drop, ap, sym, subst, append_assoc, drop-drop, length-append, length-take-le, take-append-drop, arith}
 use Rattle.std.specs.Prelude.{slice_range}
 use Rattle.std.specs.Str.{IsCharBoundary, IsUtf8}
 use Rattle.std.proofs.Math.Seq.{drop-append_seam, take-append_seam}
 use Rattle.std.proofs.lemmas.List.{append-nil}
 use Rattle.std.proofs.lemmas.Str.{IsCharBoundary-at_seam, IsUtf8-append, IsUtf8-from_ascii, IsUtf8-nil}
-use Rattle.hipstr.specs.Handle.{Handle}
+use Rattle.std.proofs.lemmas.Bool.{and_parts}
+use Rattle.std.proofs.lemmas.Option.{cond_some}
+use Rattle.std.proofs.lemmas.Slice.Eq.{bytes_eq-Decides}
+use Rattle.std.specs.Borrow.{Bor}
+use Rattle.hipstr.specs.CharLaws.{is_boundary-is}
+use Rattle.hipstr.specs.Occurrence.{IsCut, StartsFirst, is_boundary}
 use Rattle.hipstr.specs.Parted.{IsParted}
-use Rattle.hipstr.specs.Trimmed.{PartedAs}
+use Rattle.hipstr.specs.Texts.{text_ends}
 use Rattle.hip_uses.specs.Template.{FirstHole, IsEnd, LiesBefore, closing, opening}
 use Rattle.hip_uses.specs.declared.template.Hole.{Hole}
 
@@ -54,10 +59,28 @@ pub end-of-end : (text rest before mark behind : List ℕ) → IsEnd text rest �
 end-of-end text rest before mark behind end joined =
     (end.0 ++ (before ++ mark), end.1 ∙ ap (λ (l : List ℕ). end.0 ++ l) (joined ∙ sym (append_assoc before mark behind)) ∙ sym (append_assoc end.0 (before ++ mark) behind))
 
--- what parts the end of a text, as a handle's bytes
-pub parted-as : (E : Type 0) (mark rest : List ℕ) (found : Option (Handle × Handle)) (parts : Handle × Handle) → found ≡ Some parts
-    → PartedAs mark rest (let result : Result (Option (Handle × Handle)) E = Ok found in result) → IsParted mark rest parts.0.items parts.1.items
-parted-as E mark rest found parts is parted = subst (λ (found : Option (Handle × Handle)). PartedAs mark rest (let result : Result (Option (Handle × Handle)) E = Ok found in result)) is parted
+-- what lies before the first occurrence of a text and behind it
+pub parted-at : (mark text : List ℕ) (m : ℕ × ℕ) → StartsFirst (text_ends mark text) 0 m → IsCut text m × IsParted mark text (slice_range text 0 m.0) (drop m.1 text)
+unfolding text_ends
+parted-at mark text m found =
+    let both = cond_some _ (m.0 + length mark) m.1 found.occurs in
+    let first = and_parts (is_boundary text m.0) _ both.0 in
+    let second = and_parts (is_boundary text (m.0 + length mark)) _ first.1 in
+    let start = is_boundary-is text m.0 first.0 in
+    let after = is_boundary-is text (m.0 + length mark) second.0 in
+    let end : m.1 ≡ m.0 + length mark = sym both.1 in
+    let stands : take (length mark) (drop m.0 text) ≡ mark = (bytes_eq-Decides _ mark).0 second.1 in
+    let front : slice_range text 0 m.0 ≡ take m.0 text = ap (λ (n : ℕ). take n text) (omega arith) in
+    let size : length (slice_range text 0 m.0) ≡ m.0 = ap length front ∙ length-take-le m.0 text start.0 in
+    let behind : drop m.0 text ≡ mark ++ drop m.1 text =
+    sym (take-append-drop (length mark) (drop m.0 text)) ∙ ap (λ (l : List ℕ). l ++ drop (length mark) (drop m.0 text)) stands
+    ∙ ap (λ (l : List ℕ). mark ++ l) (drop-drop (length mark) m.0 text ∙ ap (λ (n : ℕ). drop n text) (sym end)) in (
+      record { start = start; end = subst (IsCharBoundary text) (sym end) after; ordered = omega (arith, end) },
+      record {
+        joined = sym (take-append-drop m.0 text) ∙ (λ i. sym front i ++ behind i);
+        first = λ k low high. found.first k low (omega (arith, size));
+      },
+    )
 
 -- there is room for what lies behind a mark of two bytes, and for the mark
 pub mark-fits : (mark text rest before behind shown : List ℕ) (n : ℕ) → length mark ≡ 2 → IsEnd text rest → IsParted mark rest before behind → shown ≡ behind → n ≡ length text
@@ -88,10 +111,10 @@ pub closing-utf8 : IsUtf8 closing
 closing-utf8 = IsUtf8-from_ascii closing (search rules)
 
 -- the same hole, of other handles
-pub same-hole : {B S P : Type 0} (text before name : List ℕ) (behind after : List ℕ) (hole : Hole B S P) (rest : Handle) → IsParted opening text before behind → IsParted closing behind name after
-    → hole.before.items ≡ before → hole.name.items ≡ name → rest.items ≡ after → FirstHole text (Ok (Some (hole, rest)))
-same-hole text before name behind after hole rest opens closes is_before is_name is_after = (
+pub same-hole : {B S P : Type 0} (text before name : List ℕ) (behind : List ℕ) (hole : Hole B S P) (after : Bor (List ℕ)) → IsParted opening text before behind → IsParted closing behind name after.now
+    → hole.before.items ≡ before → hole.name.items ≡ name → FirstHole text (Ok (Some (hole, after)))
+same-hole text before name behind hole after opens closes is_before is_name = (
   behind,
   subst (λ (l : List ℕ). IsParted opening text l behind) (sym is_before) opens,
-  subst (λ (l : List ℕ). IsParted closing behind l rest.items) (sym is_name) (subst (λ (l : List ℕ). IsParted closing behind name l) (sym is_after) closes),
+  subst (λ (l : List ℕ). IsParted closing behind l after.now) (sym is_name) closes,
 )

@@ -1,14 +1,14 @@
 -- What is read of a table.
-use Rattle.std.proofs.Common.{◌≡◌, ◌≢◌, ◌∙◌, ℕ, ◌+◌, ◌<◌, ◌≤◌, List, [], ◌∷◌, Some, None, length, map, get_or, vec_len, ap, sym, refl, arith, ⊎_elim}
+use Rattle.std.proofs.Common.{◌≡◌, ◌≢◌, ◌∙◌, ℕ, ◌+◌, ◌<◌, ◌≤◌, List, [], ◌∷◌, Option, Some, None, Result, Ok, inr, length, map, get_or, vec_len, ap, sym, subst, refl, arith, ⊎_elim}
 use Rattle.std.specs.Option.{option_map}
-use Rattle.std.specs.Prelude.{All, Vec, remove, slice_get}
+use Rattle.std.specs.Prelude.{All, IfOk, MatchOption, Vec, slice_get}
 use Rattle.std.proofs.lemmas.Bool.{cases_lt}
 use Rattle.std.proofs.lemmas.List.{get_or-map, length-map}
 use Rattle.std.proofs.lemmas.Option.{same_Some, slice_get-get_or, slice_get-map, slice_get_past, slice_get_read}
 use Rattle.std.specs.declared.alloc.Global.{Global}
 use Rattle.hipstr.specs.Handle.{Handle}
-use Rattle.hip_fields.specs.Records.{AreFields, AreRecords}
-use Rattle.hip_uses.specs.Cells.{IsRagged, Texts, texts_of}
+use Rattle.hip_fields.specs.Records.{AreFields, AreRecords, FirstRecord, RecordsLeft}
+use Rattle.hip_uses.specs.Cells.{Cells, HasCell, HasCellAt, HasNoCell, HasNoCellAt, IsFirstAt, IsRagged, Texts, texts_of}
 
 -- the bytes of the fields of a record
 abbrev pub row_of : Vec Handle Global → Texts
@@ -23,16 +23,6 @@ pub AreRecords-texts : (source : Handle) (records : List Texts) (rows : List (Ve
 AreRecords-texts source [] rows are = ap (map row_of) are
 AreRecords-texts source (texts ∷ more) [] are = absurd are
 AreRecords-texts source (texts ∷ more) (row ∷ rows) are = λ i. AreFields-texts source texts row.items are.0 i ∷ AreRecords-texts source more rows are.1 i
-
--- the header, which was the first of the records, and the rest
-pub header-rows : (records : List Texts) (all rows : List (Vec Handle Global)) (header : Vec Handle Global) → map row_of all ≡ records → 0 < length all
-    → header ≡ get_or all 0 header → rows ≡ remove all 0 → row_of header ∷ map row_of rows ≡ records
-header-rows records [] rows header same some first rest = absurd (omega arith)
-header-rows records (row ∷ all) rows header same some first rest = (λ i. row_of (first i) ∷ map row_of (rest i)) ∙ same
-
-pub none-read : (records : List Texts) (all : List (Vec Handle Global)) → map row_of all ≡ records → length all ≡ 0 → records ≡ []
-none-read records [] same none = sym same
-none-read records (row ∷ all) same none = absurd (omega arith)
 
 -- the bytes at a place of a list of handles, and those of a row
 pub at-texts : (fields : List Handle) (k : ℕ) (field : Handle) → k < length fields → field ≡ get_or fields k field → slice_get (texts_of fields) k ≡ Some field.items
@@ -95,3 +85,17 @@ even-rows header rows even k other low =
   where
     width : (v : Vec Handle Global) → length (row_of v) ≡ length v.items
     width v = length-map v.items (λ (f : Handle). f.items)
+
+-- the first of the records, and the others, are all of them
+pub read-whole : (E : Type 0) (all : List Texts) (old new : RecordsLeft) (drawn : Result (Vec Handle Global) E) (header : Vec Handle Global) (rows : List (Vec Handle Global)) → old.rest ≡ all
+    → FirstRecord old (Some drawn) new → drawn ≡ Ok header → AreRecords new.source new.rest rows → all ≡ row_of header ∷ map row_of rows
+read-whole E all old new drawn header rows is first was left =
+    let fields : AreFields old.source first.0 header.items = subst (λ (d : Result (Vec Handle Global) E). IfOk d (λ fields. AreFields old.source first.0 fields.items)) was first.2 in
+    sym is ∙ first.1 ∙ (λ i. sym (AreFields-texts old.source first.0 header.items fields) i ∷ sym (AreRecords-texts new.source new.rest rows left) i)
+
+-- the cell at the place of a name
+pub by-name : {X : Type 0} (items : X → List ℕ) (table : Cells) (row : ℕ) (name : List ℕ) (place : ℕ) → IsFirstAt table.header name place → (found : Option X)
+    → MatchOption found (HasNoCellAt table row place) (λ cell. HasCellAt table row place (items cell)) → MatchOption found (HasNoCell table row name) (λ cell. HasCell table row name (items cell))
+by-name items table row name place first None none =
+    ⊎_elim (λ (past : length table.header ≤ place). let within = within-texts table.header place name first.at in absurd (omega arith)) (λ (past : length table.rows ≤ row). inr past) none
+by-name items table row name place first (Some cell) here = (place, here.0, first, here.1, here.2)

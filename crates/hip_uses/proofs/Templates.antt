@@ -1,26 +1,114 @@
 -- One hole more of a template.
-use Rattle.std.proofs.Common.{◌≡◌, ◌∙◌, ℕ, ◌+◌, ◌<◌, List, [], ◌∷◌, ◌++◌, Option, None, Some, Result, Ok, Err, length, take, get_or, ap, sym, subst, refl, append_assoc, length-append, take-append-drop, drop, arith}
+use Rattle.std.proofs.Common.{◌≡◌, ◌∙◌, ℕ, zero, suc, ◌+◌, ◌<◌, List, [], ◌∷◌, ◌++◌, Option, None, Some, Result, Ok, Err, length, take, get_or, ap, sym, subst, refl, append_assoc, length-append, take-append-drop, drop, arith}
 use Rattle.std.specs.Borrow.{Bor}
 use Rattle.std.specs.HashMap.{HashMap, Updates}
+use Rattle.std.proofs.lemmas.Bool.{false≢true}
 use Rattle.std.specs.Cmp.Lexicographic.{pointwise}
 use Rattle.std.specs.Prelude.{Bool, true, false, nat_eq, cond, if◌then◌else◌, IfErr, IsErrAnd, IsSome, MatchOption, OnOk}
-use Rattle.std.specs.Option.{option_copied}
-use Rattle.std.proofs.lemmas.List.{flat_map_more, take_more}
+use Rattle.std.specs.Option.{option_copied, option_map}
+use Rattle.std.proofs.lemmas.List.{flat_map_more, get_or-map, length-map, map-append, take_more}
+use Rattle.std.proofs.lemmas.List.Folds.{flat_map-map}
+use Rattle.std.specs.List.{flat_map}
+use Rattle.std.specs.Option.{option_map_or}
+use Rattle.hipstr.specs.Join.{joined}
 use Rattle.hipstr.specs.Handle.{Handle}
 use Rattle.hip_uses.proofs.Pushed.{All-more}
-use Rattle.hip_uses.specs.Number.{same_text}
-use Rattle.hip_uses.specs.Template.{AllKnown, FillFails, FirstHole, HoleFails, IsParsed, ParseFails, closing, filled, hole_filled, hole_written, opening, value_of, value_with, written}
+use Rattle.hip_uses.specs.Number.{bytes_of, same_text}
+use Rattle.hip_uses.specs.Template.{AllKnown, all_shown, FillFails, FirstHole, HoleFails, IsParsed, IsUnknown, ParseFails, closing, filled, hole_filled, hole_written, opening, value_in, value_of, values_in, value_with, woven, written}
 use Rattle.hip_uses.specs.declared.template.Hole.{Hole}
 use Rattle.hip_uses.specs.declared.fault.TemplateFault.{TemplateFault}
 use Rattle.hip_uses.specs.declared.fault.TemplateFault.TheVariants.{Unclosed, Unknown, Memory}
 
--- one hole more that is filled
-pub filled-more : {B S P : Type 0} (values : List (Handle × Handle)) (holes : List (Hole B S P)) (i : ℕ) (hole : Hole B S P) (start before text : List ℕ)
-    → i < length holes → hole ≡ get_or holes i hole → before ≡ start ++ filled values (take i holes) → text ≡ before ++ hole_filled values hole → text ≡ start ++ filled values (take (i + 1) holes)
-filled-more values holes i hole start before text lt here so_far is =
-    let more : filled values (take (i + 1) holes) ≡ filled values (take i holes) ++ hole_filled values hole =
-    ap (filled values) (take_more holes i hole lt) ∙ sym (flat_map_more (hole_filled values) [] (take i holes) (get_or holes i hole)) ∙ ap (λ h. filled values (take i holes) ++ hole_filled values h) (sym here) in
-    is ∙ ap (λ l. l ++ hole_filled values hole) so_far ∙ append_assoc start (filled values (take i holes)) (hole_filled values hole) ∙ ap (λ l. start ++ l) (sym more)
+-- the value of one hole more
+pub values-more : {B S P : Type 0} (values : List (Handle × Handle)) (holes : List (Hole B S P)) (i : ℕ) (hole : Hole B S P) (value : Bor (List ℕ)) (found more : List (Bor (List ℕ)))
+    → i < length holes → hole ≡ get_or holes i hole → all_shown found ≡ values_in values (take i holes) → Some value.now ≡ option_map bytes_of (value_of values hole.name.items)
+    → more ≡ found ++ value ∷ [] → all_shown more ≡ values_in values (take (i + 1) holes)
+values-more values holes i hole value found more lt here so_far is pushed =
+    ap all_shown pushed ∙ map-append (λ (text : Bor (List ℕ)). text.now) found (value ∷ []) ∙ ap (λ l. l ++ value.now ∷ []) so_far
+    ∙ ap (λ v. values_in values (take i holes) ++ v ∷ []) (value-is value.now (value_of values hole.name.items) is ∙ ap (value_in values) here)
+    ∙ sym (map-append (value_in values) (take i holes) (get_or holes i hole ∷ [])) ∙ ap (values_in values) (sym (take_more holes i hole lt))
+  where
+    value-is : (value : List ℕ) (o : Option Handle) → Some value ≡ option_map bytes_of o → value ≡ option_map_or bytes_of o []
+    value-is value None is = absurd cc
+    value-is value (Some handle) is = cc
+
+-- as many values as holes
+pub as-many : {B S P : Type 0} (values : List (Handle × Handle)) (holes : List (Hole B S P)) (found : List (Bor (List ℕ))) → all_shown found ≡ values_in values holes → length found ≡ length holes
+as-many values holes found are =
+    sym (length-map found (λ (text : Bor (List ℕ)). text.now)) ∙ ap length are ∙ length-map holes (value_in values)
+
+-- the value of an earlier hole of this name
+pub value-again : {B S P : Type 0} (values : List (Handle × Handle)) (holes : List (Hole B S P)) (i : ℕ) (hole : Hole B S P) (found : List (Bor (List ℕ))) (d : Bor (List ℕ)) (name : List ℕ)
+    → i < length holes → hole ≡ get_or holes i hole → all_shown found ≡ values_in values holes → AllKnown values holes → hole.name.items ≡ name
+    → Some (get_or found i d).now ≡ option_map bytes_of (value_of values name)
+value-again {B} {S} {P} values holes i hole found d name low here all known same =
+    let Now : Bor (List ℕ) → List ℕ = λ text. text.now in
+    let Value : Hole B S P → List ℕ = λ h. value_in values h in
+    let within : i < length found = omega (arith, low, as-many values holes found all) in
+    let shown : (get_or found i d).now ≡ value_in values hole =
+    sym (get_or-map Now found i d [] within) ∙ ap (λ (l : List (List ℕ)). get_or l i []) all ∙ get_or-map Value holes i hole [] low ∙ ap Value (sym here) in
+    let some : IsSome (value_of values hole.name.items) = subst (λ (h : Hole B S P). IsSome (value_of values h.name.items)) (sym here) (known i hole low) in
+    ap (λ (v : List ℕ). Some v) shown ∙ there (value_of values hole.name.items) some ∙ ap (λ (n : List ℕ). option_map bytes_of (value_of values n)) same
+  where
+    there : (o : Option Handle) → IsSome o → Some (option_map_or bytes_of o []) ≡ option_map bytes_of o
+    there None some = absurd (false≢true some)
+    there (Some handle) some = refl
+
+-- what was found, and what wasn't
+pub some-known : (value : List ℕ) (o : Option Handle) → Some value ≡ option_map bytes_of o → IsSome o
+some-known value None is = absurd cc
+some-known value (Some handle) is = refl
+
+pub none-known : (o : Option Handle) → None ≡ option_map bytes_of o → o ≡ None
+none-known None is = refl
+none-known (Some handle) is = absurd cc
+
+-- a hole under whose name nothing goes
+pub hole-fails : {B S P : Type 0} (values : List (Handle × Handle)) (hole : Hole B S P) (fault : TemplateFault B S P) → value_of values hole.name.items ≡ None → IsUnknown hole.name.items fault
+    → HoleFails values hole fault
+hole-fails values hole (Unclosed text) none is = is
+hole-fails values hole (Unknown name) none is = (ap (value_of values) is ∙ none, sym is)
+hole-fails values hole Memory none is = tt
+
+-- the pieces of one hole more
+pub woven-more : {B S P : Type 0} (holes : List (Hole B S P)) (values : List (List ℕ)) (i : ℕ) (hole : Hole B S P) (value : List ℕ) → i < length holes → i < length values
+    → hole ≡ get_or holes i hole → value ≡ get_or values i [] → woven (take (i + 1) holes) (take (i + 1) values) ≡ woven (take i holes) (take i values) ++ hole.before.items ∷ [] ++ value ∷ []
+woven-more [] values i hole value low within here is = absurd (omega arith)
+woven-more (first ∷ holes) [] i hole value low within here is = absurd (omega arith)
+woven-more (first ∷ holes) (next ∷ values) zero hole value low within here is = λ i. (sym here i).before.items ∷ sym is i ∷ []
+woven-more (first ∷ holes) (next ∷ values) (suc i) hole value low within here is =
+    let more : suc i + 1 ≡ suc (i + 1) = omega arith in
+    ap (λ n. woven (take n (first ∷ holes)) (take n (next ∷ values))) more
+    ∙ ap (λ l. first.before.items ∷ next ∷ l) (woven-more holes values i hole value (omega arith) (omega arith) here is)
+
+pub pieces-more : {B S P : Type 0} (holes : List (Hole B S P)) (found : List (Bor (List ℕ))) (i : ℕ) (hole : Hole B S P) (before d : Bor (List ℕ)) (pieces middle more : List (Bor (List ℕ)))
+    → i < length holes → length found ≡ length holes → hole ≡ get_or holes i hole → before.now ≡ hole.before.items
+    → all_shown pieces ≡ woven (take i holes) (take i (all_shown found)) → middle ≡ pieces ++ before ∷ [] → more ≡ middle ++ get_or found i d ∷ []
+    → all_shown more ≡ woven (take (i + 1) holes) (take (i + 1) (all_shown found))
+pieces-more holes found i hole before d pieces middle more low same here shown so_far pushed pushed_too =
+    let Now : Bor (List ℕ) → List ℕ = λ text. text.now in
+    let value = get_or found i d in
+    let within : i < length found = omega (arith, same) in
+    ap all_shown (pushed_too ∙ ap (λ l. l ++ value ∷ []) pushed) ∙ map-append Now (pieces ++ before ∷ []) (value ∷ []) ∙ ap (λ l. l ++ value.now ∷ []) (map-append Now pieces (before ∷ []))
+    ∙ (λ j. so_far j ++ shown j ∷ [] ++ value.now ∷ [])
+    ∙ sym (woven-more holes (all_shown found) i hole value.now low (omega (arith, within, length-map found Now)) here (sym (get_or-map Now found i d [] within)))
+
+-- the pieces one behind another, and the rest, are the holes filled and the rest
+pub pieces-joined : {B S P : Type 0} (values : List (Handle × Handle)) (holes : List (Hole B S P)) (found pieces all : List (Bor (List ℕ))) (rest : Bor (List ℕ)) (text : List ℕ)
+    → all_shown found ≡ values_in values holes → all_shown pieces ≡ woven holes (all_shown found) → all ≡ pieces ++ rest ∷ [] → rest.now ≡ text → joined [] all ≡ filled values holes ++ text
+pieces-joined {B} {S} {P} values holes found pieces all rest text are is pushed shown =
+    ap (joined []) pushed ∙ flat-joined (pieces ++ rest ∷ []) ∙ sym (flat_map_more (λ (p : Bor (List ℕ)). p.now) [] pieces rest)
+    ∙ (λ j. (sym (flat_map-map (λ (l : List ℕ). l) (λ (p : Bor (List ℕ)). p.now) pieces) ∙ ap (flat_map (λ (l : List ℕ). l)) (is ∙ ap (woven holes) are) ∙ flat-filled holes) j ++ shown j)
+  where
+    flat-joined : (pieces : List (Bor (List ℕ))) → joined [] pieces ≡ flat_map (λ (p : Bor (List ℕ)). p.now) pieces
+    flat-joined [] = refl
+    flat-joined (p ∷ ps) = refl
+
+    flat-filled : (holes : List (Hole B S P)) → flat_map (λ (l : List ℕ). l) (woven holes (values_in values holes)) ≡ filled values holes
+    flat-filled [] = refl
+    flat-filled (hole ∷ holes) =
+        let value = value_in values hole in
+        ap (λ l. hole.before.items ++ (value ++ l)) (flat-filled holes) ∙ sym (append_assoc hole.before.items value (filled values holes))
 
 -- each hole up to a place is known, and the next
 pub known-more : {B S P : Type 0} (values : List (Handle × Handle)) (holes : List (Hole B S P)) (i : ℕ) (hole : Hole B S P) → i < length holes → hole ≡ get_or holes i hole
@@ -63,39 +151,39 @@ set-more (Ok done) before after old name value is updated =
 set-more (Err error) before after old name value is refused = tt
 
 -- what follows the first hole is shorter
-pub hole-shorter : {B S P : Type 0} (text : List ℕ) (hole : Hole B S P) (after : Handle) → FirstHole text (Ok (Some (hole, after))) → length after.items < length text
+pub hole-shorter : {B S P : Type 0} (text : List ℕ) (hole : Hole B S P) (after : Bor (List ℕ)) → FirstHole text (Ok (Some (hole, after))) → length after.now < length text
 hole-shorter text hole after cut =
     let behind = cut.0 in
     let opens : length text ≡ length hole.before.items + length (opening ++ behind) =
     ap length cut.1.joined ∙ length-append hole.before.items (opening ++ behind) in
-    let closes : length behind ≡ length hole.name.items + length (closing ++ after.items) =
-    ap length cut.2.joined ∙ length-append hole.name.items (closing ++ after.items) in
+    let closes : length behind ≡ length hole.name.items + length (closing ++ after.now) =
+    ap length cut.2.joined ∙ length-append hole.name.items (closing ++ after.now) in
     omega (arith, opens, closes)
 
 -- a hole as it is written, and what follows it
-hole-and-after : {B S P : Type 0} (text : List ℕ) (hole : Hole B S P) (after : Handle) → FirstHole text (Ok (Some (hole, after))) → hole_written hole ++ after.items ≡ text
+hole-and-after : {B S P : Type 0} (text : List ℕ) (hole : Hole B S P) (after : Bor (List ℕ)) → FirstHole text (Ok (Some (hole, after))) → hole_written hole ++ after.now ≡ text
 hole-and-after text hole after cut =
     let before = hole.before.items in
     let name = hole.name.items in
-    append_assoc before (opening ++ (name ++ closing)) after.items
-    ∙ ap (λ l. before ++ l) (append_assoc opening (name ++ closing) after.items ∙ ap (λ l. opening ++ l) (append_assoc name closing after.items ∙ sym cut.2.joined))
+    append_assoc before (opening ++ (name ++ closing)) after.now
+    ∙ ap (λ l. before ++ l) (append_assoc opening (name ++ closing) after.now ∙ ap (λ l. opening ++ l) (append_assoc name closing after.now ∙ sym cut.2.joined))
     ∙ sym cut.1.joined
 
 -- one hole more that is written
-pub written-more : {B S P : Type 0} (template rest : List ℕ) (holes more : List (Hole B S P)) (hole : Hole B S P) (after : Handle) → written holes ++ rest ≡ template
-    → FirstHole rest (Ok (Some (hole, after))) → more ≡ holes ++ hole ∷ [] → written more ++ after.items ≡ template
+pub written-more : {B S P : Type 0} (template rest : List ℕ) (holes more : List (Hole B S P)) (hole : Hole B S P) (after : Bor (List ℕ)) → written holes ++ rest ≡ template
+    → FirstHole rest (Ok (Some (hole, after))) → more ≡ holes ++ hole ∷ [] → written more ++ after.now ≡ template
 written-more template rest holes more hole after so_far cut pushed =
-    ap (λ l. l ++ after.items) (ap written pushed ∙ sym (flat_map_more hole_written [] holes hole)) ∙ append_assoc (written holes) (hole_written hole) after.items
+    ap (λ l. l ++ after.now) (ap written pushed ∙ sym (flat_map_more hole_written [] holes hole)) ∙ append_assoc (written holes) (hole_written hole) after.now
     ∙ ap (λ l. written holes ++ l) (hole-and-after rest hole after cut) ∙ so_far
 
 -- what the rest is parsed to, behind one hole more
-pub parsed-more : {B S P : Type 0} (template rest : List ℕ) (holes more : List (Hole B S P)) (hole : Hole B S P) (after : Handle)
+pub parsed-more : {B S P : Type 0} (template rest : List ℕ) (holes more : List (Hole B S P)) (hole : Hole B S P) (after : Bor (List ℕ))
     → ((later : List (Hole B S P)) (last : List ℕ) → IsParsed rest later last → IsParsed template (holes ++ later) last)
     → FirstHole rest (Ok (Some (hole, after))) → more ≡ holes ++ hole ∷ []
-    → (later : List (Hole B S P)) (last : List ℕ) → IsParsed after.items later last → IsParsed template (more ++ later) last
+    → (later : List (Hole B S P)) (last : List ℕ) → IsParsed after.now later last → IsParsed template (more ++ later) last
 parsed-more {B} {S} {P} template rest holes more hole after so_far cut pushed later last parsed =
     subst (λ (l : List (Hole B S P)). IsParsed template l last) (sym (ap (λ l. l ++ later) pushed ∙ append_assoc holes (hole ∷ []) later))
-    (so_far (hole ∷ later) last (cut.0, after.items, cut.1, cut.2, parsed))
+    (so_far (hole ∷ later) last (cut.0, after.now, cut.1, cut.2, parsed))
 
 -- what can't be cut of the end of a template can't be cut of it
 pub fails-more : {B S P : Type 0} (front rest template : List ℕ) (fault : TemplateFault B S P) → front ++ rest ≡ template → ParseFails rest fault → ParseFails template fault

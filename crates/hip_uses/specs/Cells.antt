@@ -31,6 +31,14 @@ HasCell table row name cell =
 abbrev pub HasNoCell : Cells → ℕ → List ℕ → Type 0
 HasNoCell table row name = IsNoColumn table.header name ⊎ (length table.rows ≤ row)
 
+-- the row's field at a place
+abbrev pub HasCellAt : Cells → ℕ → ℕ → List ℕ → Type 0
+HasCellAt table row place cell = (fields : Texts) × (slice_get table.rows row ≡ Some fields) × (slice_get fields place ≡ Some cell)
+
+-- there is no such column, or no such row
+abbrev pub HasNoCellAt : Cells → ℕ → ℕ → Type 0
+HasNoCellAt table row place = (length table.header ≤ place) ⊎ (length table.rows ≤ row)
+
 -- this line, counted from 1, is the first that has another number of fields than the header
 pub record IsRagged (header : Texts) (rows : List Texts) (line : ℕ) : Type 0 where
   pub row : ℕ

@@ -1,7 +1,8 @@
 -- What a template is, as it is written and as it is filled.
-use Rattle.std.specs.Prelude.{◌≡◌, ℕ, ◌+◌, nat_eq, List, [], ◌∷◌, ◌++◌, length, Option, None, Some, Result, Ok, Err, IsSome, All, codes, if◌then◌else◌}
+use Rattle.std.specs.Prelude.{◌≡◌, ℕ, ◌+◌, nat_eq, List, [], ◌∷◌, ◌++◌, length, Option, None, Some, Result, Ok, Err, IsSome, All, codes, map, if◌then◌else◌}
 use Rattle.std.specs.List.{flat_map}
 use Rattle.std.specs.Map.{lookup}
+use Rattle.std.specs.Borrow.{Bor}
 use Rattle.std.specs.Option.{option_map_or}
 use Rattle.std.specs.Cmp.Lexicographic.{pointwise}
 use Rattle.std.specs.Str.{IsUtf8}
@@ -44,6 +45,23 @@ value_with values name value other = if pointwise nat_eq name other then Some va
 abbrev pub hole_filled : {B S P : Type 0} → List (Handle × Handle) → Hole B S P → List ℕ
 hole_filled values hole = hole.before.items ++ option_map_or bytes_of (value_of values hole.name.items) []
 
+-- the bytes of lent texts, one by one
+abbrev pub all_shown : List (Bor (List ℕ)) → List (List ℕ)
+all_shown texts = map (λ text. text.now) texts
+
+-- the bytes of what goes into a hole
+abbrev pub value_in : {B S P : Type 0} → List (Handle × Handle) → Hole B S P → List ℕ
+value_in values hole = option_map_or bytes_of (value_of values hole.name.items) []
+
+abbrev pub values_in : {B S P : Type 0} → List (Handle × Handle) → List (Hole B S P) → List (List ℕ)
+values_in values holes = map (value_in values) holes
+
+-- what lies before each hole, and behind it its value
+abbrev pub woven : {B S P : Type 0} → List (Hole B S P) → List (List ℕ) → List (List ℕ)
+woven [] values = []
+woven (hole ∷ holes) [] = []
+woven (hole ∷ holes) (value ∷ values) = hole.before.items ∷ value ∷ woven holes values
+
 abbrev pub filled : {B S P : Type 0} → List (Handle × Handle) → List (Hole B S P) → List ℕ
 filled values holes = flat_map (hole_filled values) holes
 
@@ -71,10 +89,10 @@ pub record LiesBefore (text part : List ℕ) (end : ℕ) : Type 0 where
   pub utf8 : IsUtf8 back
 
 -- the first hole of a text and what follows it, nothing where it has none, or why that can't be told
-abbrev pub FirstHole : {B S P : Type 0} → List ℕ → Result (Option (Hole B S P × Handle)) (TemplateFault B S P) → Type 0
+abbrev pub FirstHole : {B S P : Type 0} → List ℕ → Result (Option (Hole B S P × Bor (List ℕ))) (TemplateFault B S P) → Type 0
 FirstHole text (Ok None) = Lacks opening text
 FirstHole text (Ok (Some (hole, after))) =
-    (behind : List ℕ) × IsParted opening text hole.before.items behind × IsParted closing behind hole.name.items after.items
+    (behind : List ℕ) × IsParted opening text hole.before.items behind × IsParted closing behind hole.name.items after.now
 FirstHole text (Err fault) = ParseFails text fault
 
 -- the name is told, or want of memory

@@ -6,6 +6,7 @@ ghost use Rattle.hip_uses.specs.declared.fault.TableFault.TheVariants.{Memory as
 ghost use Rattle.hip_uses.specs.declared.fault.TemplateFault.TheVariants.{Memory as template_memory};
 
 use hipstr::Backend;
+use hipstr::bytes::GrowFault;
 use hipstr::string::HipStr;
 use std::alloc::{AllocError, AllocFailed};
 use std::fmt;
@@ -121,6 +122,15 @@ impl<'b, B: Backend, T: Drop> From<AllocFailed<T>> for TemplateFault<'b, B> {
     ghost from_gives = { λ _ fault. fault ≡ template_memory };
 
     fn from(_: AllocFailed<T>) -> Self {
+        TemplateFault::Memory
+    }
+}
+
+/// A filled template that is longer than any text is told as want of memory.
+impl<'b, B: Backend> From<GrowFault> for TemplateFault<'b, B> {
+    ghost from_gives = { λ _ fault. fault ≡ template_memory };
+
+    fn from(_: GrowFault) -> Self {
         TemplateFault::Memory
     }
 }

@@ -11,6 +11,7 @@ use hipstr::Backend;
 use hipstr::string::HipStr;
 use std::alloc::Global;
 use std::collections::HashMap;
+use std::hash::{BuildHasher, BuildHasherDefault, FoldHasher};
 use std::marker::Model;
 
 mod adding;
@@ -18,13 +19,15 @@ mod gaps;
 pub mod words;
 
 /// The different texts, in the order in which they came.
+///
+/// `S` makes the hashers of the texts. The default has a fixed seed; for texts from outside see [`Interner::with_hasher`].
 #[derive(Drop)]
-pub struct Interner<'b, B: Backend> {
-    numbers: HashMap<HipStr<'b, B>, u32>,
+pub struct Interner<'b, B: Backend, S: BuildHasher = BuildHasherDefault<FoldHasher>> {
+    numbers: HashMap<HipStr<'b, B>, u32, S>,
     texts: Vec<HipStr<'b, B>>,
 }
 
-impl<'b, B: Backend> Model for Interner<'b, B> {
+impl<'b, B: Backend, S: BuildHasher> Model for Interner<'b, B, S> {
     ghost use Rattle.std.specs.Prelude.{◌≡◌, ℕ, List, map};
     ghost use Rattle.std.specs.HashMap.{get};
     ghost use Rattle.hipstr.specs.Handle.{Handle};
@@ -40,11 +43,21 @@ impl<'b, B: Backend> Model for Interner<'b, B> {
 }
 
 impl<'b, B: Backend> Interner<'b, B> {
+    /// No texts yet, for texts that no other party chose.
     pub fn new(alloc: Global) -> Self
         ensures { result ≡ [] }
     {
+        Interner::with_hasher(alloc, BuildHasherDefault::new())
+    }
+}
+
+impl<'b, B: Backend, S: BuildHasher> Interner<'b, B, S> {
+    /// No texts yet. With a `RandomState` of std, whose seed is drawn, no party outside can choose texts that share a hash.
+    pub fn with_hasher(alloc: Global, hash_builder: S) -> Self
+        ensures { result ≡ [] }
+    {
         Interner {
-            numbers: HashMap::new(alloc),
+            numbers: HashMap::with_hasher(alloc, hash_builder),
             texts: Vec::new(alloc),
         }
     }

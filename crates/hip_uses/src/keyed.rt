@@ -1,22 +1,25 @@
-//! Maps by any key. A function that is generic in the key is proved in seconds, where each that calls a map whose keys are handles takes
+//! Maps by any key and any hasher. A function that is generic in the key is proved in seconds, where each that calls a map whose keys are handles takes
 //! half a minute.
 ghost use Rattle.std.specs.Prelude.{◌≡◌, OnErr, OnOk, None, Some, option_copied};
 ghost use Rattle.std.specs.HashMap.{IsUnchanged, Updates, get};
 
 use std::alloc::AllocError;
 use std::collections::HashMap;
-use std::hash::Hash;
+use std::hash::{BuildHasher, Hash};
 
 /// What stands under a key, if anything does.
-pub(crate) fn found<'m, K: Hash + Eq, V>(map: &'m HashMap<K, V>, key: &K) -> Option<&'m V>
+pub(crate) fn found<'m, K: Hash + Eq, V, S: BuildHasher>(
+    map: &'m HashMap<K, V, S>,
+    key: &K,
+) -> Option<&'m V>
     ensures { option_copied result ≡ get K.eq map.now key.now }
 {
     map.get(key)
 }
 
 /// Puts a value under a key. Only a new key may want memory.
-pub(crate) fn put<K: Hash + Eq + Drop, V: Drop>(
-    map: &mut HashMap<K, V>,
+pub(crate) fn put<K: Hash + Eq + Drop, V: Drop, S: BuildHasher>(
+    map: &mut HashMap<K, V, S>,
     key: K,
     value: V,
 ) -> Result<(), AllocError>

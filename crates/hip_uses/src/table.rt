@@ -1,10 +1,11 @@
 //! Tables: a header names the columns of the rows below it, a line each.
 ghost use Rattle.std.specs.Prelude.{◌≡◌, ◌∷◌, All, IfErr, IfOk, MatchOption, length};
 ghost use Rattle.hip_fields.specs.Records.{records_of};
-ghost use Rattle.hip_uses.specs.Cells.{HasCell, HasNoCell, IsFirstAt, IsNoColumn, ReadFails};
+ghost use Rattle.hip_uses.specs.Cells.{HasCell, HasCellAt, HasNoCell, HasNoCellAt};
+ghost use Rattle.hip_uses.specs.Cells.{IsFirstAt, IsNoColumn, ReadFails};
 
 pub use crate::fault::TableFault;
-use hip_fields::records;
+use hip_fields::reader::Records;
 use hipstr::Backend;
 use hipstr::string::HipStr;
 use std::alloc::Global;
@@ -41,11 +42,12 @@ impl<'b, B: Backend> Table<'b, B> {
             All (λ row. length row ≡ length table.header) table.rows) }
         ensures fault { IfErr result (ReadFails (records_of separator source.now.items)) }
     {
-        let mut rows = records(alloc, source, separator)?;
-        if rows.is_empty() {
+        let mut records = Records::new(source, separator);
+        let Some(header) = records.next_record(alloc) else {
             return Err(TableFault::Empty);
-        }
-        let header = rows.remove(0);
+        };
+        let header = header?;
+        let rows = records.collect(alloc)?;
         for (i, row) in rows.iter().enumerate() {
             if row.len() != header.len() {
                 return Err(TableFault::Ragged(i + 2));
@@ -79,8 +81,19 @@ impl<'b, B: Backend> Table<'b, B> {
         ensures { MatchOption result (HasNoCell self.now row name.now)
             (λ cell. HasCell self.now row name.now cell.now.items) }
     {
-        let place = self.column(name)?;
+        let column = self.column(name)?;
+        self.cell_at(row, column)
+    }
+
+    /// The cell of a row in the column at a place, which [`Table::column`] finds once for many rows.
+    pub fn cell_at(&self, row: usize, column: usize) -> Option<&HipStr<'b, B>>
+        ensures { MatchOption result (HasNoCellAt self.now row column)
+            (λ cell. HasCellAt self.now row column cell.now.items) }
+    {
         let fields = self.rows.get(row)?;
-        Some(&fields[place])
+        if fields.len() <= column {
+            return None;
+        }
+        Some(&fields[column])
     }
 }

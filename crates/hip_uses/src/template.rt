@@ -1,17 +1,21 @@
 //! Templates: `{{name}}` in a text stands for what goes under that name.
-ghost use Rattle.std.specs.Prelude.{◌≡◌, ◌++◌, IfErr, IfOk, IsTrue};
-ghost use Rattle.hipstr.specs.Trimmed.{PartedAs};
+ghost use Rattle.std.specs.Prelude.{◌≡◌, ◌++◌, IfErr, IfOk, IfSome, IsTrue, MatchOption};
+ghost use Rattle.std.specs.Str.{IsUtf8};
+ghost use Rattle.hipstr.specs.Parted.{IsParted, Lacks};
+ghost use Rattle.hip_uses.specs.Template.{opening as opening_sign, closing as closing_sign};
 ghost use Rattle.hip_uses.specs.Template.{FirstHole, IsEnd, IsParsed, LiesBefore, ParseFails, written};
 
 pub use crate::fault::TemplateFault;
 pub use crate::template::filling::fill;
+use crate::template::names::first_places;
 pub use crate::template::values::Values;
-use hipstr::laws::split_once_parts_at_the_first;
-use hipstr::string::{HipStr, TextCuts};
+use hipstr::pattern::Pattern;
+use hipstr::string::HipStr;
 use hipstr::{Backend, Meter};
 use std::alloc::{AllocError, Global};
 
 mod filling;
+mod names;
 mod values;
 
 /// A hole, and the text between it and the one before.
@@ -27,18 +31,38 @@ pub struct Template<'b, B: Backend> {
     pub holes: Vec<Hole<'b, B>>,
     /// What lies behind the last hole.
     pub rest: HipStr<'b, B>,
+    /// For each hole the place of the first hole of its name, as it was parsed.
+    first_places: Vec<usize>,
 }
 
-/// What lies before the first separator and what lies behind it, if there is one.
-fn parted<'b, B: Backend>(
-    alloc: Global,
-    text: &HipStr<'b, B>,
-    separator: &str,
-) -> Result<Option<(HipStr<'b, B>, HipStr<'b, B>)>, AllocError>
-    ensures { PartedAs separator.now text.now.items result }
-{
-    split_once_parts_at_the_first(text.as_str(), separator);
-    text.split_once(alloc, separator)
+/// A sign of a hole, `{{` or `}}`, prepared once for all searches of a template.
+#[derive(Drop)]
+struct Sign {
+    text: &'static str,
+    searcher: <&'static str as Pattern>::Searcher,
+}
+
+impl Sign {
+    fn new(text: &'static str) -> Self
+        ensures text { result.text.now ≡ text.entry.now }
+        ensures prepared { ⟦<&'static str as Pattern>⟧.is_searcher result.text result.searcher }
+    {
+        Sign {
+            text,
+            searcher: text.searcher(),
+        }
+    }
+
+    /// What lies before the first occurrence and what lies behind it, if there is one.
+    fn part<'t>(&self, text: &'t str) -> Option<(&'t str, &'t str)>
+        requires { ⟦<&'static str as Pattern>⟧.is_searcher self.now.text self.now.searcher }
+        ensures parts { MatchOption result (Lacks self.now.text.now text.now)
+            (λ parts. IsParted self.now.text.now text.now parts.0.now parts.1.now) }
+        ensures utf8 { IfSome result (λ parts. IsUtf8 parts.1.now) }
+    {
+        let (start, end) = self.text.next_match_by(&self.searcher, text, 0)?;
+        Some((&text[..start], &text[end..]))
+    }
 }
 
 /// A part of a template, which lies before this place, as a part of it.
@@ -54,28 +78,35 @@ fn part_before<'b, B: Backend>(
     template.part_metered(alloc, end - part.len(), end, &mut Meter::new())
 }
 
-/// The first hole in the end of a template, and what follows it, if there is one. That end is lent, so that nothing but the parts
-/// that stay is cut of the template.
-fn first_hole<'b, 'h, B: Backend>(
+/// The first hole in the end of a template, and what follows it, if there is one. Nothing but the parts that stay is cut of the
+/// template.
+fn first_hole<'b, 't, B: Backend>(
     alloc: Global,
     template: &HipStr<'b, B>,
-    rest: &HipStr<'h, B>,
-) -> Result<Option<(Hole<'b, B>, HipStr<'h, B>)>, TemplateFault<'b, B>>
-    requires { IsEnd template.now.items rest.now.items }
-    ensures { FirstHole rest.now.items result }
+    rest: &'t str,
+    opening: &Sign,
+    closing: &Sign,
+) -> Result<Option<(Hole<'b, B>, &'t str)>, TemplateFault<'b, B>>
+    requires end { IsEnd template.now.items rest.now }
+    requires opening { opening.now.text.now ≡ opening_sign }
+    requires closing { closing.now.text.now ≡ closing_sign }
+    requires opening_prepared { ⟦<&'static str as Pattern>⟧.is_searcher opening.now.text opening.now.searcher }
+    requires closing_prepared { ⟦<&'static str as Pattern>⟧.is_searcher closing.now.text closing.now.searcher }
+    ensures hole { FirstHole rest.now result }
+    ensures utf8 { IfOk result (λ found. IfSome found (λ parts. IsUtf8 parts.1.now)) }
 {
-    let Some((before, behind)) = parted(alloc, rest, "{{")? else {
+    let Some((before, behind)) = opening.part(rest) else {
         return Ok(None);
     };
-    let Some((name, after)) = parted(alloc, &behind, "}}")? else {
-        let behind = part_before(alloc, template, behind.as_str(), template.len())?;
+    let Some((name, after)) = closing.part(behind) else {
+        let behind = part_before(alloc, template, behind, template.len())?;
         return Err(TemplateFault::Unclosed(behind));
     };
-    let open = template.len() - behind.as_str().len() - 2;
-    let close = template.len() - after.as_str().len() - 2;
+    let open = template.len() - behind.len() - 2;
+    let close = template.len() - after.len() - 2;
     let hole = Hole {
-        before: part_before(alloc, template, before.as_str(), open)?,
-        name: part_before(alloc, template, name.as_str(), close)?,
+        before: part_before(alloc, template, before, open)?,
+        name: part_before(alloc, template, name, close)?,
     };
     Ok(Some((hole, after)))
 }
@@ -108,12 +139,18 @@ pub fn parse<'b, B: Backend>(
         written parsed.holes.items ++ parsed.rest.items ≡ template.now.items) }
     ensures fault { IfErr result (ParseFails template.now.items) }
 {
+    let (opening, closing) = (Sign::new("{{"), Sign::new("}}"));
     let mut holes = Vec::new(alloc);
-    let mut rest = HipStr::borrowed(template.as_str());
-    while let Some((hole, after)) = first_hole(alloc, template, &rest)? {
+    let mut rest = template.as_str();
+    while let Some((hole, after)) = first_hole(alloc, template, rest, &opening, &closing)? {
         holes.push(hole)?;
         rest = after;
     }
-    let rest = last_part(alloc, template, rest.as_str(), holes.is_empty())?;
-    Ok(Template { holes, rest })
+    let rest = last_part(alloc, template, rest, holes.is_empty())?;
+    let first_places = first_places(alloc, holes.as_slice())?;
+    Ok(Template {
+        holes,
+        rest,
+        first_places,
+    })
 }

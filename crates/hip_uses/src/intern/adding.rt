@@ -11,8 +11,9 @@ use crate::keyed::put;
 use hipstr::string::HipStr;
 use hipstr::{Backend, Meter};
 use std::alloc::{AllocError, Global};
+use std::hash::BuildHasher;
 
-impl<'b, B: Backend> Interner<'b, B> {
+impl<'b, B: Backend, S: BuildHasher> Interner<'b, B, S> {
     /// Puts a text that has no number behind the others.
     fn add(
         &mut self,

@@ -11,8 +11,9 @@ use hipstr::Backend;
 use hipstr::pattern::{Pattern, Ranges, Split};
 use hipstr::string::HipStr;
 use std::alloc::Global;
+use std::hash::BuildHasher;
 
-impl<'b, B: Backend> Interner<'b, B> {
+impl<'b, B: Backend, S: BuildHasher> Interner<'b, B, S> {
     /// The numbers of the parts of a text between the occurrences of a pattern that aren't empty.
     pub fn intern_parts<P: Pattern>(
         &mut self,

@@ -1,13 +1,16 @@
 //! Templates that are filled.
-ghost use Rattle.std.specs.Prelude.{◌≡◌, ◌++◌, IfErr, IfOk, IsSome, OnOk};
-ghost use Rattle.hip_uses.specs.Template.{AllKnown, filled, hole_filled, value_of};
-ghost use Rattle.hip_uses.specs.Template.{FillFails, HoleFails, IsUnknown};
+ghost use Rattle.std.specs.Prelude.{◌≡◌, ◌++◌, IfErr, IfOk, length};
+ghost use Rattle.std.specs.Option.{option_map};
+ghost use Rattle.hip_uses.specs.Number.{bytes_of};
+ghost use Rattle.hip_uses.specs.Template.{AllKnown, all_shown, filled, value_of, values_in, woven};
+ghost use Rattle.hip_uses.specs.Template.{FillFails, IsUnknown};
 
 use crate::template::values::Values;
 use crate::template::{Hole, Template, TemplateFault};
 use hipstr::Backend;
 use hipstr::string::HipStr;
 use std::alloc::{AllocError, Global};
+use std::hash::BuildHasher;
 
 /// That nothing goes under this name.
 fn unknown<'b, B: Backend>(alloc: Global, name: &HipStr<'b, B>) -> TemplateFault<'b, B>
@@ -19,57 +22,84 @@ fn unknown<'b, B: Backend>(alloc: Global, name: &HipStr<'b, B>) -> TemplateFault
     }
 }
 
-/// Adds a hole of a template, filled, with what lies before it.
-fn push_hole<'b, B: Backend>(
-    alloc: Global,
-    text: &mut HipStr<'b, B>,
-    hole: &Hole<'b, B>,
-    values: &Values<'b, B>,
-) -> Result<(), TemplateFault<'b, B>>
-    ensures known { OnOk result (IsSome (value_of values.now hole.now.name.items)) }
-    ensures filled { OnOk result
-        (text.new.items ≡ text.old.items ++ hole_filled values.now hole.now) }
-    ensures fault { IfErr result (HoleFails values.now hole.now) }
+/// What goes under a name: what went into the earlier hole at `first` where that has the name too, and is looked up else.
+fn value_of<'v, 'b, B: Backend, S: BuildHasher>(
+    values: &'v Values<'b, B, S>,
+    name: &HipStr<'b, B>,
+    earlier: &[Hole<'b, B>],
+    found: &[&'v str],
+    first: usize,
+) -> Option<&'v str>
+    requires known { AllKnown values.now earlier.now }
+    requires found { all_shown found.now ≡ values_in values.now earlier.now }
+    ensures { option_map (λ value. value.now) result
+        ≡ option_map bytes_of (value_of values.now name.now.items) }
 {
-    let Some(value) = values.get(&hole.name) else {
-        return Err(unknown(alloc, &hole.name));
-    };
-    text.push_str(alloc, hole.before.as_str())?;
-    text.push_str(alloc, value.as_str())?;
-    Ok(())
-}
-
-/// Adds the holes of a template, each filled.
-fn push_filled<'b, B: Backend>(
-    alloc: Global,
-    text: &mut HipStr<'b, B>,
-    holes: &[Hole<'b, B>],
-    values: &Values<'b, B>,
-) -> Result<(), TemplateFault<'b, B>>
-    ensures known { OnOk result (AllKnown values.now holes.now) }
-    ensures filled { OnOk result
-        (text.new.items ≡ text.old.items ++ filled values.now holes.now) }
-    ensures fault { IfErr result (FillFails values.now holes.now) }
-{
-    for hole in holes {
-        push_hole(alloc, text, hole, values)?;
+    if let Some(hole) = earlier.get(first) {
+        if hole.name == *name {
+            return Some(found[first]);
+        }
     }
-    Ok(())
+    match values.get(name) {
+        Some(value) => Some(value.as_str()),
+        None => None,
+    }
 }
 
-/// The text of a template with each hole filled.
-pub fn fill<'b, B: Backend>(
+/// What goes into each hole. Each different name is looked up once.
+fn values_of<'v, 'b, B: Backend, S: BuildHasher>(
     alloc: Global,
     template: &Template<'b, B>,
-    values: &Values<'b, B>,
+    values: &'v Values<'b, B, S>,
+) -> Result<Vec<&'v str>, TemplateFault<'b, B>>
+    ensures known { IfOk result (λ _. AllKnown values.now template.now.holes.items) }
+    ensures found { IfOk result (λ found. all_shown found.items
+        ≡ values_in values.now template.now.holes.items) }
+    ensures fault { IfErr result (FillFails values.now template.now.holes.items) }
+{
+    let mut found = Vec::with_capacity(alloc, template.holes.len())?;
+    for (place, hole) in template.holes.iter().enumerate() {
+        let first = template.first_places.get(place).copied().unwrap_or(place);
+        let earlier = &template.holes[..place];
+        let Some(value) = value_of(values, &hole.name, earlier, found.as_slice(), first) else {
+            return Err(unknown(alloc, &hole.name));
+        };
+        found.push(value)?;
+    }
+    Ok(found)
+}
+
+/// What lies before each hole, and what goes into it.
+fn pieces_of<'v, 'b, B: Backend>(
+    alloc: Global,
+    holes: &'v [Hole<'b, B>],
+    found: &[&'v str],
+) -> Result<Vec<&'v str>, AllocError>
+    requires { length found.now ≡ length holes.now }
+    ensures { IfOk result (λ pieces. all_shown pieces.items ≡ woven holes.now (all_shown found.now)) }
+{
+    let count = holes.len().saturating_mul(2).saturating_add(1);
+    let mut pieces = Vec::with_capacity(alloc, count)?;
+    for (place, hole) in holes.iter().enumerate() {
+        pieces.push(hole.before.as_str())?;
+        pieces.push(found[place])?;
+    }
+    Ok(pieces)
+}
+
+/// The text of a template with each hole filled. Each different name is looked up once, and memory for the text is asked for once.
+pub fn fill<'v, 'b, B: Backend, S: BuildHasher>(
+    alloc: Global,
+    template: &'v Template<'b, B>,
+    values: &'v Values<'b, B, S>,
 ) -> Result<HipStr<'b, B>, TemplateFault<'b, B>>
     ensures known { IfOk result (λ _. AllKnown values.now template.now.holes.items) }
     ensures filled { IfOk result (λ text. text.items
         ≡ filled values.now template.now.holes.items ++ template.now.rest.items) }
     ensures fault { IfErr result (FillFails values.now template.now.holes.items) }
 {
-    let mut text = HipStr::new();
-    push_filled(alloc, &mut text, &template.holes, values)?;
-    text.push_str(alloc, template.rest.as_str())?;
-    Ok(text)
+    let found = values_of(alloc, template, values)?;
+    let mut pieces = pieces_of(alloc, template.holes.as_slice(), found.as_slice())?;
+    pieces.push(template.rest.as_str())?;
+    Ok(HipStr::concat_slices(alloc, pieces.as_slice())?)
 }

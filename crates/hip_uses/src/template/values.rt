@@ -7,15 +7,18 @@ use hipstr::Backend;
 use hipstr::string::HipStr;
 use std::alloc::{AllocError, Global};
 use std::collections::HashMap;
+use std::hash::{BuildHasher, BuildHasherDefault, FoldHasher};
 use std::marker::Model;
 
 /// What goes under each name.
+///
+/// `S` makes the hashers of the names. The default has a fixed seed; for names from outside see [`Values::with_hasher`].
 #[derive(Drop)]
-pub struct Values<'b, B: Backend> {
-    values: HashMap<HipStr<'b, B>, HipStr<'b, B>>,
+pub struct Values<'b, B: Backend, S: BuildHasher = BuildHasherDefault<FoldHasher>> {
+    values: HashMap<HipStr<'b, B>, HipStr<'b, B>, S>,
 }
 
-impl<'b, B: Backend> Model for Values<'b, B> {
+impl<'b, B: Backend, S: BuildHasher> Model for Values<'b, B, S> {
     ghost use Rattle.std.specs.Prelude.{List};
     ghost use Rattle.hipstr.specs.Handle.{Handle};
 
@@ -25,11 +28,21 @@ impl<'b, B: Backend> Model for Values<'b, B> {
 }
 
 impl<'b, B: Backend> Values<'b, B> {
+    /// No values yet, for names that no other party chose.
     pub fn new(alloc: Global) -> Self
         ensures { result ≡ [] }
     {
+        Values::with_hasher(alloc, BuildHasherDefault::new())
+    }
+}
+
+impl<'b, B: Backend, S: BuildHasher> Values<'b, B, S> {
+    /// No values yet. With a `RandomState` of std, whose seed is drawn, no party outside can choose names that share a hash.
+    pub fn with_hasher(alloc: Global, hash_builder: S) -> Self
+        ensures { result ≡ [] }
+    {
         Values {
-            values: HashMap::new(alloc),
+            values: HashMap::with_hasher(alloc, hash_builder),
         }
     }
 

@@ -1,6 +1,8 @@
 use Rattle.std.proofs.Common.{◌∙◌, ℕ, List, [], Option, Ok, subst, sym, refl}
 use Rattle.std.proofs.lemmas.List.{append-nil}
-use Rattle.hipstr.specs.Handle.{Handle}
+use Rattle.std.specs.Borrow.{Bor}
+use Rattle.std.specs.Prelude.{IfSome}
+use Rattle.std.specs.Str.{IsUtf8}
 use Rattle.hipstr.specs.Parted.{Lacks}
 use Rattle.hip_uses.specs.Template.{FirstHole, IsParsed, ParseFails, opening, written}
 use Rattle.hip_uses.specs.declared.template.Hole.{Hole}
@@ -10,27 +12,28 @@ use Rattle.hip_uses.proofs.template.parse.Goals as goal
 pub returns-in_err-hole-clause-fault : goal.returns-in_err-hole-clause-fault
 returns-in_err-hole-clause-fault g c =
     handed_on (ParseFails c.args.template.now.items) c.from_residual.result c.in_err-hole.field-0.0 c.from_residual.ensures.1
-    (fails-more (written c.loop-rest.holes.items) c.loop-rest.rest.items c.args.template.now.items c.in_err-hole.field-0.0 c.loop-rest.invariant.written c.in_err-hole.ensures)
+    (fails-more (written c.loop-holes.holes.items) c.loop-holes.rest.now c.args.template.now.items c.in_err-hole.field-0.0 c.loop-holes.invariant.written c.in_err-hole.ensures.hole)
 
 pub returns-clause-parsed : goal.returns-clause-parsed
 returns-clause-parsed g c =
     let AHole : Type 0 = Hole g.row.B.Denot g.row.B-Sole.Denot g.row.B-Start.Denot in
-    let rest = c.loop-rest.rest.items in
-    let lacks : Lacks opening rest = subst (λ (found : Option (AHole × Handle)). FirstHole rest (Ok found)) c.in_default.is c.in_ok-hole.ensures in
-    subst (λ (last : List ℕ). IsParsed c.args.template.now.items c.loop-rest.holes.items last) (sym (c.in_ok-rest.ensures ∙ c.as_str-2.ensures.items))
-    (subst (λ (holes : List AHole). IsParsed c.args.template.now.items holes rest) (append-nil c.loop-rest.holes.items) (c.loop-rest.invariant.parsed [] rest (refl, lacks)))
+    let rest = c.loop-holes.rest.now in
+    let lacks : Lacks opening rest = subst (λ (found : Option (AHole × Bor (List ℕ))). FirstHole rest (Ok found)) c.in_default.is c.in_ok-hole.ensures.hole in
+    subst (λ (last : List ℕ). IsParsed c.args.template.now.items c.loop-holes.holes.items last) (sym c.in_ok-rest.ensures)
+    (subst (λ (holes : List AHole). IsParsed c.args.template.now.items holes rest) (append-nil c.loop-holes.holes.items) (c.loop-holes.invariant.parsed [] rest (refl, lacks)))
 
-pub loop-rest-smaller : goal.loop-rest-smaller
-loop-rest-smaller g c =
+pub loop-holes-smaller : goal.loop-holes-smaller
+loop-holes-smaller g c =
     let AHole : Type 0 = Hole g.row.B.Denot g.row.B-Sole.Denot g.row.B-Start.Denot in
-    hole-shorter c.loop-rest.rest.items c.in-Some.hole c.in-Some.after (subst (λ (found : Option (AHole × Handle)). FirstHole c.loop-rest.rest.items (Ok found)) c.in-Some.is c.in_ok-hole.ensures)
+    hole-shorter c.loop-holes.rest.now c.in-Some.hole c.in-Some.after (subst (λ (found : Option (AHole × Bor (List ℕ))). FirstHole c.loop-holes.rest.now (Ok found)) c.in-Some.is c.in_ok-hole.ensures.hole)
 
-pub loop-rest-preserved : goal.loop-rest-preserved
-loop-rest-preserved g c =
+pub loop-holes-preserved : goal.loop-holes-preserved
+loop-holes-preserved g c =
     let AHole : Type 0 = Hole g.row.B.Denot g.row.B-Sole.Denot g.row.B-Start.Denot in
-    let rest = c.loop-rest.rest.items in
-    let cut = subst (λ (found : Option (AHole × Handle)). FirstHole rest (Ok found)) c.in-Some.is c.in_ok-hole.ensures in
+    let rest = c.loop-holes.rest.now in
+    let cut = subst (λ (found : Option (AHole × Bor (List ℕ))). FirstHole rest (Ok found)) c.in-Some.is c.in_ok-hole.ensures.hole in
     record {
-      written = written-more c.args.template.now.items rest c.loop-rest.holes.items c.push.new.self.items c.in-Some.hole c.in-Some.after c.loop-rest.invariant.written cut c.in_ok-push.ensures.items;
-      parsed = parsed-more c.args.template.now.items rest c.loop-rest.holes.items c.push.new.self.items c.in-Some.hole c.in-Some.after c.loop-rest.invariant.parsed cut c.in_ok-push.ensures.items;
+      text = subst (λ (found : Option (AHole × Bor (List ℕ))). IfSome found (λ parts. IsUtf8 parts.1.now)) c.in-Some.is c.in_ok-hole.ensures.utf8;
+      written = written-more c.args.template.now.items rest c.loop-holes.holes.items c.push.new.self.items c.in-Some.hole c.in-Some.after c.loop-holes.invariant.written cut c.in_ok-push.ensures.items;
+      parsed = parsed-more c.args.template.now.items rest c.loop-holes.holes.items c.push.new.self.items c.in-Some.hole c.in-Some.after c.loop-holes.invariant.parsed cut c.in_ok-push.ensures.items;
     }

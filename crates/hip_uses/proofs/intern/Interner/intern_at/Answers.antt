@@ -1,7 +1,16 @@
 use Rattle.std.proofs.Common.{ℕ, ◌∙◌, List, subst}
 use Rattle.hipstr.specs.Occurrence.{IsCut}
-use Rattle.hip_uses.proofs.Words.{kept-interned, walked-on}
+use Rattle.hip_uses.proofs.Words.{kept-interned, walked-none, walked-on}
 use Rattle.hip_uses.proofs.intern.Interner.intern_at.Goals as goal
+
+pub loop-start-init : goal.loop-start-init
+loop-start-init g c =
+    let ranges = g.I.Ranges.rest c.args.ranges in
+    record {
+      ready = c.requires.ready;
+      text = c.requires.text;
+      walked = rw c.new-numbers.ensures.items (walked-none c.args.self.now c.args.text.now.items ranges);
+    }
 
 pub loop-start-preserved-in_ok-push : goal.loop-start-preserved-in_ok-push
 loop-start-preserved-in_ok-push g c =
