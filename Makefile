@@ -67,6 +67,11 @@ tools:
 count:
 	@bench/count.sh
 
+# Measures hip_tools count on words that share one hash under a fixed seed, beside random words.
+.PHONY: flood
+flood:
+	@bench/flood.sh
+
 # Measures the walks over the ranges of a text beside Rust's `str`.
 .PHONY: walks
 walks:

@@ -63,7 +63,7 @@ fn one_of(numbers: &mut Numbers, words: &'static [&'static str]) -> &'static str
     words[numbers.below(words.len())]
 }
 
-/// A literal of up to so many characters. One in eight is plain.
+/// A literal of up to so many characters. One in two is plain.
 fn literal(alloc: Global, numbers: &mut Numbers, most: usize) -> Result<String, AllocError> {
     let mut literal = String::from_str(alloc, "\"")?;
     let plain = numbers.one_in(2);

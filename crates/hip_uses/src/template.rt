@@ -7,7 +7,7 @@ ghost use Rattle.hip_uses.specs.Template.{FirstHole, IsEnd, IsParsed, LiesBefore
 
 pub use crate::fault::TemplateFault;
 pub use crate::template::filling::fill;
-use crate::template::names::first_places;
+use crate::template::names::earlier_places;
 pub use crate::template::values::Values;
 use hipstr::pattern::Pattern;
 use hipstr::string::HipStr;
@@ -31,8 +31,8 @@ pub struct Template<'b, B: Backend> {
     pub holes: Vec<Hole<'b, B>>,
     /// What lies behind the last hole.
     pub rest: HipStr<'b, B>,
-    /// For each hole the place of the first hole of its name, as it was parsed.
-    first_places: Vec<usize>,
+    /// For each hole the place of the last one before it of its name, or its own, as it was parsed.
+    earlier_places: Vec<usize>,
 }
 
 /// A sign of a hole, `{{` or `}}`, prepared once for all searches of a template.
@@ -147,10 +147,10 @@ pub fn parse<'b, B: Backend>(
         rest = after;
     }
     let rest = last_part(alloc, template, rest, holes.is_empty())?;
-    let first_places = first_places(alloc, holes.as_slice())?;
+    let earlier_places = earlier_places(alloc, holes.as_slice())?;
     Ok(Template {
         holes,
         rest,
-        first_places,
+        earlier_places,
     })
 }

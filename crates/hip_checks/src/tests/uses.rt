@@ -2,6 +2,7 @@
 //! whose rows one loop runs on either backend.
 mod intern;
 mod queue;
+mod seeded;
 mod support;
 mod table;
 mod template;

@@ -22,22 +22,22 @@ fn unknown<'b, B: Backend>(alloc: Global, name: &HipStr<'b, B>) -> TemplateFault
     }
 }
 
-/// What goes under a name: what went into the earlier hole at `first` where that has the name too, and is looked up else.
+/// What goes under a name: what went into the hole at `place` where that is an earlier one of the name, else what is looked up.
 fn value_of<'v, 'b, B: Backend, S: BuildHasher>(
     values: &'v Values<'b, B, S>,
     name: &HipStr<'b, B>,
     earlier: &[Hole<'b, B>],
     found: &[&'v str],
-    first: usize,
+    place: usize,
 ) -> Option<&'v str>
     requires known { AllKnown values.now earlier.now }
     requires found { all_shown found.now ≡ values_in values.now earlier.now }
     ensures { option_map (λ value. value.now) result
         ≡ option_map bytes_of (value_of values.now name.now.items) }
 {
-    if let Some(hole) = earlier.get(first) {
+    if let Some(hole) = earlier.get(place) {
         if hole.name == *name {
-            return Some(found[first]);
+            return Some(found[place]);
         }
     }
     match values.get(name) {
@@ -59,9 +59,9 @@ fn values_of<'v, 'b, B: Backend, S: BuildHasher>(
 {
     let mut found = Vec::with_capacity(alloc, template.holes.len())?;
     for (place, hole) in template.holes.iter().enumerate() {
-        let first = template.first_places.get(place).copied().unwrap_or(place);
+        let of_name = template.earlier_places.get(place).copied().unwrap_or(place);
         let earlier = &template.holes[..place];
-        let Some(value) = value_of(values, &hole.name, earlier, found.as_slice(), first) else {
+        let Some(value) = value_of(values, &hole.name, earlier, found.as_slice(), of_name) else {
             return Err(unknown(alloc, &hole.name));
         };
         found.push(value)?;

@@ -36,8 +36,22 @@ fn cells<B: Backend>(alloc: Global, table: &Table<'_, B>) -> Result<String, Allo
     Ok(printed)
 }
 
-fn shown<B: Backend>(alloc: Global, text: &str) -> Result<String, AllocError> {
+/// Like `cells`, but by the place of the column, which is found once.
+fn cells_at<B: Backend>(alloc: Global, table: &Table<'_, B>) -> Result<String, AllocError> {
+    let mut printed = String::new(alloc);
+    let column = table.column("city").unwrap_or(usize::MAX);
+    for row in 0..table.len() {
+        match table.cell_at(row, column) {
+            Some(cell) => writeln!(printed, "{cell}")?,
+            None => printed.push_str("-\n")?,
+        }
+    }
+    Ok(printed)
+}
+
+fn shown<B: Backend>(alloc: Global, text: &str, by_place: bool) -> Result<String, AllocError> {
     match Table::<B>::read(alloc, &HipStr::from_str(alloc, text)?, ',') {
+        Ok(table) if by_place => cells_at(alloc, &table),
         Ok(table) => cells(alloc, &table),
         Err(fault) => format!(in alloc; "{fault}\n"),
     }
@@ -47,7 +61,9 @@ fn shown<B: Backend>(alloc: Global, text: &str) -> Result<String, AllocError> {
 fn finds_cells(rt: HostRuntime) {
     let alloc = rt.alloc();
     for (text, wanted) in ROWS {
-        assert!(rt; is(&shown::<Rc>(alloc, text), wanted), "of {text:?}");
-        assert!(rt; is(&shown::<Unique>(alloc, text), wanted), "of {text:?}");
+        for by_place in [false, true] {
+            assert!(rt; is(&shown::<Rc>(alloc, text, by_place), wanted), "of {text:?}");
+            assert!(rt; is(&shown::<Unique>(alloc, text, by_place), wanted), "of {text:?}");
+        }
     }
 }

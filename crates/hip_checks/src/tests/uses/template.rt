@@ -5,11 +5,13 @@ use hipstr::string::HipStr;
 use hipstr::{Backend, Rc, Unique};
 use std::alloc::{AllocError, Global};
 
-const ROWS: [(&str, &str); 9] = [
+const ROWS: [(&str, &str); 11] = [
     ("", ""),
     ("no hole", "no hole"),
     ("{{greeting}}, {{name}}!", "Good evening, Ada!"),
     ("{{name}}{{name}}", "AdaAda"),
+    ("{{name}}{{greeting}}{{name}}", "AdaGood eveningAda"),
+    ("{{name}}{{nobody}}{{name}}", "nothing under `nobody`"),
     ("{ {name} } }}", "{ {name} } }}"),
     ("{{{name}}", "nothing under `{name`"),
     ("Dear {{nobody}}", "nothing under `nobody`"),

@@ -7,5 +7,5 @@ pub returns-then-eq : goal.returns-then-eq
 returns-then-eq g c =
     let hole = c.in-Some.hole.now in
     let lookup = c.in-Some.ensures.lookup in
-    value-again c.args.values.now c.args.earlier.now c.args.first hole c.args.found.now _ c.args.name.now.items (omega (arith, lookup.3.0)) lookup.1 c.requires.found c.requires.known
+    value-again c.args.values.now c.args.earlier.now c.args.place hole c.args.found.now _ c.args.name.now.items (omega (arith, lookup.3.0)) lookup.1 c.requires.found c.requires.known
     (same_text hole.name.items c.args.name.now.items c.if-eq.ensures)
