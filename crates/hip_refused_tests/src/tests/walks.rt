@@ -100,15 +100,11 @@ fn walked<B: Backend>(text: &HipStr<'_, B>, alloc: Global, walk: Walk) -> Tally 
         Walk::RSplit => given(text.rsplit(alloc, ',')),
         Walk::Matches => given(text.matches(alloc, PART)),
         Walk::Lines => given(text.lines(alloc)),
-        _ => walked_with_places(text, alloc, walk),
-    }
-}
-
-fn walked_with_places<B: Backend>(text: &HipStr<'_, B>, alloc: Global, walk: Walk) -> Tally {
-    match walk {
         Walk::MatchIndices => given_with_places(text.match_indices(alloc, PART)),
         Walk::RMatchIndices => given_with_places(text.rmatch_indices(alloc, PART)),
-        _ => given_with_places(text.pieces_at(alloc, Split::new(text.as_str(), ','))),
+        Walk::PiecesAt => {
+            given_with_places(text.pieces_at(alloc, Split::new(text.as_str(), ',')))
+        }
     }
 }
 
@@ -116,7 +112,7 @@ fn walked_with_places<B: Backend>(text: &HipStr<'_, B>, alloc: Global, walk: Wal
 fn letters(held: Held) -> &'static str {
     match held {
         Held::Inline => " a,",
-        _ => TEXT,
+        Held::Lent | Held::Sole | Held::Shared => TEXT,
     }
 }
 
