@@ -39,9 +39,10 @@ fn is(text: Option<String>, is_text: bool, want: &str) -> bool {
 }
 
 fn becomes_text<N: Name>(rt: &impl Abort, row: Decoded) {
-    match must(rt, N::lent(row.0)).into_str() {
-        Ok(bytes) => assert_eq!(rt; (bytes, row.1), (row.0, true)),
-        Err(back) => assert_eq!(rt; (back.bytes(), row.1), (row.0, false)),
+    let (bytes, is_text, text) = row;
+    match must(rt, N::lent(bytes)).into_str_eq(text) {
+        Ok(is_same) => assert!(rt; is_same & is_text),
+        Err(back) => assert_eq!(rt; (back.bytes(), is_text), (bytes, false)),
     }
 }
 

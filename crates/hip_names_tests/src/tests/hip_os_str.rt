@@ -24,6 +24,8 @@ impl<B: Backend> Handle for HipOsStr<'static, B> {
 }
 
 impl<B: Backend> Name for HipOsStr<'static, B> {
+    type Bytes = HipByt<'static, B>;
+
     const IS_PATH: bool = false;
 
     fn new() -> Self {
@@ -76,6 +78,18 @@ impl<B: Backend> Name for HipOsStr<'static, B> {
 
     fn into_vec(self, alloc: Global) -> Result<Vec<u8>, Self> {
         self.into_os_string(alloc)
+    }
+
+    fn into_os_string(self, alloc: Global) -> Result<Vec<u8>, Self> {
+        self.into_os_string(alloc)
+    }
+
+    fn into_bytes(self) -> HipByt<'static, B> {
+        self.into_bytes()
+    }
+
+    fn into(self) -> HipByt<'static, B> {
+        HipByt::from(self)
     }
 
     fn into_vec_copied(self, alloc: Global) -> Result<Vec<u8>, AllocError> {
@@ -131,8 +145,8 @@ impl<B: Backend> Name for HipOsStr<'static, B> {
         self.into_bytes().into_cow(alloc).or(Err(AllocError))
     }
 
-    fn into_str(self) -> Result<&'static [u8], Self> {
-        Ok(self.into_str()?.as_borrowed().unwrap_or("").as_bytes())
+    fn into_str_eq(self, text: &str) -> Result<bool, Self> {
+        Ok(self.into_str()?.str_eq(text))
     }
 }
 

@@ -9,6 +9,8 @@ use std::fmt;
 use std::hash::Hash;
 
 pub trait Name: Handle + Source + Hash + Ord + fmt::Debug {
+    type Bytes: Handle;
+
     /// Whether it is compared by components, and not by bytes.
     const IS_PATH: bool;
 
@@ -38,6 +40,14 @@ pub trait Name: Handle + Source + Hash + Ord + fmt::Debug {
 
     /// By `into_os_string` or `into_path_buf`.
     fn into_vec(self, alloc: Global) -> Result<Vec<u8>, Self>;
+
+    fn into_os_string(self, alloc: Global) -> Result<Vec<u8>, Self>;
+
+    /// Of a path, by way of an OS string.
+    fn into_bytes(self) -> Self::Bytes;
+
+    /// The byte string that `From` makes, of a path by way of an OS string.
+    fn into(self) -> Self::Bytes;
 
     /// By way of a byte string.
     fn into_vec_copied(self, alloc: Global) -> Result<Vec<u8>, AllocError>;
@@ -69,8 +79,8 @@ pub trait Name: Handle + Source + Hash + Ord + fmt::Debug {
     /// Of the byte string.
     fn into_cow(self, alloc: Global) -> Result<CowSlice<'static, u8>, AllocError>;
 
-    /// The text of lent bytes, as bytes.
-    fn into_str(self) -> Result<&'static [u8], Self>;
+    /// Whether the text is this, by `str_eq`.
+    fn into_str_eq(self, text: &str) -> Result<bool, Self>;
 }
 
 /// What an OS string alone has.
