@@ -1,9 +1,9 @@
 //! Ranges that are refused: what the error tells, and its texts.
 use super::bytes::Bytes;
 use super::faults::{Refusal, Told};
-use super::suite::{Suite, run_on_rc, run_on_unique};
-use super::support::must;
-use hip_bytes::SliceErrorKind;
+use super::suite::{Suite, run_on_each};
+use super::support::{is, must};
+use hip_bytes::{Kind, SliceErrorKind};
 use std::alloc::Global;
 use std::ops::Bound;
 use std::process::Abort;
@@ -47,6 +47,20 @@ const REFUSED: &[Refused] = &[
         start: MAX,
         end: MAX,
         text: "range start index 18446744073709551615 out of bounds for slice of length 3",
+    },
+    Refused {
+        bounds: (Bound::Excluded(MAX), Bound::Included(MAX)),
+        kind: START_OUT,
+        start: MAX,
+        end: MAX,
+        text: "range start index 18446744073709551615 out of bounds for slice of length 3",
+    },
+    Refused {
+        bounds: (Bound::Included(5), Bound::Excluded(4)),
+        kind: START_OUT,
+        start: 5,
+        end: 4,
+        text: "range start index 5 out of bounds for slice of length 3",
     },
     Refused {
         bounds: (Bound::Excluded(MAX), Bound::Unbounded),
@@ -128,6 +142,25 @@ fn refused_end<H: Bytes>(rt: &impl Abort, alloc: Global) {
     assert_eq!(rt; (told.kind, told.end), (END_OUT, MAX));
 }
 
+/// Of no bytes the range of all numbers is refused, and that of none is a range.
+fn refused_of_none<H: Bytes>(rt: &impl Abort, alloc: Global) {
+    let told = told(rt, H::new().try_slice(alloc, 0..=MAX));
+    assert_eq!(rt;
+        (told.kind, told.range, told.display.as_str()),
+        (
+            END_OUT,
+            0..MAX,
+            "range end index 18446744073709551615 out of bounds for slice of length 0"
+        )
+    );
+    is(
+        rt,
+        must(rt, H::new().try_slice(alloc, 0..0)),
+        b"",
+        Kind::Inline,
+    );
+}
+
 fn is_refused<H: Bytes>(rt: &impl Abort, alloc: Global, row: Refused) {
     let handle = must(rt, H::from_slice(alloc, b"abc"));
     let (low, high) = row.bounds;
@@ -185,6 +218,7 @@ impl Suite for Errors {
         refusals::<H>(rt, alloc);
         refused_places::<H>(rt, alloc);
         refused_end::<H>(rt, alloc);
+        refused_of_none::<H>(rt, alloc);
         equal_refusals::<H>(rt, alloc);
         inclusive_range::<H>(rt, alloc);
         refused_debug::<H>(rt, alloc);
@@ -192,11 +226,6 @@ impl Suite for Errors {
 }
 
 #[test]
-fn on_rc(rt: HostRuntime) {
-    run_on_rc::<Errors>(&rt, rt.alloc());
-}
-
-#[test]
-fn on_unique(rt: HostRuntime) {
-    run_on_unique::<Errors>(&rt, rt.alloc());
+fn a_range_is_refused_by_its_first_fault(rt: HostRuntime) {
+    run_on_each::<Errors>(&rt, rt.alloc());
 }

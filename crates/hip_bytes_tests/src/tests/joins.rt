@@ -1,6 +1,6 @@
 //! Repetitions, joins and room that is given back.
 use super::bytes::Bytes;
-use super::suite::{Suite, run_on_rc, run_on_unique};
+use super::suite::{Suite, run_on_each};
 use super::support::{LETTERS, holds, is, must};
 use hip_bytes::{GrowFault, Kind, Meter};
 use std::alloc::Global;
@@ -22,12 +22,18 @@ fn repetitions<H: Bytes>(rt: &impl Abort, alloc: Global) {
     }
 }
 
+/// Bytes, how often they can't be repeated, and why: a length that is no number, or one that no block has.
+const REFUSED: &[(&[u8], usize, GrowFault)] = &[
+    (b"ab", usize::MAX, GrowFault::TooLong),
+    (b"ab", 1 << 63, GrowFault::TooLong),
+    (b"a", usize::MAX, GrowFault::Memory),
+];
+
 fn too_long<H: Bytes>(rt: &impl Abort, alloc: Global) {
-    let handle = must(rt, H::inline(b"ab"));
-    assert_eq!(rt;
-        handle.repeat(alloc, usize::MAX).err(),
-        Some(GrowFault::TooLong)
-    );
+    for (bytes, count, fault) in REFUSED {
+        let handle = must(rt, H::inline(bytes));
+        assert_eq!(rt; handle.repeat(alloc, *count).err(), Some(*fault));
+    }
 }
 
 fn once<H: Bytes>(rt: &impl Abort, alloc: Global) {
@@ -64,6 +70,30 @@ fn joined_slices<H: Bytes>(rt: &impl Abort, alloc: Global) {
     is(rt, joined, b"ab--c", Kind::Inline);
     let none = must(rt, H::join_slices(alloc, &[], b"-"));
     is(rt, none, b"", Kind::Inline);
+}
+
+/// Three pieces, what they make, and where.
+const CONCATENATED: &[([&[u8]; 3], &[u8], Kind)] = &[
+    ([b"", b"", b""], b"", Kind::Inline),
+    ([&[b'a'; 11], b"", &[b'a'; 12]], &[b'a'; 23], Kind::Inline),
+    (
+        [&[b'a'; 12], &[b'a'; 12], b""],
+        &[b'a'; 24],
+        Kind::Allocated,
+    ),
+];
+
+fn concatenated<H: Bytes>(rt: &impl Abort, alloc: Global) {
+    is(
+        rt,
+        must(rt, H::concat_slices(alloc, &[])),
+        b"",
+        Kind::Inline,
+    );
+    for (pieces, items, kind) in CONCATENATED {
+        is(rt, must(rt, H::concat_slices(alloc, pieces)), items, *kind);
+        is(rt, must(rt, H::concat(alloc, *pieces)), items, *kind);
+    }
 }
 
 fn joined_pieces<H: Bytes>(rt: &impl Abort, alloc: Global) {
@@ -125,6 +155,26 @@ fn shrinks_into_the_handle<H: Bytes>(rt: &impl Abort, alloc: Global) {
     is(rt, room, &LETTERS[..23], Kind::Inline);
 }
 
+const TWENTY_FOUR: &[u8] = &[b'a'; 24];
+
+/// The least room that is asked for, and whether a capacity is what may be left of the one before.
+fn is_shrunk(least: usize, before: usize, after: usize) -> bool {
+    let kept = before.min(least.max(24));
+    kept <= after && after <= before
+}
+
+/// 24 bytes in room for 100: asked for more room than there is, for half, and for none, they stay where they are.
+fn shrinks_by_steps<H: Bytes>(rt: &impl Abort, alloc: Global) {
+    let mut room = must(rt, H::with_capacity(alloc, 100));
+    must(rt, room.push_slice(alloc, TWENTY_FOUR));
+    for least in [usize::MAX, 50, 0] {
+        let before = room.capacity();
+        must(rt, room.shrink_to(alloc, least));
+        assert!(rt; is_shrunk(least, before, room.capacity()));
+        holds(rt, &room, TWENTY_FOUR, Kind::Allocated);
+    }
+}
+
 fn repetitions_on<H: Bytes>(rt: &impl Abort, alloc: Global) {
     repetitions::<H>(rt, alloc);
     too_long::<H>(rt, alloc);
@@ -135,6 +185,7 @@ fn repetitions_on<H: Bytes>(rt: &impl Abort, alloc: Global) {
 fn joins_on<H: Bytes>(rt: &impl Abort, alloc: Global) {
     joined_slices::<H>(rt, alloc);
     joined_pieces::<H>(rt, alloc);
+    concatenated::<H>(rt, alloc);
     long_joins::<H>(rt, alloc);
     counted_joins::<H>(rt, alloc);
     counted_pieces::<H>(rt, alloc);
@@ -147,16 +198,12 @@ impl Suite for Joins {
         repetitions_on::<H>(rt, alloc);
         joins_on::<H>(rt, alloc);
         shrinks::<H>(rt, alloc);
+        shrinks_by_steps::<H>(rt, alloc);
         shrinks_into_the_handle::<H>(rt, alloc);
     }
 }
 
 #[test]
-fn joins_on_rc(rt: HostRuntime) {
-    run_on_rc::<Joins>(&rt, rt.alloc());
-}
-
-#[test]
-fn joins_on_unique(rt: HostRuntime) {
-    run_on_unique::<Joins>(&rt, rt.alloc());
+fn joins_and_repetitions_lie_by_their_length(rt: HostRuntime) {
+    run_on_each::<Joins>(&rt, rt.alloc());
 }

@@ -1,6 +1,6 @@
 //! Bytes that are lent for writing, and ASCII case.
 use super::bytes::Bytes;
-use super::suite::{Suite, run_on_rc, run_on_unique};
+use super::suite::{Suite, run_on_each};
 use super::support::{LETTERS, holds, is, must};
 use hip_bytes::{Kind, Meter};
 use std::alloc::Global;
@@ -68,6 +68,27 @@ fn case_of_lent_bytes<H: Bytes>(rt: &impl Abort, alloc: Global) {
     is(rt, lent, b"[a\xE9z]", Kind::Inline);
 }
 
+const LENT: [&[u8]; 2] = [&[b'a'; 23], &[b'a'; 24]];
+
+/// What lent bytes are written over in, a copy by length, and where that lies.
+const WRITTEN: [(&[u8], Kind); 2] = [
+    (b"baaaaaaaaaaaaaaaaaaaaaa", Kind::Inline),
+    (b"baaaaaaaaaaaaaaaaaaaaaaa", Kind::Allocated),
+];
+
+/// What was lent is as it was.
+fn over_lent_bytes<H: Bytes>(rt: &impl Abort, alloc: Global) {
+    for (bytes, (items, kind)) in LENT.iter().zip(WRITTEN) {
+        let lent = H::borrowed(bytes);
+        let mut written = must(rt, lent.clone(alloc));
+        if let Some(first) = must(rt, written.to_mut_slice(alloc)).first_mut() {
+            *first = b'b';
+        }
+        is(rt, written, items, kind);
+        is(rt, lent, bytes, Kind::Borrowed);
+    }
+}
+
 fn in_the_handle<H: Bytes>(rt: &impl Abort) {
     let mut short = must(rt, H::inline(b"abc"));
     match short.as_mut_slice() {
@@ -84,16 +105,12 @@ impl Suite for Writes {
         beside_a_clone::<H>(rt, alloc);
         other_case::<H>(rt, alloc);
         case_of_lent_bytes::<H>(rt, alloc);
+        over_lent_bytes::<H>(rt, alloc);
         in_the_handle::<H>(rt);
     }
 }
 
 #[test]
-fn writes_on_rc(rt: HostRuntime) {
-    run_on_rc::<Writes>(&rt, rt.alloc());
-}
-
-#[test]
-fn writes_on_unique(rt: HostRuntime) {
-    run_on_unique::<Writes>(&rt, rt.alloc());
+fn no_write_shows_in_a_clone(rt: HostRuntime) {
+    run_on_each::<Writes>(&rt, rt.alloc());
 }
