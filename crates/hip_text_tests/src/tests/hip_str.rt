@@ -1,6 +1,6 @@
 //! A text on any backend is what the tests ask of one.
 use super::faults::{Part, RangeFault, Refusal, Told};
-use super::support::shown;
+use super::support::{debugged, shown};
 use super::text::{Bytes, FromUtf8Error, Text};
 use hip_text::{
     Backend, BytesFault, GrowFault, HipByt, HipStr, Kind, Meter, SliceError, SliceRefusal, Unique,
@@ -23,6 +23,7 @@ fn told_by<B: Backend>(
         end: error.end(),
         range: error.range(),
         display: shown(alloc, &error)?,
+        debug: debugged(alloc, &error)?,
     })
 }
 
