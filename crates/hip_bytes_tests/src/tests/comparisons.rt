@@ -23,7 +23,7 @@ fn order<H: Bytes>(rt: &impl Abort, alloc: Global) {
 }
 
 fn order_of_slices<H: Bytes>(rt: &impl Abort) {
-    let lent = H::borrowed(b"abc");
+    let lent = H::from_static(b"abc");
     assert_eq!(rt;
         (
             lent.cmp_slice(b"abc"),

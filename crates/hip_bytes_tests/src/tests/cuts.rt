@@ -60,6 +60,8 @@ const LENT_SHRINKS: &[Step] = &[
     Step(Call::Truncate(5), b"aaaaa", Kind::Borrowed),
 ];
 
+const NOTHING_IS_PUSHED: &[Step] = &[Step(Call::PushSlice(b""), b"abc", Kind::Borrowed)];
+
 const ROOM_CLEARED: &[Step] = &[Step(Call::Clear, b"", Kind::Allocated)];
 
 /// Handles, and the calls on each in turn.
@@ -69,6 +71,7 @@ const RUNS: &[(Start, &[Step])] = &[
     (Start::Empty, EMPTY_GROWS),
     (Start::Copied(&[b'a'; 24]), COPIED_SHRINKS),
     (Start::Borrowed(&[b'a'; 30]), LENT_SHRINKS),
+    (Start::Borrowed(b"abc"), NOTHING_IS_PUSHED),
     (Start::Room(42), ROOM_CLEARED),
 ];
 

@@ -2,7 +2,7 @@
 use super::cuts::{Cut, parted, stripped, trimmed};
 use super::sessions::{
     Row, Session, borrowed_pieces, cases, cuts, empty, four_pushes, many_bytes, pieces, pushed,
-    pushed_slice, room_for_24, shrunk, texts, writes,
+    pushed_slice, room_for_24, set_on_shared, shrunk, texts, writes,
 };
 use super::support::must;
 use super::ways::{Taken, Way, all};
@@ -300,6 +300,8 @@ pub(crate) fn on<B: Backend>(rt: &impl Abort, alloc: Global) {
 fn nothing_is_refused_where_there_is_memory(rt: HostRuntime) {
     plays::<Rc>(&rt, rt.alloc(), pushed_slice());
     plays::<Unique>(&rt, rt.alloc(), pushed_slice());
+    plays::<Rc>(&rt, rt.alloc(), set_on_shared());
+    plays::<Unique>(&rt, rt.alloc(), set_on_shared());
     plays::<Rc>(&rt, rt.alloc(), borrowed_pieces());
     plays::<Unique>(&rt, rt.alloc(), borrowed_pieces());
 }

@@ -286,6 +286,29 @@ pub(crate) fn pushed_slice() -> Session {
     PUSHED_SLICE
 }
 
+/// A byte that is set in one of three handles of one owner.
+const SET_ON_SHARED: Session = Session {
+    slots: 3,
+    rows: &[
+        (Command::Copy(0, &[b'a'; 30]), Answer::Done),
+        (Command::Clone(0, 1), Answer::Done),
+        (
+            Command::Slice(0, 2, Bound::Included(3), Bound::Excluded(30)),
+            Answer::Done,
+        ),
+        (Command::Set(0, 5, b'b'), Answer::Done),
+    ],
+    left: &[
+        (0, b"aaaaabaaaaaaaaaaaaaaaaaaaaaaaa", false),
+        (1, &[b'a'; 30], false),
+        (2, &[b'a'; 27], false),
+    ],
+};
+
+pub(crate) fn set_on_shared() -> Session {
+    SET_ON_SHARED
+}
+
 /// Pieces of a borrowed text, from both ends.
 const BORROWED_PIECES: Session = Session {
     slots: 6,

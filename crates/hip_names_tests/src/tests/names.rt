@@ -260,15 +260,30 @@ fn pushes_by_guard<N: Name>(
     shown
 }
 
-/// A way, the text of the name that it makes, what is added through a guard, and what the name holds then, and where.
-type Grown = (Way, &'static str, &'static str, &'static str, Kind);
+/// A way, the text of the name that it makes and where that lies, what is added through a guard, and what the name holds then, and where.
+type Grown = (Way, &'static str, Kind, &'static str, &'static str, Kind);
 
 const GROWN: &[Grown] = &[
-    (Way::Lent, "abc", "def", "abcdef", Kind::Inline),
-    (Way::Copied, "abc", "def", "abcdef", Kind::Inline),
+    (
+        Way::Lent,
+        "abc",
+        Kind::Borrowed,
+        "def",
+        "abcdef",
+        Kind::Inline,
+    ),
+    (
+        Way::Copied,
+        "abc",
+        Kind::Inline,
+        "def",
+        "abcdef",
+        Kind::Inline,
+    ),
     (
         Way::TakenWithRoom,
         LETTERS,
+        Kind::Allocated,
         "0123456789",
         "abcdefghijklmnopqrstuvwxyz0123456789",
         Kind::Allocated,
@@ -277,11 +292,26 @@ const GROWN: &[Grown] = &[
 
 /// To paths a part is added.
 const GROWN_PATHS: &[Grown] = &[
-    (Way::Lent, "abc", "/def", "abc/def", Kind::Inline),
-    (Way::Copied, "abc", "/def", "abc/def", Kind::Inline),
+    (
+        Way::Lent,
+        "abc",
+        Kind::Borrowed,
+        "/def",
+        "abc/def",
+        Kind::Inline,
+    ),
+    (
+        Way::Copied,
+        "abc",
+        Kind::Inline,
+        "/def",
+        "abc/def",
+        Kind::Inline,
+    ),
     (
         Way::TakenWithRoom,
         LETTERS,
+        Kind::Allocated,
         "/0123456789",
         "abcdefghijklmnopqrstuvwxyz/0123456789",
         Kind::Allocated,
@@ -291,15 +321,15 @@ const GROWN_PATHS: &[Grown] = &[
 /// An only handle, and one whose clone, which was made before, keeps what it had.
 fn guards<N: Name>(rt: &impl Abort, alloc: Global) {
     let rows = if N::IS_PATH { GROWN_PATHS } else { GROWN };
-    for (way, text, addition, whole, kind) in rows {
+    for (way, text, before, addition, whole, after) in rows {
         let mut name = made::<N>(rt, alloc, *way, text);
         drop(pushes_by_guard(rt, alloc, &mut name, addition));
-        is(rt, name, whole, *kind);
+        is(rt, name, whole, *after);
         let mut name = made::<N>(rt, alloc, *way, text);
         let clone = must(rt, name.clone(alloc));
         drop(pushes_by_guard(rt, alloc, &mut name, addition));
-        is(rt, name, whole, *kind);
-        assert_eq!(rt; clone.bytes(), text.as_bytes());
+        is(rt, name, whole, *after);
+        is(rt, clone, text, *before);
     }
 }
 

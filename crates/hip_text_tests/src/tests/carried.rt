@@ -130,8 +130,12 @@ fn order<T: Text>(rt: &impl Abort, alloc: Global) {
             (*order, *order, *order)
         );
         assert_eq!(rt;
-            (T::cmp_borrowed("bb", lent), T::cmp_borrowed(lent, "bb")),
-            (*order, order.reverse())
+            (
+                bb.str_cmp(other),
+                T::cmp_borrowed("bb", lent),
+                T::cmp_borrowed(lent, "bb")
+            ),
+            (*order, *order, order.reverse())
         );
     }
 }
