@@ -308,10 +308,6 @@ impl<B: Backend> Bytes for HipByt<'static, B> {
         HipByt::join(alloc, pieces, sep)
     }
 
-    fn join_two(alloc: Global, pieces: [&'static [u8]; 2], sep: &[u8]) -> Result<Self, GrowFault> {
-        HipByt::join(alloc, pieces, sep)
-    }
-
     fn join_two_metered(
         alloc: Global,
         pieces: [&'static [u8]; 2],

@@ -63,10 +63,10 @@ fn twice<H: Bytes>(rt: &impl Abort, alloc: Global) {
 
 const PIECES: [&[u8]; 3] = [b"ab", b"", b"c"];
 
-fn joined_slices<H: Bytes>(rt: &impl Abort, alloc: Global) {
-    let whole = must(rt, H::concat_slices(alloc, &PIECES));
-    is(rt, whole, b"abc", Kind::Inline);
+fn joined_pieces<H: Bytes>(rt: &impl Abort, alloc: Global) {
     let joined = must(rt, H::join_slices(alloc, &PIECES, b"-"));
+    is(rt, joined, b"ab--c", Kind::Inline);
+    let joined = must(rt, H::join(alloc, PIECES, b"-"));
     is(rt, joined, b"ab--c", Kind::Inline);
     let none = must(rt, H::join_slices(alloc, &[], b"-"));
     is(rt, none, b"", Kind::Inline);
@@ -74,6 +74,7 @@ fn joined_slices<H: Bytes>(rt: &impl Abort, alloc: Global) {
 
 /// Three pieces, what they make, and where.
 const CONCATENATED: &[([&[u8]; 3], &[u8], Kind)] = &[
+    (PIECES, b"abc", Kind::Inline),
     ([b"", b"", b""], b"", Kind::Inline),
     ([&[b'a'; 11], b"", &[b'a'; 12]], &[b'a'; 23], Kind::Inline),
     (
@@ -84,23 +85,16 @@ const CONCATENATED: &[([&[u8]; 3], &[u8], Kind)] = &[
 ];
 
 fn concatenated<H: Bytes>(rt: &impl Abort, alloc: Global) {
+    for (pieces, items, kind) in CONCATENATED {
+        is(rt, must(rt, H::concat_slices(alloc, pieces)), items, *kind);
+        is(rt, must(rt, H::concat(alloc, *pieces)), items, *kind);
+    }
     is(
         rt,
         must(rt, H::concat_slices(alloc, &[])),
         b"",
         Kind::Inline,
     );
-    for (pieces, items, kind) in CONCATENATED {
-        is(rt, must(rt, H::concat_slices(alloc, pieces)), items, *kind);
-        is(rt, must(rt, H::concat(alloc, *pieces)), items, *kind);
-    }
-}
-
-fn joined_pieces<H: Bytes>(rt: &impl Abort, alloc: Global) {
-    let whole = must(rt, H::concat(alloc, PIECES));
-    is(rt, whole, b"abc", Kind::Inline);
-    let joined = must(rt, H::join(alloc, PIECES, b"-"));
-    is(rt, joined, b"ab--c", Kind::Inline);
 }
 
 const LINES: [&[u8]; 2] = [LETTERS, LETTERS];
@@ -108,24 +102,19 @@ const LINES: [&[u8]; 2] = [LETTERS, LETTERS];
 const LETTERS_TWICE: &[u8] = b"abcdefghijklmnopqrstuvwxyz, abcdefghijklmnopqrstuvwxyz";
 
 fn long_joins<H: Bytes>(rt: &impl Abort, alloc: Global) {
-    let joined = must(rt, H::join_two(alloc, LINES, b", "));
+    let mut meter = Meter::new();
+    let joined = must(rt, H::join_two_metered(alloc, LINES, b", ", &mut meter));
     holds(rt, &joined, LETTERS_TWICE, Kind::Allocated);
     let part = must(rt, joined.try_slice(alloc, 26..30));
     is(rt, part, b", ab", Kind::Inline);
-    let again = must(rt, H::join_slices(alloc, &LINES, b", "));
-    assert!(rt; joined == again);
+    is_counted(rt, joined, &meter, 54);
 }
 
-fn counted_joins<H: Bytes>(rt: &impl Abort, alloc: Global) {
+fn long_joins_of_slices<H: Bytes>(rt: &impl Abort, alloc: Global) {
     let mut meter = Meter::new();
-    let counted = must(rt, H::join_slices_metered(alloc, &LINES, b", ", &mut meter));
-    is_counted(rt, counted, &meter, 54);
-}
-
-fn counted_pieces<H: Bytes>(rt: &impl Abort, alloc: Global) {
-    let mut meter = Meter::new();
-    let counted = must(rt, H::join_two_metered(alloc, LINES, b", ", &mut meter));
-    is_counted(rt, counted, &meter, 54);
+    let joined = must(rt, H::join_slices_metered(alloc, &LINES, b", ", &mut meter));
+    holds(rt, &joined, LETTERS_TWICE, Kind::Allocated);
+    is_counted(rt, joined, &meter, 54);
 }
 
 /// The letters, in room that was 200 bytes and was given back to 100.
@@ -157,10 +146,13 @@ fn shrinks_into_the_handle<H: Bytes>(rt: &impl Abort, alloc: Global) {
 
 const TWENTY_FOUR: &[u8] = &[b'a'; 24];
 
-/// The least room that is asked for, and whether a capacity is what may be left of the one before.
-fn is_shrunk(least: usize, before: usize, after: usize) -> bool {
-    let kept = before.min(least.max(24));
-    kept <= after && after <= before
+/// Asserts that no more room is left than there was, and no less than was asked for, or is needed, where there was as much.
+fn shrinks_to<H: Bytes>(rt: &impl Abort, alloc: Global, room: &mut H, least: usize) {
+    let before = room.capacity();
+    must(rt, room.shrink_to(alloc, least));
+    let after = room.capacity();
+    assert!(rt; (after <= before) & (before.min(least.max(24)) <= after));
+    holds(rt, room, TWENTY_FOUR, Kind::Allocated);
 }
 
 /// 24 bytes in room for 100: asked for more room than there is, for half, and for none, they stay where they are.
@@ -168,10 +160,7 @@ fn shrinks_by_steps<H: Bytes>(rt: &impl Abort, alloc: Global) {
     let mut room = must(rt, H::with_capacity(alloc, 100));
     must(rt, room.push_slice(alloc, TWENTY_FOUR));
     for least in [usize::MAX, 50, 0] {
-        let before = room.capacity();
-        must(rt, room.shrink_to(alloc, least));
-        assert!(rt; is_shrunk(least, before, room.capacity()));
-        holds(rt, &room, TWENTY_FOUR, Kind::Allocated);
+        shrinks_to(rt, alloc, &mut room, least);
     }
 }
 
@@ -183,12 +172,10 @@ fn repetitions_on<H: Bytes>(rt: &impl Abort, alloc: Global) {
 }
 
 fn joins_on<H: Bytes>(rt: &impl Abort, alloc: Global) {
-    joined_slices::<H>(rt, alloc);
     joined_pieces::<H>(rt, alloc);
     concatenated::<H>(rt, alloc);
     long_joins::<H>(rt, alloc);
-    counted_joins::<H>(rt, alloc);
-    counted_pieces::<H>(rt, alloc);
+    long_joins_of_slices::<H>(rt, alloc);
 }
 
 struct Joins;

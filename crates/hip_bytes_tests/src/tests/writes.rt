@@ -68,25 +68,21 @@ fn case_of_lent_bytes<H: Bytes>(rt: &impl Abort, alloc: Global) {
     is(rt, lent, b"[a\xE9z]", Kind::Inline);
 }
 
-const LENT: [&[u8]; 2] = [&[b'a'; 23], &[b'a'; 24]];
-
-/// What lent bytes are written over in, a copy by length, and where that lies.
-const WRITTEN: [(&[u8], Kind); 2] = [
-    (b"baaaaaaaaaaaaaaaaaaaaaa", Kind::Inline),
-    (b"baaaaaaaaaaaaaaaaaaaaaaa", Kind::Allocated),
-];
-
-/// What was lent is as it was.
-fn over_lent_bytes<H: Bytes>(rt: &impl Abort, alloc: Global) {
-    for (bytes, (items, kind)) in LENT.iter().zip(WRITTEN) {
-        let lent = H::borrowed(bytes);
-        let mut written = must(rt, lent.clone(alloc));
-        if let Some(first) = must(rt, written.to_mut_slice(alloc)).first_mut() {
-            *first = b'b';
-        }
-        is(rt, written, items, kind);
-        is(rt, lent, bytes, Kind::Borrowed);
+/// Lent bytes are written over in a copy, by length, and are as they were.
+fn over_lent_bytes<H: Bytes>(
+    rt: &impl Abort,
+    alloc: Global,
+    bytes: &'static [u8],
+    items: &[u8],
+    kind: Kind,
+) {
+    let lent = H::borrowed(bytes);
+    let mut written = must(rt, lent.clone(alloc));
+    if let Some(first) = must(rt, written.to_mut_slice(alloc)).first_mut() {
+        *first = b'b';
     }
+    is(rt, written, items, kind);
+    is(rt, lent, bytes, Kind::Borrowed);
 }
 
 fn in_the_handle<H: Bytes>(rt: &impl Abort) {
@@ -105,7 +101,20 @@ impl Suite for Writes {
         beside_a_clone::<H>(rt, alloc);
         other_case::<H>(rt, alloc);
         case_of_lent_bytes::<H>(rt, alloc);
-        over_lent_bytes::<H>(rt, alloc);
+        over_lent_bytes::<H>(
+            rt,
+            alloc,
+            &[b'a'; 23],
+            b"baaaaaaaaaaaaaaaaaaaaaa",
+            Kind::Inline,
+        );
+        over_lent_bytes::<H>(
+            rt,
+            alloc,
+            &[b'a'; 24],
+            b"baaaaaaaaaaaaaaaaaaaaaaa",
+            Kind::Allocated,
+        );
         in_the_handle::<H>(rt);
     }
 }

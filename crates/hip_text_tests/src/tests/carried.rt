@@ -1,4 +1,4 @@
-//! What hipstr's own tests ask of texts, and the worked rows.
+//! What hipstr's own tests ask of texts, and worked cases.
 use super::suite::{Suite, run_on_each};
 use super::support::{is, must, reads};
 use super::text::{Bytes, Text};
