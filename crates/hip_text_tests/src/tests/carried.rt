@@ -1,6 +1,6 @@
 //! What hipstr's own tests ask of texts, and worked cases.
 use super::suite::{Suite, run_on_each};
-use super::support::{is, must, reads};
+use super::support::{holds, is, must, reads};
 use super::text::{Bytes, Text};
 use hip_text::{Backend, HipStr, Kind, Meter, Rc, Unique};
 use std::alloc::Global;
@@ -49,7 +49,7 @@ fn made<T: Text>(rt: &impl Abort, alloc: Global, way: Way, text: &'static str) -
 fn into_strings<T: Text>(rt: &impl Abort, alloc: Global) {
     for (way, text, kind) in WAYS {
         let value = made::<T>(rt, alloc, *way, text);
-        assert_eq!(rt; value.kind(), *kind);
+        holds(rt, &value, text, *kind);
         let string = must(rt, value.into_string_copied(alloc));
         reads(rt, string.as_str(), text);
     }
