@@ -2,6 +2,7 @@
 use super::handle::Handle;
 use super::name::{Name, OsStr};
 use super::support::{must, text_of};
+use hip_bytes::Kind;
 use std::alloc::Global;
 use std::process::Abort;
 
@@ -41,7 +42,7 @@ fn is(text: Option<String>, is_text: bool, want: &str) -> bool {
 fn becomes_text<N: Name>(rt: &impl Abort, row: Decoded) {
     let (bytes, is_text, text) = row;
     match must(rt, N::lent(bytes)).into_str_eq(text) {
-        Ok(is_same) => assert!(rt; is_same & is_text),
+        Ok(told) => assert_eq!(rt; (told, is_text), ((true, Kind::Borrowed), true)),
         Err(back) => assert_eq!(rt; (back.bytes(), is_text), (bytes, false)),
     }
 }

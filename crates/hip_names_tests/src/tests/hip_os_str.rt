@@ -84,21 +84,13 @@ impl<B: Backend> Name for HipOsStr<'static, B> {
         self.into_os_string(alloc)
     }
 
-    fn into_bytes(self) -> HipByt<'static, B> {
-        self.into_bytes()
-    }
-
     fn into(self) -> HipByt<'static, B> {
         HipByt::from(self)
     }
 
     fn into_vec_copied(self, alloc: Global) -> Result<Vec<u8>, AllocError> {
-        let bytes = HipByt::from(self);
+        let bytes = self.into_bytes();
         bytes.into_vec_copied(alloc).or(Err(AllocError))
-    }
-
-    fn into_str_into_os_string(self, alloc: Global) -> Result<Vec<u8>, Self> {
-        HipOsStr::from(self.into_str()?).into_os_string(alloc)
     }
 
     fn mutate(&mut self, alloc: Global) -> Result<RefMut<'_, Self>, AllocError> {
@@ -145,8 +137,9 @@ impl<B: Backend> Name for HipOsStr<'static, B> {
         self.into_bytes().into_cow(alloc).or(Err(AllocError))
     }
 
-    fn into_str_eq(self, text: &str) -> Result<bool, Self> {
-        Ok(self.into_str()?.str_eq(text))
+    fn into_str_eq(self, text: &str) -> Result<(bool, Kind), Self> {
+        let made = self.into_str()?;
+        Ok((made.str_eq(text), made.kind()))
     }
 }
 

@@ -84,21 +84,13 @@ impl<B: Backend> Name for HipPath<'static, B> {
         self.into_os_string(alloc)
     }
 
-    fn into_bytes(self) -> HipByt<'static, B> {
-        self.into_os_str().into_bytes()
-    }
-
     fn into(self) -> HipByt<'static, B> {
         HipByt::from(HipOsStr::from(self))
     }
 
     fn into_vec_copied(self, alloc: Global) -> Result<Vec<u8>, AllocError> {
-        let bytes = HipOsStr::from(self).into_bytes();
+        let bytes = self.into_os_str().into_bytes();
         bytes.into_vec_copied(alloc).or(Err(AllocError))
-    }
-
-    fn into_str_into_os_string(self, alloc: Global) -> Result<Vec<u8>, Self> {
-        HipPath::from(self.into_str()?).into_os_string(alloc)
     }
 
     fn mutate(&mut self, alloc: Global) -> Result<RefMut<'_, Self>, AllocError> {
@@ -146,8 +138,9 @@ impl<B: Backend> Name for HipPath<'static, B> {
         bytes.into_cow(alloc).or(Err(AllocError))
     }
 
-    fn into_str_eq(self, text: &str) -> Result<bool, Self> {
-        Ok(self.into_str()?.str_eq(text))
+    fn into_str_eq(self, text: &str) -> Result<(bool, Kind), Self> {
+        let made = self.into_str()?;
+        Ok((made.str_eq(text), made.kind()))
     }
 }
 

@@ -1,7 +1,7 @@
 //! What the tests ask of an OS string and of a path alike, and of an OS string alone: their calls, by their own names. Names of two calls are
 //! of one after another. The methods say nothing of their answers, so that a test knows nothing but what it compares.
 use super::handle::Handle;
-use hip_bytes::{RefMut, Source};
+use hip_bytes::{Kind, RefMut, Source};
 use std::alloc::{AllocError, Global};
 use std::borrow::CowSlice;
 use std::cmp::Ordering;
@@ -43,17 +43,11 @@ pub trait Name: Handle + Source + Hash + Ord + fmt::Debug {
 
     fn into_os_string(self, alloc: Global) -> Result<Vec<u8>, Self>;
 
-    /// Of a path, by way of an OS string.
-    fn into_bytes(self) -> Self::Bytes;
-
     /// The byte string that `From` makes, of a path by way of an OS string.
     fn into(self) -> Self::Bytes;
 
-    /// By way of a byte string.
+    /// By `into_bytes`, and of a path `into_os_str` before it.
     fn into_vec_copied(self, alloc: Global) -> Result<Vec<u8>, AllocError>;
-
-    /// And back to a name before `into_os_string`.
-    fn into_str_into_os_string(self, alloc: Global) -> Result<Vec<u8>, Self>;
 
     fn mutate(&mut self, alloc: Global) -> Result<RefMut<'_, Self>, AllocError>;
 
@@ -79,8 +73,8 @@ pub trait Name: Handle + Source + Hash + Ord + fmt::Debug {
     /// Of the byte string.
     fn into_cow(self, alloc: Global) -> Result<CowSlice<'static, u8>, AllocError>;
 
-    /// Whether the text is this, by `str_eq`.
-    fn into_str_eq(self, text: &str) -> Result<bool, Self>;
+    /// Whether the text is this, by `str_eq`, and where it lies.
+    fn into_str_eq(self, text: &str) -> Result<(bool, Kind), Self>;
 }
 
 /// What an OS string alone has.

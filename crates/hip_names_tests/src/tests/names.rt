@@ -1,7 +1,7 @@
 //! What hipstr's own tests ask of OS strings and of paths, each by its own calls.
 use super::handle::Handle;
 use super::name::{Name, OsStr};
-use super::support::{must, text_of};
+use super::support::{are_equal, must, text_of};
 use super::{calls, decoding, hostile, maps};
 use hip_names::{HipOsStr, HipPath, Kind, Rc, Unique};
 use std::alloc::Global;
@@ -126,27 +126,19 @@ fn gives_vector<N: Name>(rt: &impl Abort, outcome: Result<Vec<u8>, N>, text: &st
     }
 }
 
-/// By each call that gives one, and as a text in the same owner.
+/// By each call that gives one.
 fn into_vectors<N: Name>(rt: &impl Abort, alloc: Global) {
     for (way, text, kind) in WAYS {
         let name = made::<N>(rt, alloc, *way, text);
         gives_vector(rt, name.into_vec(alloc), text, *kind);
         let name = made::<N>(rt, alloc, *way, text);
         gives_vector(rt, name.into_os_string(alloc), text, *kind);
-        let name = made::<N>(rt, alloc, *way, text);
-        gives_vector(rt, name.into_str_into_os_string(alloc), text, *kind);
     }
 }
 
-/// The bytes lie where the name had them, by either call.
-fn into_bytes<N: Name>(rt: &impl Abort, alloc: Global) {
+/// A byte string lies where the name did.
+fn into_byte_strings<N: Name>(rt: &impl Abort, alloc: Global) {
     for (way, text, kind) in WAYS {
-        is(
-            rt,
-            made::<N>(rt, alloc, *way, text).into_bytes(),
-            text,
-            *kind,
-        );
         is(rt, made::<N>(rt, alloc, *way, text).into(), text, *kind);
     }
 }
@@ -168,14 +160,15 @@ fn there_and_back<N: Name>(rt: &impl Abort, alloc: Global) {
     }
 }
 
-/// The text of a clone, and of the name itself.
+/// The text of a clone, and of the name itself, lies where the name did.
 fn into_texts<N: Name>(rt: &impl Abort, alloc: Global) {
-    for (way, text, _) in WAYS {
+    for (way, text, kind) in WAYS {
         let name = made::<N>(rt, alloc, *way, text);
         let clone = must(rt, name.clone(alloc));
+        let wanted = Some((true, *kind));
         assert_eq!(rt;
             (clone.into_str_eq(text).ok(), name.into_str_eq(text).ok()),
-            (Some(true), Some(true))
+            (wanted, wanted)
         );
     }
 }
@@ -190,7 +183,7 @@ fn borrows<N: Name>(rt: &impl Abort, alloc: Global) {
         assert_eq!(rt; name.as_borrowed(), lent);
         match name.into_borrowed() {
             Ok(bytes) => assert_eq!(rt; Some(bytes), lent),
-            Err(back) => assert!(rt; back == clone && !is_lent),
+            Err(back) => assert_eq!(rt; (are_equal(&back, &clone), is_lent), (true, false)),
         }
     }
 }
@@ -241,7 +234,10 @@ fn equalities<N: Name>(rt: &impl Abort, alloc: Global) {
             ),
             (true, true, Ordering::Equal)
         );
-        assert_eq!(rt; (name == other, other == name), (true, true));
+        assert_eq!(rt;
+            (are_equal(&name, &other), are_equal(&other, &name)),
+            (true, true)
+        );
     }
 }
 
@@ -386,7 +382,7 @@ fn on_makers<N: Name>(rt: &impl Abort, alloc: Global) {
 
 fn on_conversions<N: Name>(rt: &impl Abort, alloc: Global) {
     into_vectors::<N>(rt, alloc);
-    into_bytes::<N>(rt, alloc);
+    into_byte_strings::<N>(rt, alloc);
     into_copies::<N>(rt, alloc);
     into_texts::<N>(rt, alloc);
     there_and_back::<N>(rt, alloc);
