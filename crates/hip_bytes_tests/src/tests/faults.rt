@@ -1,5 +1,5 @@
 //! Why a call of the tests gave no part of a value.
-use super::support::text_of;
+use super::support::both_shown;
 use hip_bytes::{Backend, HipByt, SliceError, SliceErrorKind, SliceRefusal};
 use std::alloc::{AllocError, Global};
 use std::ops::Range;
@@ -41,14 +41,15 @@ fn told_by<B: Backend>(
     alloc: Global,
     error: SliceError<'_, 'static, B>,
 ) -> Result<Told, AllocError> {
+    let (display, debug) = both_shown(alloc, &error)?;
     Ok(Told {
         kind: error.kind(),
         start: error.start(),
         end: error.end(),
         range: error.range(),
         source: error.source().as_slice().to_vec(alloc)?,
-        display: format!(in alloc; "{error}")?,
-        debug: text_of(alloc, &error)?,
+        display,
+        debug,
     })
 }
 
