@@ -4,39 +4,32 @@ use super::refusing::{each, is_refusing, must, refuse, was_refused};
 use hipstr::bytes::HipByt;
 use hipstr::string::{FromUtf8Error, HipStr};
 use hipstr::{Backend, Rc, Unique};
-use std::alloc::{AllocError, Global};
+use std::alloc::Global;
 use std::process::Abort;
 
-/// The error of bytes that are held so, and its clone.
-fn error_of<B: Backend>(
-    rt: &impl Abort,
-    alloc: Global,
-    held: Held,
-) -> (FromUtf8Error<'static, B>, Option<FromUtf8Error<'static, B>>) {
+/// The error of bytes that are held so.
+fn error_of<B: Backend>(rt: &impl Abort, alloc: Global, held: Held) -> FromUtf8Error<'static, B> {
     let bytes = bytes_of(held, BROKEN);
     let handle = match held {
         Held::Lent => HipByt::borrowed(bytes),
         Held::Inline | Held::Sole | Held::Shared => must(rt, HipByt::from_slice(alloc, bytes)),
     };
-    let error = must(rt, HipStr::from_utf8(handle).err().ok_or("it is UTF-8"));
-    let clone = match held {
-        Held::Shared => Some(must(rt, error.clone(alloc))),
-        Held::Inline | Held::Lent | Held::Sole => None,
-    };
-    (error, clone)
+    must(rt, HipStr::from_utf8(handle).err().ok_or("it is UTF-8"))
 }
 
-/// A clone has the error's bytes, and one that is refused leaves them to the error.
+/// Whether a clone has the error's bytes, if there is one.
+fn cloned<B: Backend>(error: &FromUtf8Error<'static, B>, alloc: Global) -> Option<bool> {
+    let clone = error.clone(alloc).ok()?;
+    Some(clone.as_bytes() == error.as_bytes())
+}
+
+/// There is no clone just where a request was refused.
 fn is_cloned<B: Backend>(rt: &impl Abort, alloc: Global, held: Held, k: usize) -> bool {
-    let (error, _clone) = error_of::<B>(rt, alloc, held);
+    let error = error_of::<B>(rt, alloc, held);
     refuse(alloc, k);
-    let clone = error.clone(alloc);
+    let cloned = cloned(&error, alloc);
     let refused = was_refused(alloc);
-    match clone {
-        Ok(clone) => assert!(rt; clone.as_bytes() == bytes_of(held, BROKEN)),
-        Err(AllocError) => assert!(rt; refused),
-    }
-    assert!(rt; error.as_bytes() == bytes_of(held, BROKEN));
+    assert_eq!(rt; cloned, (!refused).then_some(true));
     refused
 }
 
