@@ -184,18 +184,6 @@ fn refused_debug<T: Text>(rt: &impl Abort, alloc: Global) {
     }
 }
 
-/// The bytes of an error are lent where they were, also those of its clone.
-fn lent_bytes_of_the_error<T: Text>(rt: &impl Abort) {
-    let error = must_refuse(rt, T::from_utf8(T::Bytes::borrowed(b"abc\xFF")));
-    let other = must_refuse(rt, T::from_utf8(T::Bytes::borrowed(b"abc\x80")));
-    assert!(rt; error != other);
-    let back = error.into_bytes();
-    assert_eq!(rt;
-        (back.as_slice(), back.kind()),
-        (b"abc\xFF".as_slice(), Kind::Borrowed)
-    );
-}
-
 fn refuses<T: Text>(rt: &impl Abort, alloc: Global, source: &'static str, rows: &[Refused]) {
     for row in rows {
         match T::borrowed(source).try_slice_bounds(alloc, row.0, row.1) {
@@ -229,8 +217,9 @@ fn is_kept<T: Text>(rt: &impl Abort, bytes: T::Bytes, kind: Kind) {
     );
 }
 
-/// Alone, and with an owner that has room.
+/// Lent, alone, and with an owner that has room.
 fn not_utf8<T: Text>(rt: &impl Abort, alloc: Global) {
+    is_kept::<T>(rt, T::Bytes::borrowed(b"abc\xFF"), Kind::Borrowed);
     let bytes = must(rt, T::Bytes::from_slice(alloc, b"abc\xFF"));
     is_kept::<T>(rt, bytes, Kind::Inline);
     let mut roomy = must(rt, T::Bytes::with_capacity(alloc, 42));
@@ -279,7 +268,6 @@ impl Suite for TextErrors {
         refuses::<T>(rt, alloc, "aé😀", OF_FOUR);
         parts::<T>(rt, alloc);
         refused_debug::<T>(rt, alloc);
-        lent_bytes_of_the_error::<T>(rt);
         not_utf8::<T>(rt, alloc);
         text_of_the_error::<T>(rt, alloc);
         not_utf8_in_a_slice::<T>(rt, alloc);
