@@ -2,7 +2,7 @@
 use super::handle::Handle;
 use super::name::{Name, OsStr};
 use super::support::{are_equal, must, text_of};
-use super::{calls, decoding, hostile, maps};
+use super::{calls, decoding, hostile, maps, rooms};
 use hip_names::{HipOsStr, HipPath, Kind, Rc, Unique};
 use std::alloc::Global;
 use std::cmp::Ordering;
@@ -188,38 +188,6 @@ fn borrows<N: Name>(rt: &impl Abort, alloc: Global) {
     }
 }
 
-fn rooms<N: Name>(rt: &impl Abort, alloc: Global) {
-    let mut string = must(rt, String::with_capacity(alloc, 42));
-    for _ in 0..10 {
-        must(rt, string.push_str("abc"));
-    }
-    let taken = must(rt, N::from_string(alloc, string));
-    let (copied, lent) = (must(rt, N::from_str(alloc, "abc")), N::from_static("abc"));
-    assert_eq!(rt;
-        (copied.capacity(), lent.capacity(), taken.capacity() >= 30),
-        (23, 3, true)
-    );
-}
-
-fn shrinks<N: Name>(rt: &impl Abort, alloc: Global) {
-    for (text, least, most) in [("abc", 23, 23), (LONG, 42, usize::MAX)] {
-        let mut name = must(rt, N::from_str(alloc, text));
-        must(rt, name.shrink_to(alloc, 4));
-        must(rt, name.shrink_to_fit(alloc));
-        let room = name.capacity();
-        assert_eq!(rt; (room >= least, room <= most), (true, true));
-        is_vector(rt, must(rt, name.into_vec_copied(alloc)), text);
-    }
-}
-
-fn shrinks_lent<N: Name>(rt: &impl Abort, alloc: Global) {
-    let mut name = N::from_static("abc");
-    must(rt, name.shrink_to(alloc, 0));
-    let room = name.capacity();
-    must(rt, name.shrink_to_fit(alloc));
-    assert_eq!(rt; (room, name.capacity()), (3, 3));
-}
-
 /// A name is equal to its bytes, as bytes and as a path, and to another that was made alike, either on the left.
 fn equalities<N: Name>(rt: &impl Abort, alloc: Global) {
     for (way, text, _) in WAYS {
@@ -390,9 +358,6 @@ fn on_conversions<N: Name>(rt: &impl Abort, alloc: Global) {
 }
 
 fn on_changes<N: Name>(rt: &impl Abort, alloc: Global) {
-    rooms::<N>(rt, alloc);
-    shrinks::<N>(rt, alloc);
-    shrinks_lent::<N>(rt, alloc);
     guards::<N>(rt, alloc);
     debugs_guards::<N>(rt, alloc);
     debugs::<N>(rt, alloc);
@@ -403,6 +368,7 @@ fn on<N: Name>(rt: &impl Abort, alloc: Global) {
     on_conversions::<N>(rt, alloc);
     on_changes::<N>(rt, alloc);
     calls::of_either::<N>(rt, alloc);
+    rooms::of_either::<N>(rt, alloc);
     decoding::of_either::<N>(rt);
     maps::of_either::<N>(rt, alloc);
 }
