@@ -1,10 +1,10 @@
 //! Tests of what is above the types, from outside of it: lists of commands on a pool of handles, scripts of lines, and the five uses, whose
 //! answers come from elsewhere. They stand in one crate, since one that stands on `hipstr` costs 20 to 25 seconds before its first function.
 //!
-//! - `sessions`: lists of commands, on both backends of hipstr.
-//! - `cuts`: texts that are cut once.
-//! - `ways`: each way to take a text apart, by every script of up to six ends.
+//! - `sessions`: lists of commands. `cuts`: texts that are cut once. `ways`: each way to take a text apart. These are tables.
+//! - `runs`: all of them on both backends of hipstr, the ways by every script of up to six ends.
 //! - `own_backend`: the same on a backend that a user wrote.
+//! - `not_a_command`: what is told of a line that is no command. `support` is what ends a test.
 //! - `plays`: scripts, bad lines, and readers and writers that fail, by `hip_script::play`, and what it prints beside the earlier code.
 //! - `uses`: template, tokens, queue, interner and table.
 //! - `user`: functions of a pattern and over a closure, and a struct that keeps a walk, by the names of hipstr alone.

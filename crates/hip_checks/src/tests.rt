@@ -1,6 +1,9 @@
 mod cuts;
+mod not_a_command;
 mod own_backend;
 mod plays;
+mod runs;
 mod sessions;
+mod support;
 mod uses;
 mod ways;

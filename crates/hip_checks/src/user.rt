@@ -195,16 +195,11 @@ fn is_text(text: Option<LocalHipStr<'_>>, expected: &str) -> bool {
 }
 
 #[test]
-fn loops(rt: HostRuntime) {
+fn loops_go_over_all_pieces(rt: HostRuntime) {
     assert!(rt; goes_over(rt.alloc()) == Ok(true));
 }
 
 #[test]
-fn on_rc(rt: HostRuntime) {
-    assert!(rt; reads::<Rc>(rt.alloc()));
-}
-
-#[test]
-fn on_unique(rt: HostRuntime) {
-    assert!(rt; reads::<Unique>(rt.alloc()));
+fn parts_are_the_same_on_either_backend(rt: HostRuntime) {
+    assert!(rt; reads::<Rc>(rt.alloc()) & reads::<Unique>(rt.alloc()));
 }

@@ -4,6 +4,7 @@
 //! - `name`: what the tests ask of an OS string and of a path alike, and of an OS string alone, each call by its own name.
 //! - `hip_os_str`, `hip_path`: an OS string and a path of any backend are that.
 //! - `names`: what hipstr's own tests ask of either type.
+//! - `rooms`: the room that they have, and give back.
 //! - `calls`: conversions between types, rooms, orders, and components by themselves.
 //! - `hostile`: paths that are hard to read, with the answers of Rust's `std::path`.
 //! - `maps`: keys of maps and sets.

@@ -11,5 +11,6 @@ mod json;
 mod maps;
 mod name;
 mod names;
+mod rooms;
 mod streams;
 mod support;

@@ -1,9 +1,15 @@
 mod calls;
+mod commands;
+mod errors;
 mod fields;
 mod handle;
 mod held;
 mod lists;
-mod owner;
+mod of_bytes;
+mod of_names;
+mod of_owners;
+mod of_texts;
+mod outcomes;
 mod plays;
 mod refusing;
 mod rows;

@@ -151,8 +151,6 @@ pub trait Bytes: Source + Hash + Ord + fmt::Debug {
 
     fn join(alloc: Global, pieces: [&'static [u8]; 3], sep: &[u8]) -> Result<Self, GrowFault>;
 
-    fn join_two(alloc: Global, pieces: [&'static [u8]; 2], sep: &[u8]) -> Result<Self, GrowFault>;
-
     fn join_two_metered(
         alloc: Global,
         pieces: [&'static [u8]; 2],

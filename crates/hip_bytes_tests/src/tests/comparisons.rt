@@ -1,7 +1,7 @@
 //! Order, equality and maps.
 use super::bytes::Bytes;
 use super::maps::{found, found_in_order};
-use super::suite::{Suite, run_on_rc, run_on_unique};
+use super::suite::{Suite, run_on_each};
 use super::support::{must, text_of};
 use std::alloc::Global;
 use std::cmp::Ordering;
@@ -23,7 +23,7 @@ fn order<H: Bytes>(rt: &impl Abort, alloc: Global) {
 }
 
 fn order_of_slices<H: Bytes>(rt: &impl Abort) {
-    let lent = H::borrowed(b"abc");
+    let lent = H::from_static(b"abc");
     assert_eq!(rt;
         (
             lent.cmp_slice(b"abc"),
@@ -74,11 +74,6 @@ impl Suite for Comparisons {
 }
 
 #[test]
-fn comparisons_on_rc(rt: HostRuntime) {
-    run_on_rc::<Comparisons>(&rt, rt.alloc());
-}
-
-#[test]
-fn comparisons_on_unique(rt: HostRuntime) {
-    run_on_unique::<Comparisons>(&rt, rt.alloc());
+fn values_compare_by_their_bytes(rt: HostRuntime) {
+    run_on_each::<Comparisons>(&rt, rt.alloc());
 }

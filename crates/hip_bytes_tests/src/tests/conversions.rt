@@ -1,6 +1,6 @@
 //! Into vectors and borrowed-or-owned values, and back.
 use super::bytes::Bytes;
-use super::suite::{Suite, run_on_rc, run_on_unique};
+use super::suite::{Suite, run_on_each};
 use super::support::{LETTERS, is, must, must_refuse};
 use hip_bytes::Kind;
 use std::alloc::Global;
@@ -86,13 +86,8 @@ impl Suite for Conversions {
 }
 
 #[test]
-fn conversions_on_rc(rt: HostRuntime) {
-    run_on_rc::<Conversions>(&rt, rt.alloc());
-}
-
-#[test]
-fn conversions_on_unique(rt: HostRuntime) {
-    run_on_unique::<Conversions>(&rt, rt.alloc());
+fn vectors_go_in_and_out(rt: HostRuntime) {
+    run_on_each::<Conversions>(&rt, rt.alloc());
 }
 
 struct HandedBack;
@@ -106,7 +101,6 @@ impl Suite for HandedBack {
 
 /// A body that always hands the value back is proved: no contract counts owners.
 #[test]
-fn into_vec_handed_back(rt: HostRuntime) {
-    run_on_rc::<HandedBack>(&rt, rt.alloc());
-    run_on_unique::<HandedBack>(&rt, rt.alloc());
+fn a_shared_owner_hands_out_no_vector(rt: HostRuntime) {
+    run_on_each::<HandedBack>(&rt, rt.alloc());
 }

@@ -1,6 +1,6 @@
 //! Pushes, cuts in place and slices.
 use super::bytes::Bytes;
-use super::suite::{Suite, run_on_rc, run_on_unique};
+use super::suite::{Suite, run_on_each};
 use super::support::{LETTERS, holds, is, must};
 use hip_bytes::{Kind, Meter};
 use std::alloc::Global;
@@ -60,6 +60,8 @@ const LENT_SHRINKS: &[Step] = &[
     Step(Call::Truncate(5), b"aaaaa", Kind::Borrowed),
 ];
 
+const NOTHING_IS_PUSHED: &[Step] = &[Step(Call::PushSlice(b""), b"abc", Kind::Borrowed)];
+
 const ROOM_CLEARED: &[Step] = &[Step(Call::Clear, b"", Kind::Allocated)];
 
 /// Handles, and the calls on each in turn.
@@ -69,6 +71,7 @@ const RUNS: &[(Start, &[Step])] = &[
     (Start::Empty, EMPTY_GROWS),
     (Start::Copied(&[b'a'; 24]), COPIED_SHRINKS),
     (Start::Borrowed(&[b'a'; 30]), LENT_SHRINKS),
+    (Start::Borrowed(b"abc"), NOTHING_IS_PUSHED),
     (Start::Room(42), ROOM_CLEARED),
 ];
 
@@ -232,21 +235,11 @@ impl Suite for Slices {
 }
 
 #[test]
-fn in_place_on_rc(rt: HostRuntime) {
-    run_on_rc::<InPlace>(&rt, rt.alloc());
+fn cuts_and_pushes_in_place(rt: HostRuntime) {
+    run_on_each::<InPlace>(&rt, rt.alloc());
 }
 
 #[test]
-fn in_place_on_unique(rt: HostRuntime) {
-    run_on_unique::<InPlace>(&rt, rt.alloc());
-}
-
-#[test]
-fn slices_on_rc(rt: HostRuntime) {
-    run_on_rc::<Slices>(&rt, rt.alloc());
-}
-
-#[test]
-fn slices_on_unique(rt: HostRuntime) {
-    run_on_unique::<Slices>(&rt, rt.alloc());
+fn a_slice_outlives_its_source(rt: HostRuntime) {
+    run_on_each::<Slices>(&rt, rt.alloc());
 }

@@ -1,16 +1,17 @@
 //! Ranges that are refused: what the error tells, and its texts.
 use super::bytes::Bytes;
 use super::faults::{Refusal, Told};
-use super::suite::{Suite, run_on_rc, run_on_unique};
-use super::support::must;
-use hip_bytes::SliceErrorKind;
+use super::suite::{Suite, run_on_each};
+use super::support::{is, must};
+use hip_bytes::{Kind, SliceErrorKind};
 use std::alloc::Global;
 use std::ops::Bound;
 use std::process::Abort;
 
-/// Two bounds that are no range of `abc`, and what the error tells of them.
+/// Bytes and two bounds that are no range of theirs, and what the error tells of them.
 #[derive(Clone, Copy)]
 struct Refused {
+    bytes: &'static [u8],
     bounds: (Bound<usize>, Bound<usize>),
     kind: SliceErrorKind,
     start: usize,
@@ -28,6 +29,7 @@ const MAX: usize = usize::MAX;
 
 const REFUSED: &[Refused] = &[
     Refused {
+        bytes: b"abc",
         bounds: (Bound::Included(4), Bound::Unbounded),
         kind: START_OUT,
         start: 4,
@@ -35,6 +37,7 @@ const REFUSED: &[Refused] = &[
         text: "range start index 4 out of bounds for slice of length 3",
     },
     Refused {
+        bytes: b"abc",
         bounds: (Bound::Included(4), Bound::Excluded(2)),
         kind: START_OUT,
         start: 4,
@@ -42,6 +45,7 @@ const REFUSED: &[Refused] = &[
         text: "range start index 4 out of bounds for slice of length 3",
     },
     Refused {
+        bytes: b"abc",
         bounds: (Bound::Included(MAX), Bound::Included(MAX)),
         kind: START_OUT,
         start: MAX,
@@ -49,6 +53,23 @@ const REFUSED: &[Refused] = &[
         text: "range start index 18446744073709551615 out of bounds for slice of length 3",
     },
     Refused {
+        bytes: b"abc",
+        bounds: (Bound::Excluded(MAX), Bound::Included(MAX)),
+        kind: START_OUT,
+        start: MAX,
+        end: MAX,
+        text: "range start index 18446744073709551615 out of bounds for slice of length 3",
+    },
+    Refused {
+        bytes: b"abc",
+        bounds: (Bound::Included(5), Bound::Excluded(4)),
+        kind: START_OUT,
+        start: 5,
+        end: 4,
+        text: "range start index 5 out of bounds for slice of length 3",
+    },
+    Refused {
+        bytes: b"abc",
         bounds: (Bound::Excluded(MAX), Bound::Unbounded),
         kind: START_OUT,
         start: MAX,
@@ -56,6 +77,7 @@ const REFUSED: &[Refused] = &[
         text: "range start index 18446744073709551615 out of bounds for slice of length 3",
     },
     Refused {
+        bytes: b"abc",
         bounds: (Bound::Included(0), Bound::Excluded(4)),
         kind: END_OUT,
         start: 0,
@@ -63,6 +85,7 @@ const REFUSED: &[Refused] = &[
         text: "range end index 4 out of bounds for slice of length 3",
     },
     Refused {
+        bytes: b"abc",
         bounds: (Bound::Included(3), Bound::Excluded(2)),
         kind: TURNED,
         start: 3,
@@ -70,6 +93,7 @@ const REFUSED: &[Refused] = &[
         text: "range starts at 3 but ends at 2",
     },
     Refused {
+        bytes: b"abc",
         bounds: (Bound::Included(2), Bound::Excluded(1)),
         kind: TURNED,
         start: 2,
@@ -77,6 +101,7 @@ const REFUSED: &[Refused] = &[
         text: "range starts at 2 but ends at 1",
     },
     Refused {
+        bytes: b"abc",
         bounds: (Bound::Excluded(2), Bound::Included(1)),
         kind: TURNED,
         start: 3,
@@ -84,11 +109,20 @@ const REFUSED: &[Refused] = &[
         text: "range starts at 3 but ends at 2",
     },
     Refused {
+        bytes: b"abc",
         bounds: (Bound::Unbounded, Bound::Included(MAX)),
         kind: END_OUT,
         start: 0,
         end: MAX,
         text: "range end index 18446744073709551615 out of bounds for slice of length 3",
+    },
+    Refused {
+        bytes: b"",
+        bounds: (Bound::Included(0), Bound::Included(MAX)),
+        kind: END_OUT,
+        start: 0,
+        end: MAX,
+        text: "range end index 18446744073709551615 out of bounds for slice of length 0",
     },
 ];
 
@@ -129,7 +163,7 @@ fn refused_end<H: Bytes>(rt: &impl Abort, alloc: Global) {
 }
 
 fn is_refused<H: Bytes>(rt: &impl Abort, alloc: Global, row: Refused) {
-    let handle = must(rt, H::from_slice(alloc, b"abc"));
+    let handle = must(rt, H::from_slice(alloc, row.bytes));
     let (low, high) = row.bounds;
     tells(rt, told(rt, handle.try_slice_bounds(alloc, low, high)), row);
 }
@@ -140,7 +174,7 @@ fn tells(rt: &impl Abort, told: Told, row: Refused) {
         (told.kind, told.start, told.end, told.range),
         (row.kind, row.start, row.end, row.start..row.end)
     );
-    assert_eq!(rt; told.source.as_slice(), b"abc".as_slice());
+    assert_eq!(rt; told.source.as_slice(), row.bytes);
     assert_eq!(rt; told.display.as_str(), row.text);
 }
 
@@ -173,9 +207,20 @@ fn refused_debug<H: Bytes>(rt: &impl Abort, alloc: Global) {
     );
 }
 
-fn inclusive_range<H: Bytes>(rt: &impl Abort, alloc: Global) {
+fn ranges<H: Bytes>(rt: &impl Abort, alloc: Global) {
     let handle = must(rt, H::inline(b"abc"));
-    assert!(rt; handle.try_slice(alloc, 0..=1).is_ok());
+    is(
+        rt,
+        must(rt, handle.try_slice(alloc, 0..=1)),
+        b"ab",
+        Kind::Inline,
+    );
+    is(
+        rt,
+        must(rt, H::new().try_slice(alloc, 0..0)),
+        b"",
+        Kind::Inline,
+    );
 }
 
 struct Errors;
@@ -186,17 +231,12 @@ impl Suite for Errors {
         refused_places::<H>(rt, alloc);
         refused_end::<H>(rt, alloc);
         equal_refusals::<H>(rt, alloc);
-        inclusive_range::<H>(rt, alloc);
+        ranges::<H>(rt, alloc);
         refused_debug::<H>(rt, alloc);
     }
 }
 
 #[test]
-fn on_rc(rt: HostRuntime) {
-    run_on_rc::<Errors>(&rt, rt.alloc());
-}
-
-#[test]
-fn on_unique(rt: HostRuntime) {
-    run_on_unique::<Errors>(&rt, rt.alloc());
+fn a_range_is_refused_by_its_first_fault(rt: HostRuntime) {
+    run_on_each::<Errors>(&rt, rt.alloc());
 }

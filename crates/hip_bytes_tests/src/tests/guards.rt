@@ -1,6 +1,6 @@
 //! Bytes that are taken out, or lent out by a guard, as a vector.
 use super::bytes::Bytes;
-use super::suite::{Suite, run_on_rc, run_on_unique};
+use super::suite::{Suite, run_on_each};
 use super::support::{LETTERS, holds, is, must, text_of};
 use hip_bytes::{HipByt, Kind, Meter, Rc, mutate, with_mutated};
 use std::alloc::Global;
@@ -146,11 +146,6 @@ fn a_closure_writes(rt: HostRuntime) {
 }
 
 #[test]
-fn guards_on_rc(rt: HostRuntime) {
-    run_on_rc::<Guards>(&rt, rt.alloc());
-}
-
-#[test]
-fn guards_on_unique(rt: HostRuntime) {
-    run_on_unique::<Guards>(&rt, rt.alloc());
+fn a_guard_writes_back_when_it_is_finished(rt: HostRuntime) {
+    run_on_each::<Guards>(&rt, rt.alloc());
 }

@@ -1,46 +1,14 @@
 //! A byte string on any backend is what the tests ask of one.
 use super::bytes::Bytes;
-use super::faults::{Part, RangeFault, Refusal, Told, Tried};
-use super::support::text_of;
+use super::faults::{Part, RangeFault, Tried, part_or_told};
 use hip_bytes::{
-    Backend, GrowFault, HipByt, INLINE_CAPACITY, Kind, Meter, RefMut, SliceError, SliceRefusal,
-    Unique,
+    Backend, GrowFault, HipByt, INLINE_CAPACITY, Kind, Meter, RefMut, SliceRefusal, Unique,
 };
 use std::alloc::{AllocError, Global};
 use std::borrow::CowSlice;
 use std::cmp::Ordering;
 use std::convert::AsSlice;
 use std::ops::{Bound, Range, RangeBounds};
-
-fn told_by<B: Backend>(
-    alloc: Global,
-    error: SliceError<'_, 'static, B>,
-) -> Result<Told, AllocError> {
-    Ok(Told {
-        kind: error.kind(),
-        start: error.start(),
-        end: error.end(),
-        range: error.range(),
-        source: error.source().as_slice().to_vec(alloc)?,
-        display: format!(in alloc; "{error}")?,
-        debug: text_of(alloc, &error)?,
-    })
-}
-
-/// The part, or what the error tells.
-fn part_or_told<B: Backend>(
-    alloc: Global,
-    outcome: Result<HipByt<'static, B>, SliceRefusal<'_, 'static, B>>,
-) -> Tried<HipByt<'static, B>> {
-    match outcome {
-        Ok(part) => Ok(part),
-        Err(SliceRefusal::Memory) => Err(Refusal::Memory),
-        Err(SliceRefusal::Slice(error)) => match told_by(alloc, error) {
-            Ok(told) => Err(Refusal::Slice(told)),
-            Err(AllocError) => Err(Refusal::Memory),
-        },
-    }
-}
 
 impl<B: Backend> Bytes for HipByt<'static, B> {
     const SHARES: bool = B::SHARES;
@@ -337,10 +305,6 @@ impl<B: Backend> Bytes for HipByt<'static, B> {
     }
 
     fn join(alloc: Global, pieces: [&'static [u8]; 3], sep: &[u8]) -> Result<Self, GrowFault> {
-        HipByt::join(alloc, pieces, sep)
-    }
-
-    fn join_two(alloc: Global, pieces: [&'static [u8]; 2], sep: &[u8]) -> Result<Self, GrowFault> {
         HipByt::join(alloc, pieces, sep)
     }
 

@@ -1,6 +1,6 @@
 //! Repetitions, joins and room that is given back.
 use super::bytes::Bytes;
-use super::suite::{Suite, run_on_rc, run_on_unique};
+use super::suite::{Suite, run_on_each};
 use super::support::{LETTERS, holds, is, must};
 use hip_bytes::{GrowFault, Kind, Meter};
 use std::alloc::Global;
@@ -22,12 +22,18 @@ fn repetitions<H: Bytes>(rt: &impl Abort, alloc: Global) {
     }
 }
 
+/// Bytes, how often they can't be repeated, and why: a length that is no number, or one that no block has.
+const REFUSED: &[(&[u8], usize, GrowFault)] = &[
+    (b"ab", usize::MAX, GrowFault::TooLong),
+    (b"ab", 1 << 63, GrowFault::TooLong),
+    (b"a", usize::MAX, GrowFault::Memory),
+];
+
 fn too_long<H: Bytes>(rt: &impl Abort, alloc: Global) {
-    let handle = must(rt, H::inline(b"ab"));
-    assert_eq!(rt;
-        handle.repeat(alloc, usize::MAX).err(),
-        Some(GrowFault::TooLong)
-    );
+    for (bytes, count, fault) in REFUSED {
+        let handle = must(rt, H::inline(bytes));
+        assert_eq!(rt; handle.repeat(alloc, *count).err(), Some(*fault));
+    }
 }
 
 fn once<H: Bytes>(rt: &impl Abort, alloc: Global) {
@@ -57,20 +63,38 @@ fn twice<H: Bytes>(rt: &impl Abort, alloc: Global) {
 
 const PIECES: [&[u8]; 3] = [b"ab", b"", b"c"];
 
-fn joined_slices<H: Bytes>(rt: &impl Abort, alloc: Global) {
-    let whole = must(rt, H::concat_slices(alloc, &PIECES));
-    is(rt, whole, b"abc", Kind::Inline);
+fn joined_pieces<H: Bytes>(rt: &impl Abort, alloc: Global) {
     let joined = must(rt, H::join_slices(alloc, &PIECES, b"-"));
+    is(rt, joined, b"ab--c", Kind::Inline);
+    let joined = must(rt, H::join(alloc, PIECES, b"-"));
     is(rt, joined, b"ab--c", Kind::Inline);
     let none = must(rt, H::join_slices(alloc, &[], b"-"));
     is(rt, none, b"", Kind::Inline);
 }
 
-fn joined_pieces<H: Bytes>(rt: &impl Abort, alloc: Global) {
-    let whole = must(rt, H::concat(alloc, PIECES));
-    is(rt, whole, b"abc", Kind::Inline);
-    let joined = must(rt, H::join(alloc, PIECES, b"-"));
-    is(rt, joined, b"ab--c", Kind::Inline);
+/// Three pieces, what they make, and where.
+const CONCATENATED: &[([&[u8]; 3], &[u8], Kind)] = &[
+    (PIECES, b"abc", Kind::Inline),
+    ([b"", b"", b""], b"", Kind::Inline),
+    ([&[b'a'; 11], b"", &[b'a'; 12]], &[b'a'; 23], Kind::Inline),
+    (
+        [&[b'a'; 12], &[b'a'; 12], b""],
+        &[b'a'; 24],
+        Kind::Allocated,
+    ),
+];
+
+fn concatenated<H: Bytes>(rt: &impl Abort, alloc: Global) {
+    for (pieces, items, kind) in CONCATENATED {
+        is(rt, must(rt, H::concat_slices(alloc, pieces)), items, *kind);
+        is(rt, must(rt, H::concat(alloc, *pieces)), items, *kind);
+    }
+    is(
+        rt,
+        must(rt, H::concat_slices(alloc, &[])),
+        b"",
+        Kind::Inline,
+    );
 }
 
 const LINES: [&[u8]; 2] = [LETTERS, LETTERS];
@@ -78,24 +102,19 @@ const LINES: [&[u8]; 2] = [LETTERS, LETTERS];
 const LETTERS_TWICE: &[u8] = b"abcdefghijklmnopqrstuvwxyz, abcdefghijklmnopqrstuvwxyz";
 
 fn long_joins<H: Bytes>(rt: &impl Abort, alloc: Global) {
-    let joined = must(rt, H::join_two(alloc, LINES, b", "));
+    let mut meter = Meter::new();
+    let joined = must(rt, H::join_two_metered(alloc, LINES, b", ", &mut meter));
     holds(rt, &joined, LETTERS_TWICE, Kind::Allocated);
     let part = must(rt, joined.try_slice(alloc, 26..30));
     is(rt, part, b", ab", Kind::Inline);
-    let again = must(rt, H::join_slices(alloc, &LINES, b", "));
-    assert!(rt; joined == again);
+    is_counted(rt, joined, &meter, 54);
 }
 
-fn counted_joins<H: Bytes>(rt: &impl Abort, alloc: Global) {
+fn long_joins_of_slices<H: Bytes>(rt: &impl Abort, alloc: Global) {
     let mut meter = Meter::new();
-    let counted = must(rt, H::join_slices_metered(alloc, &LINES, b", ", &mut meter));
-    is_counted(rt, counted, &meter, 54);
-}
-
-fn counted_pieces<H: Bytes>(rt: &impl Abort, alloc: Global) {
-    let mut meter = Meter::new();
-    let counted = must(rt, H::join_two_metered(alloc, LINES, b", ", &mut meter));
-    is_counted(rt, counted, &meter, 54);
+    let joined = must(rt, H::join_slices_metered(alloc, &LINES, b", ", &mut meter));
+    holds(rt, &joined, LETTERS_TWICE, Kind::Allocated);
+    is_counted(rt, joined, &meter, 54);
 }
 
 /// The letters, in room that was 200 bytes and was given back to 100.
@@ -125,6 +144,26 @@ fn shrinks_into_the_handle<H: Bytes>(rt: &impl Abort, alloc: Global) {
     is(rt, room, &LETTERS[..23], Kind::Inline);
 }
 
+const TWENTY_FOUR: &[u8] = &[b'a'; 24];
+
+/// Asserts that no more room is left than there was, and no less than was asked for, or is needed, where there was as much.
+fn shrinks_to<H: Bytes>(rt: &impl Abort, alloc: Global, room: &mut H, least: usize) {
+    let before = room.capacity();
+    must(rt, room.shrink_to(alloc, least));
+    let after = room.capacity();
+    assert!(rt; (after <= before) & (before.min(least.max(24)) <= after));
+    holds(rt, room, TWENTY_FOUR, Kind::Allocated);
+}
+
+/// 24 bytes in room for 100: asked for more room than there is, for half, and for none, they stay where they are.
+fn shrinks_by_steps<H: Bytes>(rt: &impl Abort, alloc: Global) {
+    let mut room = must(rt, H::with_capacity(alloc, 100));
+    must(rt, room.push_slice(alloc, TWENTY_FOUR));
+    for least in [usize::MAX, 50, 0] {
+        shrinks_to(rt, alloc, &mut room, least);
+    }
+}
+
 fn repetitions_on<H: Bytes>(rt: &impl Abort, alloc: Global) {
     repetitions::<H>(rt, alloc);
     too_long::<H>(rt, alloc);
@@ -133,11 +172,10 @@ fn repetitions_on<H: Bytes>(rt: &impl Abort, alloc: Global) {
 }
 
 fn joins_on<H: Bytes>(rt: &impl Abort, alloc: Global) {
-    joined_slices::<H>(rt, alloc);
     joined_pieces::<H>(rt, alloc);
+    concatenated::<H>(rt, alloc);
     long_joins::<H>(rt, alloc);
-    counted_joins::<H>(rt, alloc);
-    counted_pieces::<H>(rt, alloc);
+    long_joins_of_slices::<H>(rt, alloc);
 }
 
 struct Joins;
@@ -147,16 +185,12 @@ impl Suite for Joins {
         repetitions_on::<H>(rt, alloc);
         joins_on::<H>(rt, alloc);
         shrinks::<H>(rt, alloc);
+        shrinks_by_steps::<H>(rt, alloc);
         shrinks_into_the_handle::<H>(rt, alloc);
     }
 }
 
 #[test]
-fn joins_on_rc(rt: HostRuntime) {
-    run_on_rc::<Joins>(&rt, rt.alloc());
-}
-
-#[test]
-fn joins_on_unique(rt: HostRuntime) {
-    run_on_unique::<Joins>(&rt, rt.alloc());
+fn joins_and_repetitions_lie_by_their_length(rt: HostRuntime) {
+    run_on_each::<Joins>(&rt, rt.alloc());
 }

@@ -1,6 +1,6 @@
 //! Makers, views and clones.
 use super::bytes::Bytes;
-use super::suite::{Suite, run_on_rc, run_on_unique};
+use super::suite::{Suite, run_on_each};
 use super::support::{LETTERS, holds, is, must, must_refuse};
 use hip_bytes::{Kind, Meter};
 use std::alloc::Global;
@@ -90,6 +90,13 @@ fn lent_bytes<H: Bytes>(rt: &impl Abort) {
     );
 }
 
+/// A part of lent bytes is lent too, until it is owned.
+fn part_of_lent_bytes<H: Bytes>(rt: &impl Abort, alloc: Global) {
+    let part = must(rt, H::borrowed(&[b'a'; 30]).try_slice(alloc, 5..10));
+    assert_eq!(rt; part.as_borrowed(), Some(b"aaaaa".as_slice()));
+    is(rt, must(rt, part.into_owned(alloc)), b"aaaaa", Kind::Inline);
+}
+
 fn least_and_greatest_room<H: Bytes>(rt: &impl Abort, alloc: Global) {
     assert!(rt; H::with_capacity(alloc, usize::MAX).is_err());
     let least = must(rt, H::with_capacity(alloc, 23));
@@ -105,16 +112,12 @@ impl Suite for Makers {
         short_clone::<H>(rt, alloc);
         long_clone::<H>(rt, alloc);
         lent_bytes::<H>(rt);
+        part_of_lent_bytes::<H>(rt, alloc);
         least_and_greatest_room::<H>(rt, alloc);
     }
 }
 
 #[test]
-fn on_rc(rt: HostRuntime) {
-    run_on_rc::<Makers>(&rt, rt.alloc());
-}
-
-#[test]
-fn on_unique(rt: HostRuntime) {
-    run_on_unique::<Makers>(&rt, rt.alloc());
+fn bytes_lie_by_their_length(rt: HostRuntime) {
+    run_on_each::<Makers>(&rt, rt.alloc());
 }

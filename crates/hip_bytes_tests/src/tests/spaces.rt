@@ -1,6 +1,6 @@
 //! The same 32 bytes by each maker: equal wherever they lie, and different from a part of them.
 use super::bytes::Bytes;
-use super::suite::{Suite, run_on_rc, run_on_unique};
+use super::suite::{Suite, run_on_each};
 use super::support::{holds, must};
 use hip_bytes::Kind;
 use std::alloc::Global;
@@ -84,11 +84,6 @@ impl Suite for Spaces {
 }
 
 #[test]
-fn spaces_on_rc(rt: HostRuntime) {
-    run_on_rc::<Spaces>(&rt, rt.alloc());
-}
-
-#[test]
-fn spaces_on_unique(rt: HostRuntime) {
-    run_on_unique::<Spaces>(&rt, rt.alloc());
+fn makers_of_the_same_bytes_are_equal(rt: HostRuntime) {
+    run_on_each::<Spaces>(&rt, rt.alloc());
 }

@@ -41,6 +41,14 @@ pub(crate) fn must_refuse<T: Drop, E>(rt: &impl Abort, outcome: Result<T, E>) ->
     }
 }
 
+/// An error as `Display` and as `Debug` show it.
+pub(crate) fn both_shown<E: fmt::Display + fmt::Debug>(
+    alloc: Global,
+    error: &E,
+) -> Result<(String, String), AllocError> {
+    Ok((format!(in alloc; "{error}")?, text_of(alloc, error)?))
+}
+
 /// A value as `Debug` shows it.
 pub(crate) fn text_of<T: fmt::Debug>(alloc: Global, value: &T) -> Result<String, AllocError> {
     format!(in alloc; "{value:?}")

@@ -1,6 +1,6 @@
 //! Bytes that are lent for writing, and ASCII case.
 use super::bytes::Bytes;
-use super::suite::{Suite, run_on_rc, run_on_unique};
+use super::suite::{Suite, run_on_each};
 use super::support::{LETTERS, holds, is, must};
 use hip_bytes::{Kind, Meter};
 use std::alloc::Global;
@@ -68,6 +68,23 @@ fn case_of_lent_bytes<H: Bytes>(rt: &impl Abort, alloc: Global) {
     is(rt, lent, b"[a\xE9z]", Kind::Inline);
 }
 
+/// Lent bytes are written over in a copy, by length, and are as they were.
+fn over_lent_bytes<H: Bytes>(
+    rt: &impl Abort,
+    alloc: Global,
+    bytes: &'static [u8],
+    items: &[u8],
+    kind: Kind,
+) {
+    let lent = H::borrowed(bytes);
+    let mut written = must(rt, lent.clone(alloc));
+    if let Some(first) = must(rt, written.to_mut_slice(alloc)).first_mut() {
+        *first = b'b';
+    }
+    is(rt, written, items, kind);
+    is(rt, lent, bytes, Kind::Borrowed);
+}
+
 fn in_the_handle<H: Bytes>(rt: &impl Abort) {
     let mut short = must(rt, H::inline(b"abc"));
     match short.as_mut_slice() {
@@ -84,16 +101,25 @@ impl Suite for Writes {
         beside_a_clone::<H>(rt, alloc);
         other_case::<H>(rt, alloc);
         case_of_lent_bytes::<H>(rt, alloc);
+        over_lent_bytes::<H>(
+            rt,
+            alloc,
+            &[b'a'; 23],
+            b"baaaaaaaaaaaaaaaaaaaaaa",
+            Kind::Inline,
+        );
+        over_lent_bytes::<H>(
+            rt,
+            alloc,
+            &[b'a'; 24],
+            b"baaaaaaaaaaaaaaaaaaaaaaa",
+            Kind::Allocated,
+        );
         in_the_handle::<H>(rt);
     }
 }
 
 #[test]
-fn writes_on_rc(rt: HostRuntime) {
-    run_on_rc::<Writes>(&rt, rt.alloc());
-}
-
-#[test]
-fn writes_on_unique(rt: HostRuntime) {
-    run_on_unique::<Writes>(&rt, rt.alloc());
+fn no_write_shows_in_a_clone(rt: HostRuntime) {
+    run_on_each::<Writes>(&rt, rt.alloc());
 }

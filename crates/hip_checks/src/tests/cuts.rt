@@ -1,14 +1,10 @@
-//! Texts that are cut once: trims, strips, and parts before and behind a match.
-use super::sessions::{answers_to, must};
-use super::ways::holds;
+//! Texts that are cut once: trims, strips, and parts before and behind a match. `runs` cuts them.
 use hipstr::Command::{Once, Strip, Trim, TrimMatches};
 use hipstr::Pat::{Char, Set, Text};
-use hipstr::{Answer, Backend, Command, End, Meter, Pool, Side};
-use std::alloc::Global;
-use std::process::Abort;
+use hipstr::{Command, End, Side};
 
 /// A text, a command that cuts it into slot 1, or into slots 1 and 2, and what it puts there, as Rust's `str` has it.
-type Cut = (
+pub(crate) type Cut = (
     &'static str,
     Command<'static>,
     Option<&'static str>,
@@ -80,7 +76,7 @@ const TRIMMED: &[Cut] = &[
     ),
 ];
 
-fn trimmed() -> &'static [Cut] {
+pub(crate) fn trimmed() -> &'static [Cut] {
     TRIMMED
 }
 
@@ -96,7 +92,7 @@ const STRIPPED: &[Cut] = &[
     ("a", Strip(0, 1, End::Front, Text("a")), Some(""), None),
 ];
 
-fn stripped() -> &'static [Cut] {
+pub(crate) fn stripped() -> &'static [Cut] {
     STRIPPED
 }
 
@@ -141,41 +137,6 @@ const PARTED: &[Cut] = &[
     ),
 ];
 
-fn parted() -> &'static [Cut] {
+pub(crate) fn parted() -> &'static [Cut] {
     PARTED
-}
-
-/// Whether a text is cut as it should be, with nothing copied.
-fn is_cut<B: Backend>(rt: &impl Abort, alloc: Global, cut: Cut) -> bool {
-    let (text, command, first, second) = cut;
-    let mut pool = must(rt, Pool::<B>::new(alloc, 3));
-    let commands = [
-        Command::Borrow(0, text.as_bytes()),
-        Command::Text(0),
-        command,
-    ];
-    let mut meter = Meter::new();
-    let answers = answers_to(rt, alloc, &mut pool, &commands, &mut meter);
-    let wanted = if first.is_some() {
-        Answer::Done
-    } else {
-        Answer::Nothing
-    };
-    (answers.as_slice().last() == Some(&wanted))
-        & holds(pool.slot(1), first)
-        & holds(pool.slot(2), second)
-        & (meter.copied() == 0)
-}
-
-fn are_cut<B: Backend>(rt: &impl Abort, alloc: Global, cuts: &[Cut]) {
-    for (i, cut) in cuts.iter().enumerate() {
-        assert!(rt; is_cut::<B>(rt, alloc, *cut), "{}, row {i}", cut.0);
-    }
-}
-
-/// Each of these texts.
-pub(crate) fn cuts_all<B: Backend>(rt: &impl Abort, alloc: Global) {
-    are_cut::<B>(rt, alloc, trimmed());
-    are_cut::<B>(rt, alloc, stripped());
-    are_cut::<B>(rt, alloc, parted());
 }

@@ -2,7 +2,7 @@
 //! leave no block.
 ghost use Rattle.std.specs.Prelude.{true, vec_capacity, refl};
 
-use super::sessions::on;
+use super::runs::on;
 use hipstr::{Appended, Backend, Meter, fill_counted};
 use std::alloc::{AllocError, Global};
 use std::marker::Model;

@@ -1,24 +1,17 @@
-//! Lists of commands, each with its answer.
-use super::cuts::cuts_all;
-use super::ways::takes_all_apart;
-use hipstr::{
-    Answer, Backend, Command, End, How, Kind, LocalHipByt, Meter, Pat, Pool, Rc, Reason, Side,
-    Unique, run,
-};
-use std::alloc::Global;
+//! Lists of commands, each with its answer, and what they leave. `runs` runs them.
+use hipstr::{Answer, Command, End, How, Kind, Pat, Reason, Side};
 use std::ops::Bound;
-use std::process::Abort;
 
 /// A command, and what it answers.
-type Row = (Command<'static>, Answer);
+pub(crate) type Row = (Command<'static>, Answer);
 
 /// Commands on a pool, and what slots hold after them, and whether each is borrowed. A function in which such a table stands costs the
 /// square of what it borrows, so each has one that hands it out.
 #[derive(Clone, Copy)]
-struct Session {
-    slots: usize,
-    rows: &'static [Row],
-    left: &'static [(usize, &'static [u8], bool)],
+pub(crate) struct Session {
+    pub slots: usize,
+    pub rows: &'static [Row],
+    pub left: &'static [(usize, &'static [u8], bool)],
 }
 
 /// Makers, cuts and questions; ranges that wrap in 64 bits; slots that aren't there.
@@ -65,7 +58,7 @@ const CUTS: Session = Session {
     left: &[(0, b"abc", true), (1, b"John!", false), (2, b"John", false)],
 };
 
-fn cuts() -> Session {
+pub(crate) fn cuts() -> Session {
     CUTS
 }
 
@@ -99,7 +92,7 @@ const WRITES: Session = Session {
     ],
 };
 
-fn writes() -> Session {
+pub(crate) fn writes() -> Session {
     WRITES
 }
 
@@ -163,7 +156,7 @@ const TEXTS: Session = Session {
     ],
 };
 
-fn texts() -> Session {
+pub(crate) fn texts() -> Session {
     TEXTS
 }
 
@@ -218,7 +211,7 @@ const PIECES: Session = Session {
     ],
 };
 
-fn pieces() -> Session {
+pub(crate) fn pieces() -> Session {
     PIECES
 }
 
@@ -243,7 +236,7 @@ const CAPITALS: &[u8] =
 const SMALL_LETTERS: &[u8] =
     b"@az[`az{\xC1\xE1@az[`az{\xC1\xE1@az[`az{\xC1\xE1@az[`az{\xC1\xE1@az[`az{\xC1\xE1@az[`az{\xC1\xE1@az[`az{\xC1\xE1";
 
-fn cases() -> Session {
+pub(crate) fn cases() -> Session {
     CASES
 }
 
@@ -264,219 +257,11 @@ const EMPTY: Session = Session {
     left: &[(0, b"", false), (1, b"", false), (2, b"", false)],
 };
 
-fn empty() -> Session {
+pub(crate) fn empty() -> Session {
     EMPTY
 }
 
 const TURNS: &[End] = &[End::Front, End::Back, End::Back, End::Front, End::Front];
-
-/// The value, or the end of the test where it was refused. A test with no way out but this is a straight line, and cheap to prove.
-pub(crate) fn must<T, E: Drop>(rt: &impl Abort, outcome: Result<T, E>) -> T {
-    match outcome {
-        Ok(value) => value,
-        Err(_) => panic!(rt; "a call was refused"),
-    }
-}
-
-/// What commands answer. What `run` promises is left here: a function that knows it is dear, and a test compares.
-pub(crate) fn answers_to<'b, B: Backend>(
-    rt: &impl Abort,
-    alloc: Global,
-    pool: &mut Pool<'b, B>,
-    commands: &[Command<'b>],
-    meter: &mut Meter,
-) -> Vec<Answer> {
-    must(rt, run(alloc, pool, commands, meter))
-}
-
-/// Runs the commands of the rows, and compares their answers.
-fn answers<'b, B: Backend>(
-    rt: &impl Abort,
-    alloc: Global,
-    pool: &mut Pool<'b, B>,
-    rows: &[(Command<'b>, Answer)],
-    meter: &mut Meter,
-) {
-    let mut commands = Vec::new(alloc);
-    let mut wanted = Vec::new(alloc);
-    for (command, answer) in rows {
-        must(rt, commands.push(*command));
-        must(rt, wanted.push(*answer));
-    }
-    let answers = answers_to(rt, alloc, pool, commands.as_slice(), meter);
-    assert_eq!(rt; answers.as_slice(), wanted.as_slice());
-}
-
-fn plays<B: Backend>(rt: &impl Abort, alloc: Global, session: Session) {
-    assert!(rt; session.slots <= 8);
-    let mut pool = must(rt, Pool::<B>::new(alloc, session.slots));
-    answers(rt, alloc, &mut pool, session.rows, &mut Meter::new());
-    for (i, bytes, is_lent) in session.left {
-        let slot = must(rt, pool.slot(*i).ok_or("no slot"));
-        assert_eq!(rt;
-            (slot.as_bytes(), slot.kind() == Kind::Borrowed),
-            (*bytes, *is_lent),
-            "in slot {i}"
-        );
-    }
-}
-
-/// A slice of 23 bytes copies them; one of 24, and a clone, copy none where owners are shared.
-fn costs<B: Backend>(rt: &impl Abort, alloc: Global) {
-    let mut pool = must(rt, Pool::<B>::new(alloc, 3));
-    let mut meter = Meter::new();
-    let rows: [Row; 4] = [
-        (
-            Command::Copy(0, b"abcdefghijklmnopqrstuvwxyz"),
-            Answer::Done,
-        ),
-        (
-            Command::Slice(0, 1, Bound::Unbounded, Bound::Excluded(23)),
-            Answer::Done,
-        ),
-        (
-            Command::Slice(0, 1, Bound::Unbounded, Bound::Excluded(24)),
-            Answer::Done,
-        ),
-        (Command::Clone(0, 2), Answer::Done),
-    ];
-    answers(rt, alloc, &mut pool, &rows, &mut meter);
-    assert_eq!(rt; meter.copied(), if B::SHARES { 49 } else { 99 });
-}
-
-/// While a clone lives, the two share one vector, which neither hands out.
-fn shares_its_vector(rt: &impl Abort, alloc: Global) {
-    let letters: &[u8] = b"abcdefghijklmnopqrstuvwxyz";
-    let handle = must(rt, LocalHipByt::from_slice(alloc, letters));
-    let clone = must(rt, handle.clone(alloc));
-    let handle = must(rt, handle.into_vec(alloc).err().ok_or("a clone lives"));
-    drop(clone);
-    let vec = must(rt, handle.into_vec(alloc).or(Err("the only handle")));
-    assert_eq!(rt; vec.as_slice(), letters);
-}
-
-/// 60 bytes that were pushed into room for 200, and one of which was written over.
-const PUSHED: &[Row] = &[
-    (Command::Room(0, 200), Answer::Done),
-    (Command::Push(0, &[b'a'; 30]), Answer::Done),
-    (Command::Push(0, &[b'a'; 30]), Answer::Done),
-    (Command::Set(0, 0, 98), Answer::Done),
-];
-
-fn pushed() -> &'static [Row] {
-    PUSHED
-}
-
-const SHRUNK: &[Row] = &[
-    (Command::Shrink(0, 0), Answer::Done),
-    (Command::Len(0), Answer::Number(60)),
-];
-
-fn shrunk() -> &'static [Row] {
-    SHRUNK
-}
-
-fn capacity_of<B: Backend>(rt: &impl Abort, alloc: Global, pool: &mut Pool<B>) -> usize {
-    let answers = answers_to(rt, alloc, pool, &[Command::Capacity(0)], &mut Meter::new());
-    let [Answer::Number(capacity)] = answers.as_slice() else {
-        panic!(rt; "no number");
-    };
-    *capacity
-}
-
-/// A sole owner is written in place, and gives its room back. One that never wrote in place would copy what stands there at the
-/// second push and at the byte that is set.
-fn in_place<B: Backend>(rt: &impl Abort, alloc: Global) {
-    let mut pool = must(rt, Pool::<B>::new(alloc, 1));
-    let mut meter = Meter::new();
-    answers(rt, alloc, &mut pool, pushed(), &mut meter);
-    assert_eq!(rt; meter.copied(), 60);
-    answers(rt, alloc, &mut pool, shrunk(), &mut meter);
-    assert!(rt; capacity_of(rt, alloc, &mut pool) < 200);
-}
-
-/// A push past the room that is there moves the bytes that are kept once, to twice the room that is needed.
-fn doubles(rt: &impl Abort, alloc: Global) {
-    let many = must(rt, vec![in alloc; b'z'; 1000]);
-    let mut pool = must(rt, Pool::<Unique>::new(alloc, 1));
-    let mut meter = Meter::new();
-    let rows = [
-        (Command::Room(0, 64), Answer::Done),
-        (Command::Push(0, &[b'x'; 30]), Answer::Done),
-        (Command::Push(0, &[b'y'; 30]), Answer::Done),
-    ];
-    answers(rt, alloc, &mut pool, &rows, &mut meter);
-    assert_eq!(rt; meter.copied(), 60);
-    let room = capacity_of(rt, alloc, &mut pool);
-    let beyond = must(rt, many.get(..room.saturating_sub(59)).ok_or("more room"));
-    let row = [(Command::Push(0, beyond), Answer::Done)];
-    answers(rt, alloc, &mut pool, &row, &mut meter);
-    let doubled = capacity_of(rt, alloc, &mut pool);
-    assert_eq!(rt;
-        (meter.copied(), doubled / 2 > room),
-        (room as u128 + 61, true)
-    );
-}
-
-const ROOM_FOR_24: &[Row] = &[(Command::Room(0, 24), Answer::Done)];
-
-fn room_for_24() -> &'static [Row] {
-    ROOM_FOR_24
-}
-
-const FOUR_PUSHES: &[Row] = &[
-    (Command::Push(0, b"x"), Answer::Done),
-    (Command::Push(0, b"x"), Answer::Done),
-    (Command::Push(0, b"x"), Answer::Done),
-    (Command::Push(0, b"x"), Answer::Done),
-];
-
-fn four_pushes() -> &'static [Row] {
-    FOUR_PUSHES
-}
-
-const MANY_BYTES: &[Row] = &[(Command::Len(0), Answer::Number(10_000))];
-
-fn many_bytes() -> &'static [Row] {
-    MANY_BYTES
-}
-
-/// Byte by byte, each is copied three times at most.
-fn grows_one_by_one(rt: &impl Abort, alloc: Global) {
-    let mut pool = must(rt, Pool::<Unique>::new(alloc, 1));
-    let mut meter = Meter::new();
-    answers(rt, alloc, &mut pool, room_for_24(), &mut meter);
-    for _ in 0..2_500 {
-        answers(rt, alloc, &mut pool, four_pushes(), &mut meter);
-    }
-    assert!(rt; meter.copied() <= 30_000);
-    answers(rt, alloc, &mut pool, many_bytes(), &mut meter);
-}
-
-fn pools<B: Backend>(rt: &impl Abort, alloc: Global) {
-    let mut pool = must(rt, Pool::<B>::new(alloc, 3));
-    assert_eq!(rt;
-        (pool.len(), pool.is_empty(), pool.slot(3).is_none()),
-        (3, false, true)
-    );
-    assert!(rt; answers_to(rt, alloc, &mut pool, &[], &mut Meter::new()).is_empty());
-    assert!(rt; must(rt, Pool::<B>::new(alloc, 0)).is_empty());
-}
-
-/// All of it, on a backend.
-pub(crate) fn on<B: Backend>(rt: &impl Abort, alloc: Global) {
-    pools::<B>(rt, alloc);
-    plays::<B>(rt, alloc, cuts());
-    plays::<B>(rt, alloc, writes());
-    plays::<B>(rt, alloc, texts());
-    plays::<B>(rt, alloc, pieces());
-    plays::<B>(rt, alloc, cases());
-    plays::<B>(rt, alloc, empty());
-    cuts_all::<B>(rt, alloc);
-    takes_all_apart::<B>(rt, alloc);
-    costs::<B>(rt, alloc);
-    in_place::<B>(rt, alloc);
-}
 
 /// A push on a slice that outlives its source: what follows the slice in the owner is cut off.
 const PUSHED_SLICE: Session = Session {
@@ -497,8 +282,31 @@ const PUSHED_SLICE: Session = Session {
     left: &[(0, b"", false), (1, b"abcdefghijklmnopqrstuvwx!", false)],
 };
 
-fn pushed_slice() -> Session {
+pub(crate) fn pushed_slice() -> Session {
     PUSHED_SLICE
+}
+
+/// A byte that is set in one of three handles of one owner.
+const SET_ON_SHARED: Session = Session {
+    slots: 3,
+    rows: &[
+        (Command::Copy(0, &[b'a'; 30]), Answer::Done),
+        (Command::Clone(0, 1), Answer::Done),
+        (
+            Command::Slice(0, 2, Bound::Included(3), Bound::Excluded(30)),
+            Answer::Done,
+        ),
+        (Command::Set(0, 5, b'b'), Answer::Done),
+    ],
+    left: &[
+        (0, b"aaaaabaaaaaaaaaaaaaaaaaaaaaaaa", false),
+        (1, &[b'a'; 30], false),
+        (2, &[b'a'; 27], false),
+    ],
+};
+
+pub(crate) fn set_on_shared() -> Session {
+    SET_ON_SHARED
 }
 
 /// Pieces of a borrowed text, from both ends.
@@ -521,43 +329,50 @@ const BORROWED_PIECES: Session = Session {
     ],
 };
 
-fn borrowed_pieces() -> Session {
+pub(crate) fn borrowed_pieces() -> Session {
     BORROWED_PIECES
 }
 
-/// A machine that refuses whatever may be refused for memory is proved, and fails here.
-#[test]
-fn everything_refused(rt: HostRuntime) {
-    plays::<Rc>(&rt, rt.alloc(), pushed_slice());
-    plays::<Unique>(&rt, rt.alloc(), pushed_slice());
-    plays::<Rc>(&rt, rt.alloc(), borrowed_pieces());
-    plays::<Unique>(&rt, rt.alloc(), borrowed_pieces());
+/// 60 bytes that were pushed into room for 200, and one of which was written over.
+const PUSHED: &[Row] = &[
+    (Command::Room(0, 200), Answer::Done),
+    (Command::Push(0, &[b'a'; 30]), Answer::Done),
+    (Command::Push(0, &[b'a'; 30]), Answer::Done),
+    (Command::Set(0, 0, 98), Answer::Done),
+];
+
+pub(crate) fn pushed() -> &'static [Row] {
+    PUSHED
 }
 
-#[test]
-fn runs_on_either_backend(rt: HostRuntime) {
-    on::<Rc>(&rt, rt.alloc());
-    on::<Unique>(&rt, rt.alloc());
+const SHRUNK: &[Row] = &[
+    (Command::Shrink(0, 0), Answer::Done),
+    (Command::Len(0), Answer::Number(60)),
+];
+
+pub(crate) fn shrunk() -> &'static [Row] {
+    SHRUNK
 }
 
-/// A body that copies past the counter, or keeps a vector for each handle, is proved, and fails here.
-#[test]
-fn copies_past_counter(rt: HostRuntime) {
-    costs::<Rc>(&rt, rt.alloc());
-    costs::<Unique>(&rt, rt.alloc());
-    shares_its_vector(&rt, rt.alloc());
+const ROOM_FOR_24: &[Row] = &[(Command::Room(0, 24), Answer::Done)];
+
+pub(crate) fn room_for_24() -> &'static [Row] {
+    ROOM_FOR_24
 }
 
-/// A backend that never writes in place is proved: no contract counts owners.
-#[test]
-fn rc_never_in_place(rt: HostRuntime) {
-    in_place::<Rc>(&rt, rt.alloc());
-    in_place::<Unique>(&rt, rt.alloc());
+const FOUR_PUSHES: &[Row] = &[
+    (Command::Push(0, b"x"), Answer::Done),
+    (Command::Push(0, b"x"), Answer::Done),
+    (Command::Push(0, b"x"), Answer::Done),
+    (Command::Push(0, b"x"), Answer::Done),
+];
+
+pub(crate) fn four_pushes() -> &'static [Row] {
+    FOUR_PUSHES
 }
 
-/// What an owner that no other shares copies as it grows.
-#[test]
-fn room_doubles(rt: HostRuntime) {
-    doubles(&rt, rt.alloc());
-    grows_one_by_one(&rt, rt.alloc());
+const MANY_BYTES: &[Row] = &[(Command::Len(0), Answer::Number(10_000))];
+
+pub(crate) fn many_bytes() -> &'static [Row] {
+    MANY_BYTES
 }

@@ -1,14 +1,11 @@
-//! Each way to take a text apart, by every script of up to six ends.
-use super::sessions::{answers_to, must};
-use hipstr::{Answer, Backend, Command, End, How, Kind, Meter, Pat, Pool, Reason, Slot};
-use std::alloc::Global;
-use std::process::Abort;
+//! Each way to take a text apart, and the pieces. `runs` draws them by every script of up to six ends.
+use hipstr::{How, Pat};
 
 /// A way, whether its pieces come from both ends, and all of them in the order of the front, which are those of Rust's `str`.
-type Way = (How<'static>, bool, &'static [&'static str]);
+pub(crate) type Way = (How<'static>, bool, &'static [&'static str]);
 
 /// A text, and ways in which it is taken apart.
-type Taken = (&'static str, &'static [Way]);
+pub(crate) type Taken = (&'static str, &'static [Way]);
 
 // What stands in one branch of a function costs the square of what it borrows, so these are parts of one table.
 
@@ -241,97 +238,6 @@ const ALL: &[Taken] = &[
     LONG_RUNS,
 ];
 
-fn all() -> &'static [Taken] {
+pub(crate) fn all() -> &'static [Taken] {
     ALL
-}
-
-/// Whether a slot holds this piece, borrowed as its text is, or nothing where there is none.
-pub(crate) fn holds<B: Backend>(slot: Option<&Slot<'_, B>>, piece: Option<&str>) -> bool {
-    match (slot, piece) {
-        (Some(slot), Some(piece)) => {
-            slot.as_bytes() == piece.as_bytes() && slot.kind() == Kind::Borrowed
-        }
-        (Some(slot), None) => slot.as_bytes().is_empty() && slot.kind() == Kind::Inline,
-        (None, _) => false,
-    }
-}
-
-/// Whether a text is taken apart by a script as it should be, with nothing copied.
-fn takes_apart<'s, B: Backend>(
-    rt: &impl Abort,
-    alloc: Global,
-    text: &'s str,
-    way: Way,
-    script: &'s [End],
-) -> bool {
-    let (how, has_both_ends, pieces) = way;
-    let mut pool = must(rt, Pool::<B>::new(alloc, 7));
-    let commands = [
-        Command::Borrow(0, text.as_bytes()),
-        Command::Text(0),
-        Command::Pieces(0, how, script, 1),
-    ];
-    let mut meter = Meter::new();
-    let answers = answers_to(rt, alloc, &mut pool, &commands, &mut meter);
-    let is_refused = !has_both_ends && script.contains(&End::Back);
-    let wanted = if is_refused {
-        Answer::Refused(Reason::OneEnd)
-    } else {
-        Answer::Number(pieces.len().min(script.len()))
-    };
-    let mut is_so = answers.as_slice().last() == Some(&wanted) && meter.copied() == 0;
-    let mut front = 0;
-    let mut back = if is_refused { 0 } else { pieces.len() };
-    for (i, end) in script.iter().enumerate() {
-        let mut at = pieces.len();
-        if front < back {
-            match end {
-                End::Front => {
-                    at = front;
-                    front += 1;
-                }
-                End::Back => {
-                    back -= 1;
-                    at = back;
-                }
-            }
-        }
-        is_so = is_so && holds(pool.slot(i + 1), pieces.get(at).copied());
-    }
-    is_so
-}
-
-/// Six ends, which are the digits of a number.
-fn ends_of(number: u8) -> [End; 6] {
-    let mut script = [End::Front; 6];
-    let mut digits = number;
-    for end in &mut script {
-        if digits % 2 == 1 {
-            *end = End::Back;
-        }
-        digits /= 2;
-    }
-    script
-}
-
-/// Each of these ways, by each beginning of a script.
-fn takes_each_apart<B: Backend>(rt: &impl Abort, alloc: Global, taken: Taken, script: &[End; 6]) {
-    let (text, ways) = taken;
-    for (i, way) in ways.iter().enumerate() {
-        for count in 0..7 {
-            assert!(rt;
-                takes_apart::<B>(rt, alloc, text, *way, &script[..count]),
-                "{text}, way {i}, {script:?}"
-            );
-        }
-    }
-}
-
-/// Each way, by every script of up to six ends: the ends of a script of six are the digits of a number, and its beginnings are the others.
-pub(crate) fn takes_all_apart<B: Backend>(rt: &impl Abort, alloc: Global) {
-    for number in 0..64 {
-        for taken in all() {
-            takes_each_apart::<B>(rt, alloc, *taken, &ends_of(number));
-        }
-    }
 }

@@ -97,7 +97,13 @@ pub(crate) fn matches_by_turns<P: OneChar>(
         Walk::MatchIndices => draws_by_turns(rt, MatchIndices::new(TEXT, pattern), want),
         Walk::RMatches => draws_by_turns(rt, RMatches::new(TEXT, pattern), want),
         Walk::RMatchIndices => draws_by_turns(rt, RMatchIndices::new(TEXT, pattern), want),
-        _ => panic!(rt; "it walks over no matches"),
+        Walk::Split
+        | Walk::SplitInclusive
+        | Walk::SplitTerminator
+        | Walk::SplitN(_)
+        | Walk::RSplit
+        | Walk::RSplitTerminator
+        | Walk::RSplitN(_) => panic!(rt; "it walks over no matches"),
     }
 }
 

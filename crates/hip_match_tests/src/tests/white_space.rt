@@ -32,10 +32,18 @@ fn run_rows() -> &'static [Parts] {
     ]
 }
 
+/// 20 times a character of the bytes C4 89, of which the last looks like white space but for its first bit.
+const TWENTY: &str = "ĉĉĉĉĉĉĉĉĉĉĉĉĉĉĉĉĉĉĉĉ";
+
+/// 32 bytes.
+const SIXTEEN: &str = "éééééééééééééééé";
+
 fn ascii_run_rows() -> &'static [Parts] {
     &[
         Parts("a\x0Bb c", &["a\x0Bb", "c"]),
         Parts("a\u{2003}b ", &["a\u{2003}b"]),
+        Parts(TWENTY, &[TWENTY]),
+        Parts("éééééééééééééééé éééééééééééééééé", &[SIXTEEN, SIXTEEN]),
     ]
 }
 
@@ -63,6 +71,12 @@ fn drawn_runs() -> &'static [Drawn] {
 fn drawn_ascii_runs() -> &'static [Drawn] {
     &[
         Drawn("a\x0Bb c", "BF", &["c", "a\x0Bb"]),
+        Drawn(TWENTY, "B", &[TWENTY]),
+        Drawn(
+            "éééééééééééééééé éééééééééééééééé",
+            "BF",
+            &[SIXTEEN, SIXTEEN],
+        ),
         Drawn("a\u{2003}b ", "B", &["a\u{2003}b"]),
     ]
 }

@@ -165,16 +165,16 @@ fn texts<F: Form>(rt: &impl Abort, alloc: Global) {
 }
 
 #[test]
-fn written_and_read_on_rc(rt: HostRuntime) {
+fn forms_are_written_and_read(rt: HostRuntime) {
     bytes::<HipByt<'static, Rc>>(&rt, rt.alloc());
+    bytes::<HipByt<'static, Unique>>(&rt, rt.alloc());
     texts::<HipStr<'static, Rc>>(&rt, rt.alloc());
-    one_behind_another::<HipByt<'static, Rc>, HipStr<'static, Rc>>(&rt, rt.alloc());
+    texts::<HipStr<'static, Unique>>(&rt, rt.alloc());
 }
 
 #[test]
-fn written_and_read_on_unique(rt: HostRuntime) {
-    bytes::<HipByt<'static, Unique>>(&rt, rt.alloc());
-    texts::<HipStr<'static, Unique>>(&rt, rt.alloc());
+fn forms_stand_one_behind_another(rt: HostRuntime) {
+    one_behind_another::<HipByt<'static, Rc>, HipStr<'static, Rc>>(&rt, rt.alloc());
     one_behind_another::<HipByt<'static, Unique>, HipStr<'static, Unique>>(&rt, rt.alloc());
 }
 

@@ -52,21 +52,6 @@ fn into_cows<N: Name>(rt: &impl Abort, alloc: Global) {
     }
 }
 
-/// To a byte string, to the other type, and back.
-fn there_and_back<N: Name>(rt: &impl Abort, alloc: Global) {
-    let name = must(rt, N::from_str(alloc, LETTERS)).there_and_back();
-    is(rt, name, LETTERS);
-}
-
-/// What is lent may be let go once the name is its own.
-fn owns<N: Name>(rt: &impl Abort, alloc: Global) {
-    let stars = must(rt, String::from_str(alloc, "******"));
-    let lent = must(rt, stars.get(..2).ok_or("fewer than two"));
-    let owned = must(rt, N::borrowed_into_owned(alloc, lent));
-    drop(stars);
-    is(rt, owned, "**");
-}
-
 fn no_room<N: Name>(rt: &impl Abort, alloc: Global) {
     let name = must(rt, N::with_capacity_push(alloc, 0, ""));
     assert_eq!(rt; name.capacity(), 23);
@@ -116,8 +101,12 @@ fn orders<N: Name>(rt: &impl Abort, alloc: Global) {
     for (left, right, by_bytes, by_components) in ordered_rows() {
         let copied = must(rt, N::from_str(alloc, left));
         let order = if N::IS_PATH { by_components } else { by_bytes };
-        let answers = compared(&copied, &N::from_static(right));
-        assert_eq!(rt; answers, (*order, order.reverse(), order.is_eq()));
+        let (lent, other) = (N::from_static(left), N::from_static(right));
+        let wanted = (*order, order.reverse(), order.is_eq());
+        assert_eq!(rt;
+            (compared(&copied, &other), compared(&lent, &other)),
+            (wanted, wanted)
+        );
     }
 }
 
@@ -144,8 +133,6 @@ fn orders_by_name<N: Name>(rt: &impl Abort, alloc: Global) {
 /// These, of an OS string or of a path.
 pub(crate) fn of_either<N: Name>(rt: &impl Abort, alloc: Global) {
     into_cows::<N>(rt, alloc);
-    there_and_back::<N>(rt, alloc);
-    owns::<N>(rt, alloc);
     no_room::<N>(rt, alloc);
     shrinks::<N>(rt, alloc);
     orders::<N>(rt, alloc);
@@ -202,12 +189,8 @@ fn components(rt: HostRuntime) {
 }
 
 #[test]
-fn on_rc(rt: HostRuntime) {
+fn texts_become_names(rt: HostRuntime) {
     from_texts::<Rc>(&rt, rt.alloc());
-}
-
-#[test]
-fn on_unique(rt: HostRuntime) {
     from_texts::<Unique>(&rt, rt.alloc());
 }
 

@@ -2,6 +2,7 @@
 use super::handle::Handle;
 use super::name::{Name, OsStr};
 use super::support::{must, text_of};
+use hip_bytes::Kind;
 use std::alloc::Global;
 use std::process::Abort;
 
@@ -39,9 +40,10 @@ fn is(text: Option<String>, is_text: bool, want: &str) -> bool {
 }
 
 fn becomes_text<N: Name>(rt: &impl Abort, row: Decoded) {
-    match must(rt, N::lent(row.0)).into_str() {
-        Ok(bytes) => assert_eq!(rt; (bytes, row.1), (row.0, true)),
-        Err(back) => assert_eq!(rt; (back.bytes(), row.1), (row.0, false)),
+    let (bytes, is_text, text) = row;
+    match must(rt, N::lent(bytes)).into_str_eq(text) {
+        Ok(told) => assert_eq!(rt; (told, is_text), ((true, Kind::Borrowed), true)),
+        Err(back) => assert_eq!(rt; (back.bytes(), is_text), (bytes, false)),
     }
 }
 

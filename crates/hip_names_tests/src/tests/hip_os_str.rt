@@ -24,6 +24,8 @@ impl<B: Backend> Handle for HipOsStr<'static, B> {
 }
 
 impl<B: Backend> Name for HipOsStr<'static, B> {
+    type Bytes = HipByt<'static, B>;
+
     const IS_PATH: bool = false;
 
     fn new() -> Self {
@@ -78,13 +80,17 @@ impl<B: Backend> Name for HipOsStr<'static, B> {
         self.into_os_string(alloc)
     }
 
-    fn into_vec_copied(self, alloc: Global) -> Result<Vec<u8>, AllocError> {
-        let bytes = HipByt::from(self);
-        bytes.into_vec_copied(alloc).or(Err(AllocError))
+    fn into_os_string(self, alloc: Global) -> Result<Vec<u8>, Self> {
+        self.into_os_string(alloc)
     }
 
-    fn into_str_into_os_string(self, alloc: Global) -> Result<Vec<u8>, Self> {
-        HipOsStr::from(self.into_str()?).into_os_string(alloc)
+    fn into(self) -> HipByt<'static, B> {
+        HipByt::from(self)
+    }
+
+    fn into_vec_copied(self, alloc: Global) -> Result<Vec<u8>, AllocError> {
+        let bytes = self.into_bytes();
+        bytes.into_vec_copied(alloc).or(Err(AllocError))
     }
 
     fn mutate(&mut self, alloc: Global) -> Result<RefMut<'_, Self>, AllocError> {
@@ -131,8 +137,9 @@ impl<B: Backend> Name for HipOsStr<'static, B> {
         self.into_bytes().into_cow(alloc).or(Err(AllocError))
     }
 
-    fn into_str(self) -> Result<&'static [u8], Self> {
-        Ok(self.into_str()?.as_borrowed().unwrap_or("").as_bytes())
+    fn into_str_eq(self, text: &str) -> Result<(bool, Kind), Self> {
+        let made = self.into_str()?;
+        Ok((made.str_eq(text), made.kind()))
     }
 }
 

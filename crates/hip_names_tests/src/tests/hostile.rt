@@ -226,11 +226,7 @@ fn hostile_paths<B: Backend>(rt: &impl Abort, alloc: Global) {
 }
 
 #[test]
-fn hostile_paths_on_rc(rt: HostRuntime) {
+fn hostile_paths_are_taken_apart(rt: HostRuntime) {
     hostile_paths::<Rc>(&rt, rt.alloc());
-}
-
-#[test]
-fn hostile_paths_on_unique(rt: HostRuntime) {
     hostile_paths::<Unique>(&rt, rt.alloc());
 }

@@ -170,18 +170,22 @@ fn texts<J: Json>(rt: &impl Abort, alloc: Global) {
 }
 
 #[test]
-fn values_on_rc(rt: HostRuntime) {
+fn byte_strings_are_arrays(rt: HostRuntime) {
     byte_strings::<HipByt<'static, Rc>>(&rt, rt.alloc());
-    os_strings::<HipOsStr<'static, Rc>>(&rt, rt.alloc());
-    texts::<HipStr<'static, Rc>>(&rt, rt.alloc());
-    texts::<HipPath<'static, Rc>>(&rt, rt.alloc());
+    byte_strings::<HipByt<'static, Unique>>(&rt, rt.alloc());
 }
 
 #[test]
-fn values_on_unique(rt: HostRuntime) {
-    byte_strings::<HipByt<'static, Unique>>(&rt, rt.alloc());
+fn os_strings_are_objects(rt: HostRuntime) {
+    os_strings::<HipOsStr<'static, Rc>>(&rt, rt.alloc());
     os_strings::<HipOsStr<'static, Unique>>(&rt, rt.alloc());
+}
+
+#[test]
+fn texts_and_paths_are_strings(rt: HostRuntime) {
+    texts::<HipStr<'static, Rc>>(&rt, rt.alloc());
     texts::<HipStr<'static, Unique>>(&rt, rt.alloc());
+    texts::<HipPath<'static, Rc>>(&rt, rt.alloc());
     texts::<HipPath<'static, Unique>>(&rt, rt.alloc());
 }
 

@@ -1,7 +1,7 @@
 //! What the tests ask of an OS string and of a path alike, and of an OS string alone: their calls, by their own names. Names of two calls are
 //! of one after another. The methods say nothing of their answers, so that a test knows nothing but what it compares.
 use super::handle::Handle;
-use hip_bytes::{RefMut, Source};
+use hip_bytes::{Kind, RefMut, Source};
 use std::alloc::{AllocError, Global};
 use std::borrow::CowSlice;
 use std::cmp::Ordering;
@@ -9,6 +9,8 @@ use std::fmt;
 use std::hash::Hash;
 
 pub trait Name: Handle + Source + Hash + Ord + fmt::Debug {
+    type Bytes: Handle;
+
     /// Whether it is compared by components, and not by bytes.
     const IS_PATH: bool;
 
@@ -39,11 +41,13 @@ pub trait Name: Handle + Source + Hash + Ord + fmt::Debug {
     /// By `into_os_string` or `into_path_buf`.
     fn into_vec(self, alloc: Global) -> Result<Vec<u8>, Self>;
 
-    /// By way of a byte string.
-    fn into_vec_copied(self, alloc: Global) -> Result<Vec<u8>, AllocError>;
+    fn into_os_string(self, alloc: Global) -> Result<Vec<u8>, Self>;
 
-    /// And back to a name before `into_os_string`.
-    fn into_str_into_os_string(self, alloc: Global) -> Result<Vec<u8>, Self>;
+    /// The byte string that `From` makes, of a path by way of an OS string.
+    fn into(self) -> Self::Bytes;
+
+    /// By `into_bytes`, and of a path `into_os_str` before it.
+    fn into_vec_copied(self, alloc: Global) -> Result<Vec<u8>, AllocError>;
 
     fn mutate(&mut self, alloc: Global) -> Result<RefMut<'_, Self>, AllocError>;
 
@@ -69,8 +73,8 @@ pub trait Name: Handle + Source + Hash + Ord + fmt::Debug {
     /// Of the byte string.
     fn into_cow(self, alloc: Global) -> Result<CowSlice<'static, u8>, AllocError>;
 
-    /// The text of lent bytes, as bytes.
-    fn into_str(self) -> Result<&'static [u8], Self>;
+    /// Whether the text is this, by `str_eq`, and where it lies.
+    fn into_str_eq(self, text: &str) -> Result<(bool, Kind), Self>;
 }
 
 /// What an OS string alone has.

@@ -1,8 +1,8 @@
 //! What hipstr's own tests ask of OS strings and of paths, each by its own calls.
 use super::handle::Handle;
 use super::name::{Name, OsStr};
-use super::support::{must, must_refuse, text_of};
-use super::{calls, decoding, hostile, maps};
+use super::support::{are_equal, must, text_of};
+use super::{calls, decoding, hostile, maps, rooms};
 use hip_names::{HipOsStr, HipPath, Kind, Rc, Unique};
 use std::alloc::Global;
 use std::cmp::Ordering;
@@ -12,10 +12,16 @@ const LETTERS: &str = "abcdefghijklmnopqrstuvwxyz";
 
 const LONG: &str = "aaaaaaaaaaaaaaaaaaaaaaaaaaaaaaaaaaaaaaaaaa";
 
+const CAPITALS: &str = "AAAAAAAAAAAAAAAAAAAAAAAAAAAAAAAAAAAAAAAAAA";
+
+const STARS: &str = "******************************************";
+
 /// How a name is made.
 #[derive(Clone, Copy)]
 enum Way {
     Taken,
+    /// Of a string that has room for 42 bytes.
+    TakenWithRoom,
     Copied,
     Lent,
 }
@@ -23,6 +29,12 @@ enum Way {
 /// A way, the text of the name that it makes here, and where its bytes lie then.
 const WAYS: &[(Way, &str, Kind)] = &[
     (Way::Taken, LONG, Kind::Allocated),
+    (Way::Taken, CAPITALS, Kind::Allocated),
+    (Way::Taken, STARS, Kind::Allocated),
+    (Way::Taken, LETTERS, Kind::Allocated),
+    (Way::Copied, LONG, Kind::Allocated),
+    (Way::Copied, CAPITALS, Kind::Allocated),
+    (Way::Copied, LETTERS, Kind::Allocated),
     (Way::Copied, "abc", Kind::Inline),
     (Way::Lent, "abc", Kind::Borrowed),
 ];
@@ -30,19 +42,22 @@ const WAYS: &[(Way, &str, Kind)] = &[
 /// A name that was made in that way.
 fn made<N: Name>(rt: &impl Abort, alloc: Global, way: Way, text: &'static str) -> N {
     match way {
-        Way::Taken => taken(rt, alloc, text),
+        Way::Taken => taken(rt, alloc, 0, text),
+        Way::TakenWithRoom => taken(rt, alloc, 42, text),
         Way::Copied => must(rt, N::from_str(alloc, text)),
         Way::Lent => N::from_static(text),
     }
 }
 
-fn taken<N: Name>(rt: &impl Abort, alloc: Global, text: &str) -> N {
-    let string = must(rt, String::from_str(alloc, text));
+/// Of a string that had room for so many bytes.
+fn taken<N: Name>(rt: &impl Abort, alloc: Global, room: usize, text: &str) -> N {
+    let mut string = must(rt, String::with_capacity(alloc, room));
+    must(rt, string.push_str(text));
     must(rt, N::from_string(alloc, string))
 }
 
 /// Asserts what a name holds, and where.
-fn is<N: Name>(rt: &impl Abort, name: N, text: &str, kind: Kind) {
+fn is<H: Handle>(rt: &impl Abort, name: H, text: &str, kind: Kind) {
     assert_eq!(rt; (name.bytes(), name.kind()), (text.as_bytes(), Some(kind)));
 }
 
@@ -50,6 +65,7 @@ fn is_vector(rt: &impl Abort, vec: Vec<u8>, text: &str) {
     assert_eq!(rt; vec.as_slice(), text.as_bytes());
 }
 
+/// A clone outlives its source, and lies as that does.
 fn makers<N: Name>(rt: &impl Abort, alloc: Global) {
     for (way, text, kind) in WAYS {
         let name = made::<N>(rt, alloc, *way, text);
@@ -100,13 +116,31 @@ fn lengths<N: Name>(rt: &impl Abort, alloc: Global) {
 }
 
 /// A long one gives its vector, any other is handed back.
+fn gives_vector<N: Name>(rt: &impl Abort, outcome: Result<Vec<u8>, N>, text: &str, kind: Kind) {
+    match outcome {
+        Ok(vec) => assert_eq!(rt; (vec.as_slice(), kind), (text.as_bytes(), Kind::Allocated)),
+        Err(back) => {
+            assert!(rt; kind != Kind::Allocated);
+            is(rt, back, text, kind);
+        }
+    }
+}
+
+/// By each call that gives one.
 fn into_vectors<N: Name>(rt: &impl Abort, alloc: Global) {
-    let vec = must(rt, taken::<N>(rt, alloc, LONG).into_vec(alloc));
-    is_vector(rt, vec, LONG);
-    let back = must_refuse(rt, must(rt, N::from_str(alloc, "abc")).into_vec(alloc));
-    is(rt, back, "abc", Kind::Inline);
-    let back = must_refuse(rt, N::from_static("abc").into_vec(alloc));
-    is(rt, back, "abc", Kind::Borrowed);
+    for (way, text, kind) in WAYS {
+        let name = made::<N>(rt, alloc, *way, text);
+        gives_vector(rt, name.into_vec(alloc), text, *kind);
+        let name = made::<N>(rt, alloc, *way, text);
+        gives_vector(rt, name.into_os_string(alloc), text, *kind);
+    }
+}
+
+/// A byte string lies where the name did.
+fn into_byte_strings<N: Name>(rt: &impl Abort, alloc: Global) {
+    for (way, text, kind) in WAYS {
+        is(rt, made::<N>(rt, alloc, *way, text).into(), text, *kind);
+    }
 }
 
 fn into_copies<N: Name>(rt: &impl Abort, alloc: Global) {
@@ -116,82 +150,63 @@ fn into_copies<N: Name>(rt: &impl Abort, alloc: Global) {
     }
 }
 
-/// A long one is a text, in the same owner. Any other is handed back.
+/// A name of the other type and back, of a clone and of the name itself.
+fn there_and_back<N: Name>(rt: &impl Abort, alloc: Global) {
+    for (way, text, kind) in WAYS {
+        let name = made::<N>(rt, alloc, *way, text);
+        let clone = must(rt, name.clone(alloc));
+        is(rt, clone.there_and_back(), text, *kind);
+        is(rt, name.there_and_back(), text, *kind);
+    }
+}
+
+/// The text of a clone, and of the name itself, lies where the name did.
 fn into_texts<N: Name>(rt: &impl Abort, alloc: Global) {
-    let name = taken::<N>(rt, alloc, LONG);
-    is_vector(rt, must(rt, name.into_str_into_os_string(alloc)), LONG);
-    for (way, kind) in [(Way::Copied, Kind::Inline), (Way::Lent, Kind::Borrowed)] {
-        let name = made::<N>(rt, alloc, way, "abc");
-        is(
-            rt,
-            must_refuse(rt, name.into_str_into_os_string(alloc)),
-            "abc",
-            kind,
+    for (way, text, kind) in WAYS {
+        let name = made::<N>(rt, alloc, *way, text);
+        let clone = must(rt, name.clone(alloc));
+        let wanted = Some((true, *kind));
+        assert_eq!(rt;
+            (clone.into_str_eq(text).ok(), name.into_str_eq(text).ok()),
+            (wanted, wanted)
         );
     }
 }
 
+/// What is lent is shown and given, anything else is handed back, equal to a clone that was made before.
 fn borrows<N: Name>(rt: &impl Abort, alloc: Global) {
-    let lent = N::from_static("abc");
-    assert_eq!(rt; lent.as_borrowed(), Some(b"abc".as_slice()));
-    assert_eq!(rt; must(rt, lent.into_borrowed()), b"abc".as_slice());
-    let copied = must(rt, N::from_str(alloc, "abc"));
-    assert!(rt; copied.as_borrowed().is_none());
-    let back = must_refuse(rt, copied.into_borrowed());
-    is(rt, back, "abc", Kind::Inline);
-    let long = taken::<N>(rt, alloc, LONG);
-    assert!(rt; long.as_borrowed().is_none());
-    is(
-        rt,
-        must_refuse(rt, long.into_borrowed()),
-        LONG,
-        Kind::Allocated,
-    );
-}
-
-fn rooms<N: Name>(rt: &impl Abort, alloc: Global) {
-    let mut string = must(rt, String::with_capacity(alloc, 42));
-    for _ in 0..10 {
-        must(rt, string.push_str("abc"));
-    }
-    let taken = must(rt, N::from_string(alloc, string));
-    let (copied, lent) = (must(rt, N::from_str(alloc, "abc")), N::from_static("abc"));
-    assert_eq!(rt;
-        (copied.capacity(), lent.capacity(), taken.capacity() >= 30),
-        (23, 3, true)
-    );
-}
-
-fn shrinks<N: Name>(rt: &impl Abort, alloc: Global) {
-    for (text, least, most) in [("abc", 23, 23), (LONG, 42, usize::MAX)] {
-        let mut name = must(rt, N::from_str(alloc, text));
-        must(rt, name.shrink_to(alloc, 4));
-        must(rt, name.shrink_to_fit(alloc));
-        let room = name.capacity();
-        assert_eq!(rt; (room >= least, room <= most), (true, true));
-        is_vector(rt, must(rt, name.into_vec_copied(alloc)), text);
+    for (way, text, kind) in WAYS {
+        let name = made::<N>(rt, alloc, *way, text);
+        let clone = must(rt, name.clone(alloc));
+        let is_lent = *kind == Kind::Borrowed;
+        let lent = is_lent.then_some(text.as_bytes());
+        assert_eq!(rt; name.as_borrowed(), lent);
+        match name.into_borrowed() {
+            Ok(bytes) => assert_eq!(rt; Some(bytes), lent),
+            Err(back) => assert_eq!(rt; (are_equal(&back, &clone), is_lent), (true, false)),
+        }
     }
 }
 
-fn shrinks_lent<N: Name>(rt: &impl Abort, alloc: Global) {
-    let mut name = N::from_static("abc");
-    must(rt, name.shrink_to(alloc, 0));
-    let room = name.capacity();
-    must(rt, name.shrink_to_fit(alloc));
-    assert_eq!(rt; (room, name.capacity()), (3, 3));
-}
-
-/// A long name is equal to its bytes, as bytes and as a path.
+/// A name is equal to its bytes, as bytes and as a path, and to another that was made alike, either on the left.
 fn equalities<N: Name>(rt: &impl Abort, alloc: Global) {
-    let (long, bytes) = (taken::<N>(rt, alloc, LONG), LONG.as_bytes());
-    assert_eq!(rt;
-        (
-            long.os_str_eq(bytes),
-            long.path_eq(bytes),
-            long.path_cmp(bytes)
-        ),
-        (true, true, Ordering::Equal)
-    );
+    for (way, text, _) in WAYS {
+        let name = made::<N>(rt, alloc, *way, text);
+        let other = made::<N>(rt, alloc, *way, text);
+        let bytes = text.as_bytes();
+        assert_eq!(rt;
+            (
+                name.os_str_eq(bytes),
+                name.path_eq(bytes),
+                name.path_cmp(bytes)
+            ),
+            (true, true, Ordering::Equal)
+        );
+        assert_eq!(rt;
+            (are_equal(&name, &other), are_equal(&other, &name)),
+            (true, true)
+        );
+    }
 }
 
 /// Adds to the vector that `mutate` lends, and answers how `Debug` showed the guard before.
@@ -209,40 +224,86 @@ fn pushes_by_guard<N: Name>(
     shown
 }
 
+/// A way, the text of the name that it makes and where that lies, what is added through a guard, and what the name holds then, and where.
+type Grown = (Way, &'static str, Kind, &'static str, &'static str, Kind);
+
+const GROWN: &[Grown] = &[
+    (
+        Way::Lent,
+        "abc",
+        Kind::Borrowed,
+        "def",
+        "abcdef",
+        Kind::Inline,
+    ),
+    (
+        Way::Copied,
+        "abc",
+        Kind::Inline,
+        "def",
+        "abcdef",
+        Kind::Inline,
+    ),
+    (
+        Way::TakenWithRoom,
+        LETTERS,
+        Kind::Allocated,
+        "0123456789",
+        "abcdefghijklmnopqrstuvwxyz0123456789",
+        Kind::Allocated,
+    ),
+];
+
+/// To paths a part is added.
+const GROWN_PATHS: &[Grown] = &[
+    (
+        Way::Lent,
+        "abc",
+        Kind::Borrowed,
+        "/def",
+        "abc/def",
+        Kind::Inline,
+    ),
+    (
+        Way::Copied,
+        "abc",
+        Kind::Inline,
+        "/def",
+        "abc/def",
+        Kind::Inline,
+    ),
+    (
+        Way::TakenWithRoom,
+        LETTERS,
+        Kind::Allocated,
+        "/0123456789",
+        "abcdefghijklmnopqrstuvwxyz/0123456789",
+        Kind::Allocated,
+    ),
+];
+
+/// An only handle, and one whose clone, which was made before, keeps what it had.
 fn guards<N: Name>(rt: &impl Abort, alloc: Global) {
-    for way in [Way::Copied, Way::Lent] {
-        let mut name = made::<N>(rt, alloc, way, "abc");
-        let guard = pushes_by_guard(rt, alloc, &mut name, "/def");
-        assert_eq!(rt; guard.as_str(), "[97, 98, 99]");
-        is(rt, name, "abc/def", Kind::Inline);
+    let rows = if N::IS_PATH { GROWN_PATHS } else { GROWN };
+    for (way, text, before, addition, whole, after) in rows {
+        let mut name = made::<N>(rt, alloc, *way, text);
+        drop(pushes_by_guard(rt, alloc, &mut name, addition));
+        is(rt, name, whole, *after);
+        let mut name = made::<N>(rt, alloc, *way, text);
+        let clone = must(rt, name.clone(alloc));
+        drop(pushes_by_guard(rt, alloc, &mut name, addition));
+        is(rt, name, whole, *after);
+        is(rt, clone, text, *before);
     }
 }
 
-/// The letters, with room for more.
-fn roomy<N: Name>(rt: &impl Abort, alloc: Global) -> N {
-    let mut string = must(rt, String::with_capacity(alloc, 42));
-    must(rt, string.push_str(LETTERS));
-    must(rt, N::from_string(alloc, string))
-}
-
-/// Asserts what a long name holds to which digits are added through a guard.
-fn adds_digits<N: Name>(rt: &impl Abort, alloc: Global, mut name: N) {
-    drop(pushes_by_guard(rt, alloc, &mut name, "/0123456789"));
-    is(
-        rt,
-        name,
-        "abcdefghijklmnopqrstuvwxyz/0123456789",
-        Kind::Allocated,
-    );
-}
-
-/// An only handle, and one whose clone, which was made before, keeps what it had.
-fn guards_of_long_names<N: Name>(rt: &impl Abort, alloc: Global) {
-    adds_digits(rt, alloc, roomy::<N>(rt, alloc));
-    let name = roomy::<N>(rt, alloc);
-    let clone = must(rt, name.clone(alloc));
-    adds_digits(rt, alloc, name);
-    is(rt, clone, LETTERS, Kind::Allocated);
+/// A guard is shown as the vector that it lends.
+fn debugs_guards<N: Name>(rt: &impl Abort, alloc: Global) {
+    for way in [Way::Copied, Way::Lent] {
+        let mut name = made::<N>(rt, alloc, way, "abc");
+        let guard = pushes_by_guard(rt, alloc, &mut name, "");
+        assert_eq!(rt; guard.as_str(), "[97, 98, 99]");
+    }
 }
 
 fn debugs<N: Name>(rt: &impl Abort, alloc: Global) {
@@ -250,13 +311,32 @@ fn debugs<N: Name>(rt: &impl Abort, alloc: Global) {
     assert_eq!(rt; said.as_str(), "\"abc\"");
 }
 
+/// What is lent is copied, anything else stays where it lies.
 fn owns<N: Name>(rt: &impl Abort, alloc: Global) {
-    let long = taken::<N>(rt, alloc, LONG);
-    is(rt, must(rt, long.into_owned(alloc)), LONG, Kind::Allocated);
-    for way in [Way::Copied, Way::Lent] {
-        let name = made::<N>(rt, alloc, way, "abc");
-        is(rt, must(rt, name.into_owned(alloc)), "abc", Kind::Inline);
+    for (way, text, kind) in WAYS {
+        let name = made::<N>(rt, alloc, *way, text);
+        let owned_kind = match kind {
+            Kind::Inline | Kind::Borrowed => Kind::Inline,
+            Kind::Allocated => Kind::Allocated,
+        };
+        is(rt, must(rt, name.into_owned(alloc)), text, owned_kind);
     }
+}
+
+/// The first two of 42 stars, which were lent, and all of them, which were copied: their source may be let go.
+fn outlives_its_source<N: Name>(rt: &impl Abort, alloc: Global) {
+    let stars = must(rt, String::from_str(alloc, STARS));
+    let lent = must(rt, stars.get(..2).ok_or("fewer than two"));
+    let owned = must(rt, N::borrowed_into_owned(alloc, lent));
+    let copied = must(rt, N::from_str(alloc, stars.as_str()));
+    drop(stars);
+    is(rt, owned, "**", Kind::Inline);
+    is(
+        rt,
+        must(rt, copied.into_owned(alloc)),
+        STARS,
+        Kind::Allocated,
+    );
 }
 
 fn on_makers<N: Name>(rt: &impl Abort, alloc: Global) {
@@ -264,22 +344,22 @@ fn on_makers<N: Name>(rt: &impl Abort, alloc: Global) {
     makers::<N>(rt, alloc);
     lengths::<N>(rt, alloc);
     owns::<N>(rt, alloc);
+    outlives_its_source::<N>(rt, alloc);
     equalities::<N>(rt, alloc);
 }
 
 fn on_conversions<N: Name>(rt: &impl Abort, alloc: Global) {
     into_vectors::<N>(rt, alloc);
+    into_byte_strings::<N>(rt, alloc);
     into_copies::<N>(rt, alloc);
     into_texts::<N>(rt, alloc);
+    there_and_back::<N>(rt, alloc);
     borrows::<N>(rt, alloc);
 }
 
 fn on_changes<N: Name>(rt: &impl Abort, alloc: Global) {
-    rooms::<N>(rt, alloc);
-    shrinks::<N>(rt, alloc);
-    shrinks_lent::<N>(rt, alloc);
     guards::<N>(rt, alloc);
-    guards_of_long_names::<N>(rt, alloc);
+    debugs_guards::<N>(rt, alloc);
     debugs::<N>(rt, alloc);
 }
 
@@ -288,6 +368,7 @@ fn on<N: Name>(rt: &impl Abort, alloc: Global) {
     on_conversions::<N>(rt, alloc);
     on_changes::<N>(rt, alloc);
     calls::of_either::<N>(rt, alloc);
+    rooms::of_either::<N>(rt, alloc);
     decoding::of_either::<N>(rt);
     maps::of_either::<N>(rt, alloc);
 }
@@ -306,21 +387,13 @@ fn on_paths<N: Name>(rt: &impl Abort, alloc: Global) {
 // That a name is what the tests ask of it costs seconds, and more in a function that is generic in the backend.
 
 #[test]
-fn os_strings_on_rc(rt: HostRuntime) {
+fn os_strings_are_handles_of_bytes(rt: HostRuntime) {
     on_os_strings::<HipOsStr<'static, Rc>>(&rt, rt.alloc());
-}
-
-#[test]
-fn os_strings_on_unique(rt: HostRuntime) {
     on_os_strings::<HipOsStr<'static, Unique>>(&rt, rt.alloc());
 }
 
 #[test]
-fn paths_on_rc(rt: HostRuntime) {
+fn paths_are_compared_by_components(rt: HostRuntime) {
     on_paths::<HipPath<'static, Rc>>(&rt, rt.alloc());
-}
-
-#[test]
-fn paths_on_unique(rt: HostRuntime) {
     on_paths::<HipPath<'static, Unique>>(&rt, rt.alloc());
 }

@@ -18,6 +18,11 @@ pub(crate) fn compared<K: Ord>(left: &K, right: &K) -> (Ordering, Ordering, bool
     (left.cmp(right), right.cmp(left), left == right)
 }
 
+/// Whether two values are equal.
+pub(crate) fn are_equal<V: Eq>(left: &V, right: &V) -> bool {
+    left == right
+}
+
 /// A value as `Debug` shows it.
 pub(crate) fn text_of<T: fmt::Debug>(alloc: Global, value: &T) -> Result<String, AllocError> {
     format!(in alloc; "{value:?}")

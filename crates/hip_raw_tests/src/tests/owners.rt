@@ -38,16 +38,16 @@ fn writes<B: Backend>(owner: &mut B, byte: u8) {
     }
 }
 
-#[test]
-fn unique_owners(rt: HostRuntime) {
-    let alloc = rt.alloc();
+/// Where nothing is shared, both hand out the byte that they were given, and both are written in place.
+fn both_are_sole(rt: &impl Abort, alloc: Global) {
     let mut meter = Meter::new();
-    let (mut first, mut second) = parted::<Unique>(&rt, alloc, &mut meter, 2);
-    assert!(rt; first.writable().is_some());
-    writes(&mut second, 2);
-    assert_eq!(rt; second.as_slice(), [2].as_slice());
-    hands_out(&rt, alloc, first, &[1], &mut meter);
-    hands_out(&rt, alloc, second, &[2], &mut meter);
+    let (mut first, mut second) = parted::<Unique>(rt, alloc, &mut meter, 2);
+    assert_eq!(rt;
+        (first.writable().is_some(), second.writable().is_some()),
+        (true, true)
+    );
+    hands_out(rt, alloc, first, &[1], &mut meter);
+    hands_out(rt, alloc, second, &[1], &mut meter);
 }
 
 /// Asserts that a shared owner hands out no vector, and lets go of it.
@@ -55,21 +55,46 @@ fn lets_go<B: Backend>(rt: &impl Abort, alloc: Global, owner: B, meter: &mut Met
     drop(must_refuse(rt, owner.try_into_vec(alloc, meter)));
 }
 
-#[test]
-fn shared_owners(rt: HostRuntime) {
-    let alloc = rt.alloc();
+/// Where one owner is shared, the first hands out the byte once the second is gone.
+fn the_last_is_sole(rt: &impl Abort, alloc: Global) {
     let mut meter = Meter::new();
-    let (mut first, mut second) = parted::<Rc>(&rt, alloc, &mut meter, 0);
-    assert!(rt; first.writable().is_none());
-    assert!(rt; second.writable().is_none());
-    lets_go(&rt, alloc, second, &mut meter);
-    is_sole(&rt, alloc, first, meter);
+    let (mut first, mut second) = parted::<Rc>(rt, alloc, &mut meter, 0);
+    assert_eq!(rt;
+        (first.writable().is_none(), second.writable().is_none()),
+        (true, true)
+    );
+    lets_go(rt, alloc, second, &mut meter);
+    assert!(rt; first.writable().is_some());
+    hands_out(rt, alloc, first, &[1], &mut meter);
+    assert_eq!(rt; meter.copied(), 0);
 }
 
-/// Asserts that an owner, of which no other is left, is written in place.
-fn is_sole<B: Backend>(rt: &impl Abort, alloc: Global, mut owner: B, mut meter: Meter) {
-    assert!(rt; owner.writable().is_some());
-    assert_eq!(rt; owner.append(alloc, 0, b"ab", &mut meter), Appended::Done);
-    hands_out(rt, alloc, owner, b"ab", &mut meter);
+#[test]
+fn an_owner_hands_out_the_byte_that_it_was_given(rt: HostRuntime) {
+    both_are_sole(&rt, rt.alloc());
+    the_last_is_sole(&rt, rt.alloc());
+}
+
+/// What is written in one owner doesn't show in its part.
+#[test]
+fn an_owner_of_its_own_is_written_alone(rt: HostRuntime) {
+    let alloc = rt.alloc();
+    let (first, mut second) = parted::<Unique>(&rt, alloc, &mut Meter::new(), 2);
+    writes(&mut second, 2);
+    assert_eq!(rt;
+        (first.as_slice(), second.as_slice()),
+        ([1].as_slice(), [2].as_slice())
+    );
+    hands_out(&rt, alloc, second, &[2], &mut Meter::new());
+}
+
+#[test]
+fn the_last_owner_is_written_in_place(rt: HostRuntime) {
+    let alloc = rt.alloc();
+    let mut meter = Meter::new();
+    let (mut first, second) = parted::<Rc>(&rt, alloc, &mut meter, 0);
+    drop(second);
+    assert_eq!(rt; first.append(alloc, 0, b"ab", &mut meter), Appended::Done);
+    hands_out(&rt, alloc, first, b"ab", &mut meter);
     assert_eq!(rt; meter.copied(), 2);
 }

@@ -58,11 +58,13 @@ fn roomy(rt: &impl Abort, alloc: Global, bytes: &[u8]) -> Vec<u8> {
 fn made<H: Handle>(rt: &impl Abort, alloc: Global, trial: Trial) -> (H, Option<H>) {
     let handle = match trial.held {
         Held::Lent => must(rt, H::lent(trial.bytes)),
-        _ => must(rt, H::of_vec(alloc, roomy(rt, alloc, trial.bytes))),
+        Held::Inline | Held::Sole | Held::Shared => {
+            must(rt, H::of_vec(alloc, roomy(rt, alloc, trial.bytes)))
+        }
     };
     let clone = match trial.held {
         Held::Shared => Some(must(rt, handle.clone(alloc))),
-        _ => None,
+        Held::Inline | Held::Lent | Held::Sole => None,
     };
     (handle, clone)
 }
@@ -79,10 +81,10 @@ fn changed<H: Handle>(rt: &impl Abort, alloc: Global, trial: Trial, change: Chan
     let (mut other, _clone) = made::<H>(rt, alloc, trial);
     let (_, before) = handle.seen();
     refuse(alloc, trial.k);
-    let is_done = handle.change(alloc, change);
+    let is_done = handle.change(rt, alloc, change);
     let refused = was_refused(alloc);
     if is_done {
-        assert!(rt; other.change(alloc, change));
+        assert!(rt; other.change(rt, alloc, change));
         is_same(rt, &handle, &other);
     } else {
         assert!(rt; refused);
@@ -95,9 +97,9 @@ fn changed<H: Handle>(rt: &impl Abort, alloc: Global, trial: Trial, change: Chan
 fn copied<H: Handle>(rt: &impl Abort, alloc: Global, trial: Trial, copying: Copying) -> bool {
     let (handle, _clone) = made::<H>(rt, alloc, trial);
     let (_, before) = handle.seen();
-    let wanted = must(rt, handle.copy(alloc, copying));
+    let wanted = must(rt, handle.copy(rt, alloc, copying));
     refuse(alloc, trial.k);
-    let copy = handle.copy(alloc, copying);
+    let copy = handle.copy(rt, alloc, copying);
     let refused = was_refused(alloc);
     match copy {
         Ok(copy) => is_same(rt, &copy, &wanted),
@@ -110,7 +112,7 @@ fn copied<H: Handle>(rt: &impl Abort, alloc: Global, trial: Trial, copying: Copy
 /// Whether a conversion is refused where memory is ample, as one is that hands the value back by its kind.
 fn is_never<H: Handle>(rt: &impl Abort, alloc: Global, trial: Trial, to: Conversion) -> bool {
     let (handle, _clone) = made::<H>(rt, alloc, trial);
-    handle.convert(alloc, to, trial.bytes).is_err()
+    handle.convert(rt, alloc, to, trial.bytes).is_err()
 }
 
 fn converted<H: Handle>(rt: &impl Abort, alloc: Global, trial: Trial, to: Conversion) -> bool {
@@ -118,7 +120,7 @@ fn converted<H: Handle>(rt: &impl Abort, alloc: Global, trial: Trial, to: Conver
     let (handle, clone) = made::<H>(rt, alloc, trial);
     let (_, before) = handle.seen();
     refuse(alloc, trial.k);
-    let outcome = handle.convert(alloc, to, trial.bytes);
+    let outcome = handle.convert(rt, alloc, to, trial.bytes);
     let refused = was_refused(alloc);
     match outcome {
         Ok(is_same) => assert!(rt; is_same),
@@ -135,7 +137,7 @@ fn taken<H: Handle>(rt: &impl Abort, alloc: Global, taking: Taking, k: usize) ->
     let vec = roomy(rt, alloc, BYTES);
     let room = vec.capacity();
     refuse(alloc, k);
-    let outcome = H::take(alloc, taking, vec);
+    let outcome = H::take(rt, alloc, taking, vec);
     let refused = was_refused(alloc);
     match outcome {
         Ok(handle) => assert!(rt; handle.seen().0 == BYTES),
@@ -146,9 +148,9 @@ fn taken<H: Handle>(rt: &impl Abort, alloc: Global, taking: Taking, k: usize) ->
 
 fn makes<H: Handle>(rt: &impl Abort, alloc: Global, making: Making, k: usize) -> bool {
     let value = must(rt, H::value(alloc));
-    let wanted = must(rt, H::make(alloc, making, &value));
+    let wanted = must(rt, H::make(rt, alloc, making, &value));
     refuse(alloc, k);
-    let outcome = H::make(alloc, making, &value);
+    let outcome = H::make(rt, alloc, making, &value);
     let refused = was_refused(alloc);
     match outcome {
         Ok(handle) => is_same(rt, &handle, &wanted),
@@ -161,7 +163,7 @@ fn told<H: Handle>(rt: &impl Abort, alloc: Global, trial: Trial, telling: Tellin
     let (handle, _clone) = made::<H>(rt, alloc, trial);
     let (_, before) = handle.seen();
     refuse(alloc, trial.k);
-    let is_told = handle.tell(alloc, telling);
+    let is_told = handle.tell(rt, alloc, telling);
     let refused = was_refused(alloc);
     assert!(rt; is_told | refused);
     is_kept(rt, &handle, trial.bytes, before);
@@ -175,10 +177,7 @@ fn lent<H: Handle>(rt: &impl Abort, alloc: Global, trial: Trial, lending: Lendin
     let (mut handle, clone) = made::<H>(rt, alloc, trial);
     let (_, before) = handle.seen();
     refuse(alloc, trial.k);
-    let outcome = match lending {
-        Lending::Guard => handle.lend_guard(alloc),
-        Lending::Closure => handle.lend_closure(alloc),
-    };
+    let outcome = handle.lend(rt, alloc, lending);
     let refused = was_refused(alloc);
     match outcome {
         Ok(()) => assert!(rt; handle.seen().0 == trial.bytes),

@@ -19,7 +19,7 @@ const SHORT: &str = "a,b,c,d,e\nf,g\n";
 fn letters(held: Held) -> &'static str {
     match held {
         Held::Inline => SHORT,
-        _ => LONG,
+        Held::Lent | Held::Sole | Held::Shared => LONG,
     }
 }
 

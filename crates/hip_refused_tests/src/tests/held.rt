@@ -43,11 +43,32 @@ pub(crate) const ADDED: &str = "0123456789abcdefghijklmnopqrstuvwxyz";
 /// The same as bytes.
 pub(crate) const ADDED_BYTES: &[u8] = b"0123456789abcdefghijklmnopqrstuvwxyz";
 
+/// What a text has.
+pub(crate) const TEXTS: &[&[u8]] = &[BYTES];
+
+/// What bytes have that need be no text.
+pub(crate) const LISTS: &[&[u8]] = &[BYTES, BROKEN];
+
+/// A form of 30 bytes.
+pub(crate) const FORM: &[u8] = b"\x1E\x00\x00\x00aaaaaaaaaaaaaaaaaaaaaaaaaaaaaa";
+
+/// Units of a text of 30 bytes, and one more that has no partner.
+pub(crate) const UNITS: &[u16] = &[0x6F22; 10];
+
+pub(crate) const UNITS_AND_ONE: &[u16] = &[
+    0x6F22, 0x6F22, 0x6F22, 0x6F22, 0x6F22, 0x6F22, 0x6F22, 0xD83D,
+];
+
+/// Pieces that are put together.
+pub(crate) const PARTS: [&[u8]; 3] = [PART_BYTES, b"", PART_BYTES];
+
+pub(crate) const TEXT_PARTS: [&str; 3] = [PART, "", PART];
+
 /// Bytes that are held so: all of them, or a front that fits a handle.
 pub(crate) fn bytes_of(held: Held, bytes: &'static [u8]) -> &'static [u8] {
     match held {
         Held::Inline => bytes.get(..3).unwrap_or_default(),
-        _ => bytes,
+        Held::Lent | Held::Sole | Held::Shared => bytes,
     }
 }
 
@@ -60,11 +81,11 @@ pub(crate) fn text_of<B: Backend>(
 ) -> (HipStr<'static, B>, Option<HipStr<'static, B>>) {
     let text = match held {
         Held::Lent => HipStr::borrowed(letters),
-        _ => must(rt, HipStr::from_str(alloc, letters)),
+        Held::Inline | Held::Sole | Held::Shared => must(rt, HipStr::from_str(alloc, letters)),
     };
     let clone = match held {
         Held::Shared => Some(must(rt, text.clone(alloc))),
-        _ => None,
+        Held::Inline | Held::Lent | Held::Sole => None,
     };
     (text, clone)
 }

@@ -68,6 +68,22 @@ fn long_values_shared_take_none(rt: HostRuntime) {
     assert!(&rt; cut(&rt, rt.alloc(), &text) <= 9_000);
 }
 
+const LETTERS: &[u8] = b"abcdefghijklmnopqrstuvwxyz";
+
+/// A push of nothing on a shared owner: neither a copy nor an owner of its own.
+#[test]
+fn nothing_pushed_on_a_clone_takes_none(rt: HostRuntime) {
+    let letters = must(&rt, HipByt::<Rc>::from_slice(rt.alloc(), LETTERS));
+    let mut clone = must(&rt, letters.clone(rt.alloc()));
+    refuse(rt.alloc(), 1);
+    must(&rt, clone.push_slice(rt.alloc(), b""));
+    assert!(&rt; !was_refused(rt.alloc()));
+    assert_eq!(&rt;
+        (clone.as_slice(), clone.kind(), letters.as_slice()),
+        (LETTERS, Kind::Allocated, LETTERS)
+    );
+}
+
 /// Appends that fit, and a loan for writing.
 #[test]
 fn room_filled_takes_none(rt: HostRuntime) {

@@ -1,6 +1,6 @@
 //! The calls of each type that can take memory.
 use super::calls::{Call, on_both};
-use super::handle::{Change, Conversion, Copying, Lending, Making, Taking, Telling};
+use super::handle::{Change, Conversion, Copying, Cut, Lending, Making, Taking, Telling};
 use hipstr::bytes::HipByt;
 use hipstr::os_string::HipOsStr;
 use hipstr::path::HipPath;
@@ -8,97 +8,104 @@ use hipstr::string::HipStr;
 use hipstr::{Allocated, Rc, Unique};
 
 const OF_OWNERS: &[Call] = &[
-    Call::Change(Change::PushMany),
-    Call::Change(Change::Shrink),
-    Call::Copying(Copying::Slice),
-    Call::Conversion(Conversion::Vector),
-    Call::Taking(Taking::Vector),
-    Call::Making(Making::Copied),
-    Call::Making(Making::Vector),
+    Call::Change(Change::PushSlice),
+    Call::Change(Change::ShrinkTo),
+    Call::Copying(Copying::SliceUnchecked),
+    Call::Conversion(Conversion::TryIntoVec),
+    Call::Taking(Taking::New),
+    Call::Making(Making::FromSlice),
+    Call::Making(Making::CopyCounted),
 ];
 
 /// What all handles have.
 const OF_ALL: &[Call] = &[
-    Call::Change(Change::Shrink),
+    Call::Change(Change::ShrinkTo),
     Call::Change(Change::ShrinkToFit),
     Call::Copying(Copying::Clone),
-    Call::Conversion(Conversion::Owned),
-    Call::Making(Making::Copied),
-    Call::Making(Making::Json),
-    Call::Telling(Telling::Json),
-    Call::Lending(Lending::Guard),
-    Call::Lending(Lending::Closure),
+    Call::Conversion(Conversion::IntoOwned),
+    Call::Making(Making::FromJson),
+    Call::Telling(Telling::ToJson),
+    Call::Lending(Lending::Mutate),
+    Call::Lending(Lending::WithMutated),
 ];
 
 /// What byte strings and texts have.
 const OF_LISTS: &[Call] = &[
     Call::Change(Change::Push),
-    Call::Change(Change::PushMany),
-    Call::Change(Change::Upper),
-    Call::Change(Change::Lower),
+    Call::Change(Change::MakeAsciiUppercase),
+    Call::Change(Change::MakeAsciiLowercase),
     Call::Copying(Copying::Slice),
     Call::Copying(Copying::SliceUnchecked),
     Call::Copying(Copying::TrySlice),
     Call::Copying(Copying::TrySliceBounds),
     Call::Copying(Copying::Repeat),
     Call::Copying(Copying::RepeatOnce),
-    Call::Copying(Copying::Upper),
-    Call::Copying(Copying::Lower),
-    Call::Conversion(Conversion::Vector),
-    Call::Conversion(Conversion::VectorCopied),
-    Call::Conversion(Conversion::Cow),
-    Call::Taking(Taking::Vector),
-    Call::Taking(Taking::Cow),
-    Call::Making(Making::Room),
+    Call::Copying(Copying::ToAsciiUppercase),
+    Call::Copying(Copying::ToAsciiLowercase),
+    Call::Conversion(Conversion::IntoCow),
+    Call::Taking(Taking::FromCow),
+    Call::Making(Making::WithCapacity),
     Call::Making(Making::ConcatSlices),
     Call::Making(Making::Concat),
     Call::Making(Making::JoinSlices),
     Call::Making(Making::Join),
-    Call::Making(Making::Borsh),
-    Call::Telling(Telling::Borsh),
+    Call::Making(Making::DeserializeReader),
+    Call::Telling(Telling::Serialize),
 ];
 
 const OF_BYTES: &[Call] = &[
-    Call::Change(Change::Write),
-    Call::Change(Change::WriteWithin),
-    Call::Conversion(Conversion::RepairedText),
+    Call::Change(Change::PushSlice),
+    Call::Change(Change::ToMutSlice),
+    Call::Change(Change::WithToMutSlice),
+    Call::Conversion(Conversion::IntoVec),
+    Call::Conversion(Conversion::IntoVecCopied),
+    Call::Conversion(Conversion::FromUtf8Lossy),
+    Call::Taking(Taking::FromVec),
+    Call::Making(Making::FromSlice),
 ];
 
 const OF_TEXTS: &[Call] = &[
-    Call::Taking(Taking::Text),
-    Call::Making(Making::TrySlice),
-    Call::Making(Making::Utf16),
-    Call::Making(Making::Utf16Repaired),
+    Call::Change(Change::PushStr),
+    Call::Conversion(Conversion::IntoString),
+    Call::Conversion(Conversion::IntoStringCopied),
+    Call::Taking(Taking::FromString),
+    Call::Taking(Taking::TryFromVec),
+    Call::Making(Making::FromStr),
+    Call::Making(Making::TryFromSlice),
+    Call::Making(Making::FromUtf16),
+    Call::Making(Making::FromUtf16Lossy),
 ];
 
 const OF_CUTS: &[Call] = &[
-    Call::Copying(Copying::Trim),
-    Call::Copying(Copying::TrimStart),
-    Call::Copying(Copying::TrimEnd),
-    Call::Copying(Copying::TrimMatches),
-    Call::Copying(Copying::TrimStartMatches),
-    Call::Copying(Copying::TrimEndMatches),
-    Call::Copying(Copying::StripPrefix),
-    Call::Copying(Copying::StripSuffix),
-    Call::Copying(Copying::SplitOnce),
-    Call::Copying(Copying::RSplitOnce),
-    Call::Copying(Copying::Collect),
-    Call::Copying(Copying::CollectMatches),
+    Call::Copying(Copying::Cut(Cut::Trim)),
+    Call::Copying(Copying::Cut(Cut::TrimStart)),
+    Call::Copying(Copying::Cut(Cut::TrimEnd)),
+    Call::Copying(Copying::Cut(Cut::TrimMatches)),
+    Call::Copying(Copying::Cut(Cut::TrimStartMatches)),
+    Call::Copying(Copying::Cut(Cut::TrimEndMatches)),
+    Call::Copying(Copying::Cut(Cut::StripPrefix)),
+    Call::Copying(Copying::Cut(Cut::StripSuffix)),
+    Call::Copying(Copying::Cut(Cut::SplitOnce)),
+    Call::Copying(Copying::Cut(Cut::RsplitOnce)),
+    Call::Copying(Copying::Cut(Cut::Split)),
+    Call::Copying(Copying::Cut(Cut::MatchIndices)),
 ];
 
 const OF_OS_STRINGS: &[Call] = &[
-    Call::Change(Change::PushMany),
-    Call::Copying(Copying::ToText),
-    Call::Copying(Copying::ToRepairedText),
-    Call::Conversion(Conversion::OsString),
-    Call::Taking(Taking::Text),
-    Call::Making(Making::Room),
+    Call::Change(Change::Push),
+    Call::Copying(Copying::ToStr),
+    Call::Copying(Copying::ToStrLossy),
+    Call::Conversion(Conversion::IntoOsString),
+    Call::Taking(Taking::FromString),
+    Call::Making(Making::WithCapacity),
+    Call::Making(Making::FromStr),
 ];
 
 const OF_PATHS: &[Call] = &[
-    Call::Conversion(Conversion::OsString),
-    Call::Conversion(Conversion::Vector),
-    Call::Taking(Taking::Text),
+    Call::Conversion(Conversion::IntoOsString),
+    Call::Conversion(Conversion::IntoPathBuf),
+    Call::Taking(Taking::FromString),
+    Call::Making(Making::FromStr),
 ];
 
 #[test]

@@ -17,8 +17,14 @@ enum Walk {
     RSplit,
     Matches,
     Lines,
+    Placed(Placed),
+}
+
+/// A walk whose pieces have their places.
+#[derive(Clone, Copy)]
+enum Placed {
     MatchIndices,
-    RMatchIndices,
+    RmatchIndices,
     PiecesAt,
 }
 
@@ -28,9 +34,9 @@ const WALKS: &[Walk] = &[
     Walk::RSplit,
     Walk::Matches,
     Walk::Lines,
-    Walk::MatchIndices,
-    Walk::RMatchIndices,
-    Walk::PiecesAt,
+    Walk::Placed(Placed::MatchIndices),
+    Walk::Placed(Placed::RmatchIndices),
+    Walk::Placed(Placed::PiecesAt),
 ];
 
 /// How many items a walk gave, and how many of them were errors.
@@ -100,15 +106,17 @@ fn walked<B: Backend>(text: &HipStr<'_, B>, alloc: Global, walk: Walk) -> Tally 
         Walk::RSplit => given(text.rsplit(alloc, ',')),
         Walk::Matches => given(text.matches(alloc, PART)),
         Walk::Lines => given(text.lines(alloc)),
-        _ => walked_with_places(text, alloc, walk),
+        Walk::Placed(placed) => walked_with_places(text, alloc, placed),
     }
 }
 
-fn walked_with_places<B: Backend>(text: &HipStr<'_, B>, alloc: Global, walk: Walk) -> Tally {
-    match walk {
-        Walk::MatchIndices => given_with_places(text.match_indices(alloc, PART)),
-        Walk::RMatchIndices => given_with_places(text.rmatch_indices(alloc, PART)),
-        _ => given_with_places(text.pieces_at(alloc, Split::new(text.as_str(), ','))),
+fn walked_with_places<B: Backend>(text: &HipStr<'_, B>, alloc: Global, placed: Placed) -> Tally {
+    match placed {
+        Placed::MatchIndices => given_with_places(text.match_indices(alloc, PART)),
+        Placed::RmatchIndices => given_with_places(text.rmatch_indices(alloc, PART)),
+        Placed::PiecesAt => {
+            given_with_places(text.pieces_at(alloc, Split::new(text.as_str(), ',')))
+        }
     }
 }
 
@@ -116,7 +124,7 @@ fn walked_with_places<B: Backend>(text: &HipStr<'_, B>, alloc: Global, walk: Wal
 fn letters(held: Held) -> &'static str {
     match held {
         Held::Inline => " a,",
-        _ => TEXT,
+        Held::Lent | Held::Sole | Held::Shared => TEXT,
     }
 }
 

@@ -1,6 +1,6 @@
-//! What hipstr's own tests ask of texts, and the worked rows.
-use super::suite::{Suite, run_on_rc, run_on_unique};
-use super::support::{is, must, reads};
+//! What hipstr's own tests ask of texts, and worked cases.
+use super::suite::{Suite, run_on_each};
+use super::support::{holds, is, must, reads};
 use super::text::{Bytes, Text};
 use hip_text::{Backend, HipStr, Kind, Meter, Rc, Unique};
 use std::alloc::Global;
@@ -20,10 +20,16 @@ const LETTERS: &str = "abcdefghijklmnopqrstuvwxyz";
 
 const LONG: &str = "aaaaaaaaaaaaaaaaaaaaaaaaaaaaaaaaaaaaaaaaaa";
 
+const CAPITALS: &str = "AAAAAAAAAAAAAAAAAAAAAAAAAAAAAAAAAAAAAAAAAA";
+
+const STARS: &str = "******************************************";
+
 /// A way, the text that it makes here, and where its bytes lie then.
 const WAYS: &[(Way, &str, Kind)] = &[
     (Way::Taken, LONG, Kind::Allocated),
+    (Way::Taken, STARS, Kind::Allocated),
     (Way::Taken, LETTERS, Kind::Allocated),
+    (Way::Copied, LETTERS, Kind::Allocated),
     (Way::Copied, "abc", Kind::Inline),
     (Way::Lent, "abc", Kind::Borrowed),
 ];
@@ -43,7 +49,7 @@ fn made<T: Text>(rt: &impl Abort, alloc: Global, way: Way, text: &'static str) -
 fn into_strings<T: Text>(rt: &impl Abort, alloc: Global) {
     for (way, text, kind) in WAYS {
         let value = made::<T>(rt, alloc, *way, text);
-        assert_eq!(rt; value.kind(), *kind);
+        holds(rt, &value, text, *kind);
         let string = must(rt, value.into_string_copied(alloc));
         reads(rt, string.as_str(), text);
     }
@@ -87,6 +93,8 @@ fn from_bytes<T: Text>(rt: &impl Abort, alloc: Global) {
     let text = must(rt, T::from_utf8(must(rt, lent.clone(alloc))));
     is(rt, text, LETTERS, Kind::Borrowed);
     is(rt, must(rt, T::from_utf8(lent)), LETTERS, Kind::Borrowed);
+    let copied = must(rt, T::Bytes::from_slice(alloc, LETTERS.as_bytes()));
+    is(rt, must(rt, T::from_utf8(copied)), LETTERS, Kind::Allocated);
 }
 
 fn from_slices<T: Text>(rt: &impl Abort, alloc: Global) {
@@ -100,18 +108,57 @@ fn from_vectors<T: Text>(rt: &impl Abort, alloc: Global) {
     is(rt, taken, LONG, Kind::Allocated);
 }
 
-/// Texts compare by their bytes, wherever these lie.
+/// A text, and how `bb` is ordered to it.
+const ORDERED: &[(&str, Ordering)] = &[
+    ("bc", Ordering::Less),
+    ("ba", Ordering::Greater),
+    ("bb", Ordering::Equal),
+];
+
+/// Texts compare by their bytes, also with what a string lends.
 fn order<T: Text>(rt: &impl Abort, alloc: Global) {
     let bb = T::borrowed("bb");
-    let string = must(rt, String::from_str(alloc, "bc"));
-    let bc = string.as_str();
-    assert_eq!(rt;
-        (bb.cmp(&bb), T::cmp_borrowed("bb", bc)),
-        (Ordering::Equal, Ordering::Less)
+    for (other, order) in ORDERED {
+        let string = must(rt, String::from_str(alloc, other));
+        let lent = string.as_str();
+        assert_eq!(rt;
+            (
+                bb.cmp(&T::borrowed(other)),
+                bb.str_cmp(lent),
+                bb.cmp_with(lent)
+            ),
+            (*order, *order, *order)
+        );
+        assert_eq!(rt;
+            (
+                bb.str_cmp(other),
+                T::cmp_borrowed("bb", lent),
+                T::cmp_borrowed(lent, "bb")
+            ),
+            (*order, *order, order.reverse())
+        );
+    }
+}
+
+/// A copied text and a lent one are equal, either on the left, and to themselves, but not to a part.
+fn equality_wherever_they_lie<T: Text>(rt: &impl Abort, alloc: Global) {
+    let (copied, lent) = (
+        must(rt, T::from_str(alloc, CAPITALS)),
+        T::borrowed(CAPITALS),
     );
     assert_eq!(rt;
-        (T::cmp_borrowed(bc, "bb"), bb.str_cmp(bc)),
-        (Ordering::Greater, Ordering::Less)
+        (
+            copied == copied,
+            lent == lent,
+            copied == lent,
+            lent == copied
+        ),
+        (true, true, true, true)
+    );
+    let front = must(rt, lent.slice(alloc, 0..4));
+    assert_eq!(rt;
+        (lent == front, copied.str_eq(CAPITALS), front.as_str()),
+        (false, true, "AAAA")
     );
 }
 
@@ -193,6 +240,7 @@ impl Suite for Carried {
         from_vectors::<T>(rt, alloc);
         order::<T>(rt, alloc);
         equality::<T>(rt, alloc);
+        equality_wherever_they_lie::<T>(rt, alloc);
         outlives::<T>(rt, alloc);
         example::<T>(rt, alloc);
         pushes::<T>(rt, alloc);
@@ -201,13 +249,8 @@ impl Suite for Carried {
 }
 
 #[test]
-fn on_rc(rt: HostRuntime) {
-    run_on_rc::<Carried>(&rt, rt.alloc());
-}
-
-#[test]
-fn on_unique(rt: HostRuntime) {
-    run_on_unique::<Carried>(&rt, rt.alloc());
+fn texts_are_their_bytes_wherever_they_lie(rt: HostRuntime) {
+    run_on_each::<Carried>(&rt, rt.alloc());
 }
 
 /// What borrows from a string stays borrowed, beside what borrows from elsewhere.

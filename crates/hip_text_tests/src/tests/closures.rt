@@ -92,11 +92,7 @@ fn finds<B: Backend>(alloc: Global) -> bool {
 }
 
 #[test]
-fn on_rc(rt: HostRuntime) {
+fn closures_are_patterns(rt: HostRuntime) {
     assert!(rt; splits::<Rc>(rt.alloc()) & finds::<Rc>(rt.alloc()) & goes(rt.alloc()));
-}
-
-#[test]
-fn on_unique(rt: HostRuntime) {
     assert!(rt; splits::<Unique>(rt.alloc()) & finds::<Unique>(rt.alloc()));
 }

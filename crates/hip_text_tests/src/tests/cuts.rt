@@ -85,11 +85,7 @@ fn cuts<B: Backend>(rt: &impl Abort, alloc: Global) {
 }
 
 #[test]
-fn cuts_on_rc(rt: HostRuntime) {
+fn cuts_take_matches_off(rt: HostRuntime) {
     cuts::<Rc>(&rt, rt.alloc());
-}
-
-#[test]
-fn cuts_on_unique(rt: HostRuntime) {
     cuts::<Unique>(&rt, rt.alloc());
 }

@@ -1,5 +1,5 @@
 //! Bytes that are UTF-8, that aren't, and their repair.
-use super::suite::{Suite, run_on_rc, run_on_unique};
+use super::suite::{Suite, run_on_each};
 use super::support::{cause_of, debugged, must, must_refuse, reads, shown};
 use super::text::{Bytes, FromUtf8Error, Text};
 use hip_text::Kind;
@@ -136,11 +136,6 @@ impl Suite for Decoding {
 }
 
 #[test]
-fn on_rc(rt: HostRuntime) {
-    run_on_rc::<Decoding>(&rt, rt.alloc());
-}
-
-#[test]
-fn on_unique(rt: HostRuntime) {
-    run_on_unique::<Decoding>(&rt, rt.alloc());
+fn bytes_are_read_as_utf8_or_repaired(rt: HostRuntime) {
+    run_on_each::<Decoding>(&rt, rt.alloc());
 }

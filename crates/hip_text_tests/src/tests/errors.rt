@@ -1,6 +1,6 @@
 //! Ranges that are refused, and bytes that aren't a text.
 use super::faults::{Refusal, Told};
-use super::suite::{Suite, run_on_rc, run_on_unique};
+use super::suite::{Suite, run_on_each};
 use super::support::{cause_of, is, must, must_refuse, reads, shown};
 use super::text::{Bytes, FromUtf8Error, Text};
 use hip_text::{BytesFault, Kind, SliceErrorKind};
@@ -110,6 +110,80 @@ const OF_ONE: &[Refused] = &[
     ),
 ];
 
+/// Of the bytes 61 C3 A9 F0 9F 98 80: numbers are looked at before boundaries.
+const OF_FOUR: &[Refused] = &[
+    (
+        Included(2),
+        Unbounded,
+        START_MID,
+        2,
+        7,
+        "range start index 2 is not a char boundary of `aé😀`",
+    ),
+    (
+        Included(2),
+        Excluded(2),
+        START_MID,
+        2,
+        2,
+        "range start index 2 is not a char boundary of `aé😀`",
+    ),
+    (
+        Included(0),
+        Excluded(2),
+        END_MID,
+        0,
+        2,
+        "range end index 2 is not a char boundary of `aé😀`",
+    ),
+    (
+        Included(3),
+        Excluded(5),
+        END_MID,
+        3,
+        5,
+        "range end index 5 is not a char boundary of `aé😀`",
+    ),
+    (
+        Included(2),
+        Excluded(8),
+        END_OUT,
+        2,
+        8,
+        "range end index 8 is out of bounds of `aé😀`",
+    ),
+    (
+        Included(5),
+        Excluded(4),
+        TURNED,
+        5,
+        4,
+        "range starts at 5 but ends at 4 when slicing `aé😀`",
+    ),
+];
+
+/// Two places that are a range of `aé😀`, and the part.
+const PARTS: &[(usize, usize, &str)] = &[(1, 3, "é"), (3, 7, "😀")];
+
+fn parts<T: Text>(rt: &impl Abort, alloc: Global) {
+    for (start, end, text) in PARTS {
+        let part = must(rt, T::borrowed("aé😀").slice(alloc, *start..*end));
+        is(rt, part, text, Kind::Borrowed);
+    }
+}
+
+/// An error as `Debug` shows it.
+fn refused_debug<T: Text>(rt: &impl Abort, alloc: Global) {
+    match T::borrowed("abc").try_slice_bounds(alloc, Included(0), Excluded(4)) {
+        Err(Refusal::Slice(told)) => reads(
+            rt,
+            told.debug.as_str(),
+            "SliceError { kind: EndOutOfBounds, start: 0, end: 4, string: \"abc\" }",
+        ),
+        _ => panic!(rt; "no range was refused"),
+    }
+}
+
 fn refuses<T: Text>(rt: &impl Abort, alloc: Global, source: &'static str, rows: &[Refused]) {
     for row in rows {
         match T::borrowed(source).try_slice_bounds(alloc, row.0, row.1) {
@@ -143,8 +217,9 @@ fn is_kept<T: Text>(rt: &impl Abort, bytes: T::Bytes, kind: Kind) {
     );
 }
 
-/// Alone, and with an owner that has room.
+/// Lent, alone, and with an owner that has room.
 fn not_utf8<T: Text>(rt: &impl Abort, alloc: Global) {
+    is_kept::<T>(rt, T::Bytes::borrowed(b"abc\xFF"), Kind::Borrowed);
     let bytes = must(rt, T::Bytes::from_slice(alloc, b"abc\xFF"));
     is_kept::<T>(rt, bytes, Kind::Inline);
     let mut roomy = must(rt, T::Bytes::with_capacity(alloc, 42));
@@ -190,6 +265,9 @@ impl Suite for TextErrors {
     fn run<T: Text>(rt: &impl Abort, alloc: Global) {
         refuses::<T>(rt, alloc, "aéz", OF_THREE);
         refuses::<T>(rt, alloc, "é", OF_ONE);
+        refuses::<T>(rt, alloc, "aé😀", OF_FOUR);
+        parts::<T>(rt, alloc);
+        refused_debug::<T>(rt, alloc);
         not_utf8::<T>(rt, alloc);
         text_of_the_error::<T>(rt, alloc);
         not_utf8_in_a_slice::<T>(rt, alloc);
@@ -199,11 +277,6 @@ impl Suite for TextErrors {
 }
 
 #[test]
-fn on_rc(rt: HostRuntime) {
-    run_on_rc::<TextErrors>(&rt, rt.alloc());
-}
-
-#[test]
-fn on_unique(rt: HostRuntime) {
-    run_on_unique::<TextErrors>(&rt, rt.alloc());
+fn ranges_and_bytes_are_refused_with_a_text(rt: HostRuntime) {
+    run_on_each::<TextErrors>(&rt, rt.alloc());
 }

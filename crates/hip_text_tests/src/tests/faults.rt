@@ -5,7 +5,7 @@ use std::ops::Range;
 /// A part of a text, or why there is none.
 pub type Part<S> = Result<S, RangeFault>;
 
-/// What a `SliceError` tells, by its calls and as `Display` shows it.
+/// What a `SliceError` tells, by its calls and as it is shown.
 #[derive(Drop)]
 pub struct Told {
     pub source: String,
@@ -14,6 +14,7 @@ pub struct Told {
     pub end: usize,
     pub range: Range<usize>,
     pub display: String,
+    pub debug: String,
 }
 
 /// Why `try_slice_bounds` gave no part.

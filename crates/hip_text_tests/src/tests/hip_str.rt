@@ -1,6 +1,6 @@
 //! A text on any backend is what the tests ask of one.
 use super::faults::{Part, RangeFault, Refusal, Told};
-use super::support::shown;
+use super::support::both_shown;
 use super::text::{Bytes, FromUtf8Error, Text};
 use hip_text::{
     Backend, BytesFault, GrowFault, HipByt, HipStr, Kind, Meter, SliceError, SliceRefusal, Unique,
@@ -16,13 +16,15 @@ fn told_by<B: Backend>(
     alloc: Global,
     error: SliceError<'_, 'static, B>,
 ) -> Result<Told, AllocError> {
+    let (display, debug) = both_shown(alloc, &error)?;
     Ok(Told {
         source: String::from_str(alloc, error.source().as_str())?,
         kind: error.kind(),
         start: error.start(),
         end: error.end(),
         range: error.range(),
-        display: shown(alloc, &error)?,
+        display,
+        debug,
     })
 }
 

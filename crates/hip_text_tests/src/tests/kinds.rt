@@ -137,15 +137,11 @@ fn on_letters<B: Backend>(rt: &impl Abort, alloc: Global) {
 }
 
 #[test]
-fn on_rc(rt: HostRuntime) {
+fn pieces_lie_by_their_source(rt: HostRuntime) {
     on_lent::<Rc>(&rt, rt.alloc());
-    on::<Rc>(&rt, rt.alloc());
-    on_letters::<Rc>(&rt, rt.alloc());
-}
-
-#[test]
-fn on_unique(rt: HostRuntime) {
     on_lent::<Unique>(&rt, rt.alloc());
+    on::<Rc>(&rt, rt.alloc());
     on::<Unique>(&rt, rt.alloc());
+    on_letters::<Rc>(&rt, rt.alloc());
     on_letters::<Unique>(&rt, rt.alloc());
 }

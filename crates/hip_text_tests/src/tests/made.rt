@@ -1,5 +1,5 @@
 //! Joins and repetitions, and texts of units of UTF-16.
-use super::suite::{Suite, run_on_rc, run_on_unique};
+use super::suite::{Suite, run_on_each};
 use super::support::{is, must, must_refuse, reads};
 use super::text::{Bytes, FromUtf8Error, Text};
 use hip_text::{GrowFault, HipStr, Kind, Meter, Rc, Utf16Fault};
@@ -125,13 +125,8 @@ impl Suite for Made {
 }
 
 #[test]
-fn on_rc(rt: HostRuntime) {
-    run_on_rc::<Made>(&rt, rt.alloc());
-}
-
-#[test]
-fn on_unique(rt: HostRuntime) {
-    run_on_unique::<Made>(&rt, rt.alloc());
+fn texts_are_joined_and_read_from_units(rt: HostRuntime) {
+    run_on_each::<Made>(&rt, rt.alloc());
 }
 
 #[test]

@@ -1,11 +1,10 @@
 //! Makers, conversions, pushes, `pop`, case, comparisons and guards.
-use super::suite::{Suite, run_on_rc, run_on_unique};
+use super::suite::{Suite, run_on_each};
 use super::support::{holds, is, must, must_refuse, reads};
 use super::text::Text;
 use hip_text::Kind;
 use std::alloc::{AllocError, Global};
 use std::borrow::CowStr;
-use std::cmp::Ordering;
 use std::collections::HashMap;
 use std::hash::Hash;
 use std::process::Abort;
@@ -113,40 +112,6 @@ fn cases<T: Text>(rt: &impl Abort, alloc: Global) {
     is(rt, lower, "straße à la carte", Kind::Inline);
 }
 
-fn equality<T: Text>(rt: &impl Abort, alloc: Global) {
-    let made = must(rt, T::from_str(alloc, STARS));
-    let front = must(rt, made.slice(alloc, 0..4));
-    assert_eq!(rt;
-        (
-            made == T::borrowed(STARS),
-            made.str_eq(STARS),
-            made == front
-        ),
-        (true, true, false)
-    );
-}
-
-/// A text, and how `bb` is ordered to it.
-const ORDERED: &[(&str, Ordering)] = &[
-    ("bc", Ordering::Less),
-    ("ba", Ordering::Greater),
-    ("bb", Ordering::Equal),
-];
-
-fn order<T: Text>(rt: &impl Abort) {
-    let bb = T::borrowed("bb");
-    for (other, order) in ORDERED {
-        assert_eq!(rt;
-            (
-                bb.cmp(&T::borrowed(other)),
-                bb.str_cmp(other),
-                bb.cmp_with(other)
-            ),
-            (*order, *order, *order)
-        );
-    }
-}
-
 fn guards<T: Text>(rt: &impl Abort, alloc: Global) {
     let mut text = must(rt, T::from_str(alloc, "Hello, World!"));
     let lent = must(rt, text.mutate_push_str(alloc, "é"));
@@ -169,18 +134,11 @@ impl Suite for TextMakers {
         strings::<T>(rt, alloc);
         pushes::<T>(rt, alloc);
         cases::<T>(rt, alloc);
-        equality::<T>(rt, alloc);
-        order::<T>(rt);
         guards::<T>(rt, alloc);
     }
 }
 
 #[test]
-fn on_rc(rt: HostRuntime) {
-    run_on_rc::<TextMakers>(&rt, rt.alloc());
-}
-
-#[test]
-fn on_unique(rt: HostRuntime) {
-    run_on_unique::<TextMakers>(&rt, rt.alloc());
+fn texts_lie_by_their_length(rt: HostRuntime) {
+    run_on_each::<TextMakers>(&rt, rt.alloc());
 }

@@ -157,11 +157,7 @@ fn match_places<B: Backend>(rt: &impl Abort, alloc: Global) {
 }
 
 #[test]
-fn places_on_rc(rt: HostRuntime) {
+fn matches_have_their_places(rt: HostRuntime) {
     match_places::<Rc>(&rt, rt.alloc());
-}
-
-#[test]
-fn places_on_unique(rt: HostRuntime) {
     match_places::<Unique>(&rt, rt.alloc());
 }

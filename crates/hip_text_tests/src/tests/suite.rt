@@ -1,5 +1,5 @@
-//! Tests that are run on the texts of either backend. That a text is what the tests ask of it costs seconds in each function that needs it,
-//! and more in one that is generic in the backend, so these two name theirs.
+//! Tests that are run on the texts of each backend. That a text is what the tests ask of it costs seconds in each function that needs it,
+//! and more in one that is generic in the backend, so this one names them.
 use super::text::Text;
 use hip_text::{HipStr, Rc, Unique};
 use std::alloc::Global;
@@ -9,12 +9,8 @@ pub trait Suite {
     fn run<T: Text>(rt: &impl Abort, alloc: Global);
 }
 
-/// Runs a suite on shared owners.
-pub(crate) fn run_on_rc<S: Suite>(rt: &impl Abort, alloc: Global) {
+/// Runs a suite on shared owners, and on owners of one handle each.
+pub(crate) fn run_on_each<S: Suite>(rt: &impl Abort, alloc: Global) {
     S::run::<HipStr<'static, Rc>>(rt, alloc);
-}
-
-/// Runs a suite on owners of one handle each.
-pub(crate) fn run_on_unique<S: Suite>(rt: &impl Abort, alloc: Global) {
     S::run::<HipStr<'static, Unique>>(rt, alloc);
 }

@@ -50,6 +50,14 @@ pub(crate) fn shown<T: fmt::Display>(alloc: Global, value: &T) -> Result<String,
     format!(in alloc; "{value}")
 }
 
+/// An error as `Display` and as `Debug` show it.
+pub(crate) fn both_shown<E: fmt::Display + fmt::Debug>(
+    alloc: Global,
+    error: &E,
+) -> Result<(String, String), AllocError> {
+    Ok((shown(alloc, error)?, debugged(alloc, error)?))
+}
+
 /// A value as `Debug` shows it.
 pub(crate) fn debugged<T: fmt::Debug>(alloc: Global, value: &T) -> Result<String, AllocError> {
     format!(in alloc; "{value:?}")

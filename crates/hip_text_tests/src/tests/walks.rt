@@ -99,13 +99,8 @@ fn reads_fields(alloc: Global) -> bool {
 }
 
 #[test]
-fn on_rc(rt: HostRuntime) {
-    assert!(rt; draws::<Rc>(rt.alloc()) & reads_fields(rt.alloc()));
-    assert!(rt; follows_all::<Rc>(rt.alloc()));
-}
-
-#[test]
-fn on_unique(rt: HostRuntime) {
-    assert!(rt; draws::<Unique>(rt.alloc()));
-    assert!(rt; follows_all::<Unique>(rt.alloc()));
+fn pieces_are_drawn_from_either_end(rt: HostRuntime) {
+    assert!(rt; draws::<Rc>(rt.alloc()) & draws::<Unique>(rt.alloc()));
+    assert!(rt; follows_all::<Rc>(rt.alloc()) & follows_all::<Unique>(rt.alloc()));
+    assert!(rt; reads_fields(rt.alloc()));
 }
