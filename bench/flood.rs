@@ -40,10 +40,14 @@ fn heads(length: usize) -> impl Iterator<Item = [u8; 8]> {
     multiples.filter(|bytes| bytes.iter().all(u8::is_ascii_alphanumeric))
 }
 
-/// The last four bytes of words, by the remainder that they leave of `SMALL`.
-fn ends(numbers: &mut Numbers) -> HashMap<u64, Vec<u8>> {
-    let ends = (0..400_000).map(|_| numbers.word(4));
-    ends.map(|end| (remainder(&end, 32), end)).collect()
+/// Last four bytes of words, by the remainder that they leave of `SMALL`.
+fn ends(numbers: &mut Numbers) -> HashMap<u64, Vec<Vec<u8>>> {
+    let mut ends: HashMap<u64, Vec<Vec<u8>>> = HashMap::new();
+    for _ in 0..1_000_000 {
+        let end = numbers.word(4);
+        ends.entry(remainder(&end, 32)).or_default().push(end);
+    }
+    ends
 }
 
 /// What four bytes of a word's end leave of `SMALL`, as the bits from `shift` on of its last eight bytes.
@@ -61,8 +65,8 @@ fn flood(count: usize, length: usize, numbers: &mut Numbers) -> Vec<Vec<u8>> {
         let mut word = heads[numbers.below(heads.len())].to_vec();
         word.extend(numbers.word(length - 12));
         let left = remainder(&word[length - 8..length - 4], 0);
-        if let Some(end) = ends.get(&((SMALL - left) % SMALL)) {
-            word.extend(end);
+        if let Some(ends) = ends.get(&((SMALL - left) % SMALL)) {
+            word.extend(&ends[numbers.below(ends.len())]);
             words.insert(word);
         }
     }

@@ -7,7 +7,7 @@ out=${TMPDIR:-/tmp}/hip_tools_flood
 mkdir -p "$out"
 rustc --edition 2021 -O --out-dir "$out" bench/flood.rs
 for length in 14 15 16; do
-    "$out/flood" 50000 "$length" "$out"
+    timeout 60 "$out/flood" 50000 "$length" "$out"
     for run in 1 2 3 4 5; do
         for words in flood control; do
             bash -c 'TIMEFORMAT="%U %S"; time "$0" count < "$1" > /dev/null' crates/hip_tools/out/hip_tools "$out/$words.txt" 2>> "$out/$words.times"

@@ -1,7 +1,8 @@
 #!/usr/bin/env bash
 # tools.sh   Runs hip_tools, which is built already, on each example of examples/tools: NAME.args (a word a line) and NAME.in are what it
 #            gets, NAME.out and NAME.err what it has to write, nothing where there is no such file, and NAME.status its exit status, else 0.
-#            Then each tool with a standard output that is closed, and with one that is full.
+#            Then each tool with a standard output that is closed, and with one that is full, and the tools that draw a seed where there are
+#            no random numbers.
 set -u
 cd "$(dirname "$0")/.."
 tool=$PWD/crates/hip_tools/out/hip_tools
@@ -33,6 +34,17 @@ for name in tokens table fill count; do
             failed=$((failed + 1))
         fi
     done
+done
+cc -shared -fPIC -o "$made/no_randomness.so" scripts/no_randomness.c
+for name in fill count; do
+    mapfile -t words < "examples/tools/$name.args"
+    LD_PRELOAD="$made/no_randomness.so" "$tool" "${words[@]}" < "examples/tools/$name.in" > "$made/out" 2> "$made/err"
+    status=$?
+    ran=$((ran + 1))
+    if [ $status != 1 ] || [ -s "$made/out" ] || [ "$(cat "$made/err")" != "no randomness" ]; then
+        echo "tools: $name without random numbers fails with status $status"
+        failed=$((failed + 1))
+    fi
 done
 echo "tools: $((ran - failed)) of $ran runs as they should be"
 [ $failed = 0 ]

@@ -1,0 +1,11 @@
+// A system without random numbers, to be preloaded: `getentropy` fails.
+#include <errno.h>
+#include <stddef.h>
+
+int getentropy(void *buffer, size_t length)
+{
+    (void)buffer;
+    (void)length;
+    errno = ENOSYS;
+    return -1;
+}
