@@ -1,0 +1,11 @@
+pub mod Appended
+pub mod Bytes
+pub mod Decoded
+pub mod Growth
+pub mod Letters
+pub mod LineLaws
+pub mod Names
+pub mod NumberLaws
+pub mod Quotes
+pub mod RangeLaws
+pub mod WordLaws

@@ -1,0 +1,5 @@
+pub mod Grammar
+pub mod Lines
+pub mod Said
+pub mod Spoken
+pub mod Words
