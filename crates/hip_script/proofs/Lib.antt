@@ -5,7 +5,9 @@ pub mod Growth
 pub mod Letters
 pub mod LineLaws
 pub mod Names
+pub mod LineReads
 pub mod NumberLaws
 pub mod Quotes
 pub mod RangeLaws
+pub mod ScriptLaws
 pub mod WordLaws

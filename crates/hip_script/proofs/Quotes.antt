@@ -107,3 +107,11 @@ reads-ends held new before words left word ends span within read is adds =
 pub follows-nothing : (follows : Follows) (held : Held) (said : Said) (left : Left) → follows ≡ Nothing → IsWithin held said
     → ReadsFields (follows_said follows (fields_in held said) left) left held held said said
 follows-nothing follows held said left is within = rw is (record { grows = grows-none held; within = within; verb = refl; read_is = refl })
+
+-- what was read as a text is one
+pub text-is_one : (held : Held) (quoted : Said_quoted) (literal : Literal) (lent shown : List ℕ) → quoted ≡ Text literal → QuotedWithin held quoted
+    → lent ≡ held.bytes → shown ≡ literal_in lent literal → ¬ (IsUtf8 shown) → ⊥
+text-is_one held quoted literal lent shown is within lent_is shown_is other =
+    let inside = rw is at within in
+    let same : shown ≡ literal_in held.bytes literal = shown_is ∙ ap (λ b. literal_in b literal) lent_is in
+    other (IsUtf8-from_is_utf8 shown (ap is_utf8 same ∙ inside.1))

@@ -1,19 +1,29 @@
 -- What the records of lines say, whose literals stand in the script or in buffers. Only private functions cite these.
 use Rattle.std.specs.Prelude.{◌≡◌, ℕ, ◌≤◌, Bool, true, List, ◌∷◌, ◌++◌, length, map, Option, Some, Result, Ok, Err, slice_range}
+use Rattle.std.specs.List.{AllByRecursion}
 use Rattle.std.specs.Str.{is_utf8}
 use Rattle.hipstr.specs.declared.End.{End}
 use Rattle.hip_script.specs.Grammar.{spoken}
 use Rattle.hip_script.specs.Spoken.{Fields, Pattern, Quoted, Spoken}
 use Rattle.hip_script.specs.Spoken.Pattern.{TextOf, CharOf, AnyOf}
 use Rattle.hip_script.specs.Spoken.Quoted.{Plainly, Sought}
+use Rattle.hip_script.specs.Spoken.Spoken.{SayShow, SayCopied, SayFields}
+use Rattle.hip_script.specs.Told.{says}
 use Rattle.hip_script.specs.Words.{Left}
 use Rattle.hip_script.specs.declared.buffers.Buffers.{Buffers}
+use Rattle.hip_script.specs.declared.fault.PlayFault.{PlayFault}
+use Rattle.hip_script.specs.declared.fault.PlayFault.TheVariants.{NotACommand, ReadFailed, WriteFailed, Memory}
+use Rattle.hip_script.specs.declared.line.Aside.{Aside}
+use Rattle.hip_script.specs.declared.line.Aside.TheVariants.{Show, Copied, Fields as FieldsOf}
+use Rattle.hip_script.specs.declared.line.Line.{Line}
+use Rattle.hip_script.specs.declared.line.Line.TheVariants.{Command as CommandLine, Aside as AsideLine}
 use Rattle.hip_script.specs.declared.said.Literal.{Literal}
 use Rattle.hip_script.specs.declared.said.Literal.TheVariants.{Plain, Decoded}
 use Rattle.hip_script.specs.declared.said.Quoted.{Quoted as Said_quoted}
 use Rattle.hip_script.specs.declared.said.Quoted.TheVariants.{Bytes, Text, Char, Any}
 use Rattle.hip_script.specs.declared.said.Said.{Said}
 use Rattle.hip_script.specs.declared.said.Span.{Span}
+use Rattle.hip_script.specs.declared.script.Script.{Script}
 use Rattle.hip_script.specs.declared.verb.Verb.{Verb}
 use Rattle.hip_script.specs.declared.verb.Word.{Word}
 
@@ -121,3 +131,32 @@ pub record ReadsFields (read : Option (Fields × Left)) (left : Left) (old new :
   pub within : IsWithin new after
   pub verb : after.verb ≡ before.verb
   pub read_is : read ≡ Some (fields_in new after, left)
+
+-- a line was read
+pub record ReadsLine (read : Option Spoken) (old new : Held) (said : Said) : Type 0 where
+  pub grows : Grows old new
+  pub within : IsWithin new said
+  pub read_is : read ≡ Some (says_in new said)
+
+-- the records of a script's lines say this
+pub record Says (held : Held) (lines : List Said) (said : List Spoken) : Type 0 where
+  pub within : AllByRecursion (IsWithin held) lines
+  pub say : map (says_in held) lines ≡ said
+
+-- what was returned is what the script says, unless memory ran out
+abbrev pub GivesScript : Result Script PlayFault → Result (List Spoken) ℕ → Type 0
+GivesScript (Ok script) said = (lines : List Spoken) × (said ≡ Ok lines) × Says (held script.buffers) script.lines.items lines
+GivesScript (Err (NotACommand number)) said = said ≡ Err number
+GivesScript (Err ReadFailed) said = ⊥
+GivesScript (Err WriteFailed) said = ⊥
+GivesScript (Err Memory) said = Unit {0}
+
+-- what a line says, a command or none
+abbrev pub aside_says : Aside → Spoken
+aside_says (Show slot) = SayShow slot
+aside_says Copied = SayCopied
+aside_says (FieldsOf slot separator) = SayFields slot separator
+
+abbrev pub line_says : Line → Spoken
+line_says (CommandLine command) = says command
+line_says (AsideLine aside) = aside_says aside

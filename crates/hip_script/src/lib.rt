@@ -3,7 +3,9 @@
 
 mod buffers;
 mod fault;
+mod line;
 mod lines;
 mod said;
+mod script;
 mod verb;
 mod words;

@@ -1,0 +1,68 @@
+//! A whole script: its lines, and what each says.
+ghost use Rattle.std.specs.Prelude.{◌≡◌, IfOk, IsErrOf, None};
+ghost use Rattle.hip_script.specs.Grammar.{line_said, script_of};
+ghost use Rattle.hip_script.specs.Said.{GivesScript, ReadsLine, held};
+
+use crate::buffers::Buffers;
+use crate::fault::{LineFault, PlayFault};
+use crate::lines::first_line;
+use crate::said::Said;
+use crate::words::Words;
+use std::alloc::Global;
+
+/// A script that was read: what its lines say, and the buffers of what has no place of its own in it.
+#[derive(Drop)]
+pub(crate) struct Script<'l> {
+    pub(crate) lines: Vec<Said<'l>>,
+    pub(crate) buffers: Buffers,
+}
+
+impl<'l> Script<'l> {
+    /// Reads a script. The first line that is no command is told by its number.
+    ///
+    /// Room for all lines is taken first, as many as there are line feeds, and one.
+    pub(crate) fn read(alloc: Global, input: &'l [u8]) -> Result<Self, PlayFault>
+        ensures { GivesScript result (script_of input.now) }
+    {
+        let mut lines = Vec::with_capacity(alloc, count_feeds(input).saturating_add(1))?;
+        let mut buffers = Buffers::new(alloc);
+        let mut number = 0usize;
+        let mut rest = input;
+        while let Some((line, after)) = first_line(rest) {
+            number += 1;
+            rest = after;
+            if line.is_empty() {
+                continue;
+            }
+            match read_line(&mut buffers, line) {
+                Ok(said) => lines.push(said)?,
+                Err(LineFault::NotACommand) => return Err(PlayFault::NotACommand(number)),
+                Err(LineFault::Memory) => return Err(PlayFault::Memory),
+            }
+        }
+        Ok(Script { lines, buffers })
+    }
+}
+
+/// How many line feeds there are.
+fn count_feeds(input: &[u8]) -> usize {
+    input.iter().filter(|byte| **byte == b'\n').count()
+}
+
+/// Reads a line that is not empty.
+fn read_line<'l>(buffers: &mut Buffers, line: &'l [u8]) -> Result<Said<'l>, LineFault>
+    ensures ok { IfOk result (λ said. ReadsLine (line_said line.now) (held buffers.old) (held buffers.new) said) }
+    ensures bad { IsErrOf result LineFault.NotACommand → line_said line.now ≡ None }
+{
+    let mut words = Words::new(line);
+    let Some((verb, list)) = words.row() else {
+        return Err(LineFault::NotACommand);
+    };
+    let mut said = Said::new(verb);
+    buffers.read_words(list, &mut words, &mut said)?;
+    if words.is_empty() {
+        Ok(said)
+    } else {
+        Err(LineFault::NotACommand)
+    }
+}
