@@ -6,6 +6,7 @@ pub mod Letters
 pub mod LineLaws
 pub mod Names
 pub mod LineReads
+pub mod Literals
 pub mod NumberLaws
 pub mod Quotes
 pub mod RangeLaws

@@ -1,5 +1,6 @@
 pub mod Grammar
 pub mod Lines
+pub mod Printed
 pub mod Said
 pub mod Spoken
 pub mod Told

@@ -1,9 +1,10 @@
 -- What the records of lines say, whose literals stand in the script or in buffers. Only private functions cite these.
-use Rattle.std.specs.Prelude.{◌≡◌, ℕ, ◌≤◌, Bool, true, List, ◌∷◌, ◌++◌, length, map, Option, Some, Result, Ok, Err, slice_range}
+use Rattle.std.specs.Prelude.{◌≡◌, ℕ, ◌≤◌, ◌==◌, ◌||◌, not, Bool, true, List, ◌∷◌, ◌++◌, length, map, Option, Some, Result, Ok, Err, slice_range}
 use Rattle.std.specs.List.{AllByRecursion}
 use Rattle.std.specs.Str.{is_utf8}
 use Rattle.hipstr.specs.declared.End.{End}
 use Rattle.hip_script.specs.Grammar.{spoken}
+use Rattle.hip_script.specs.Printed.{is_printable}
 use Rattle.hip_script.specs.Spoken.{Fields, Pattern, Quoted, Spoken}
 use Rattle.hip_script.specs.Spoken.Pattern.{TextOf, CharOf, AnyOf}
 use Rattle.hip_script.specs.Spoken.Quoted.{Plainly, Sought}
@@ -160,3 +161,7 @@ aside_says (FieldsOf slot separator) = SayFields slot separator
 abbrev pub line_says : Line → Spoken
 line_says (CommandLine command) = says command
 line_says (AsideLine aside) = aside_says aside
+
+-- a byte that doesn't stand for itself in a printed literal
+abbrev pub needs_escape : ℕ → Bool
+needs_escape b = b == 34 || (b == 92 || not (is_printable b))

@@ -5,6 +5,7 @@ mod buffers;
 mod fault;
 mod line;
 mod lines;
+mod print;
 mod said;
 mod script;
 mod verb;
