@@ -1,5 +1,7 @@
 pub mod Grammar
 pub mod Lines
+pub mod Performed
+pub mod Played
 pub mod Printed
 pub mod Said
 pub mod Spoken

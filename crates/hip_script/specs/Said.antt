@@ -1,5 +1,7 @@
 -- What the records of lines say, whose literals stand in the script or in buffers. Only private functions cite these.
-use Rattle.std.specs.Prelude.{◌≡◌, ℕ, ◌≤◌, ◌==◌, ◌||◌, not, Bool, true, List, ◌∷◌, ◌++◌, length, map, Option, Some, Result, Ok, Err, slice_range}
+use Rattle.std.specs.Prelude.{◌≡◌, ℕ, ◌≤◌, ◌==◌, ◌||◌, not, Bool, true, List, ◌∷◌, ◌++◌, length, map, Option, Some, Result, Ok, Err, slice_range, Vec}
+use Rattle.std.specs.declared.alloc.Global.{Global}
+use Rattle.hipstr.specs.Handle.{Handle}
 use Rattle.std.specs.List.{AllByRecursion}
 use Rattle.std.specs.Str.{is_utf8}
 use Rattle.hipstr.specs.declared.End.{End}
@@ -165,3 +167,10 @@ line_says (AsideLine aside) = aside_says aside
 -- a byte that doesn't stand for itself in a printed literal
 abbrev pub needs_escape : ℕ → Bool
 needs_escape b = b == 34 || (b == 92 || not (is_printable b))
+
+-- the bytes of a handle, and of the handles of a record
+abbrev pub items_of : Handle → List ℕ
+items_of handle = handle.items
+
+abbrev pub texts_of : Vec Handle Global → List (List ℕ)
+texts_of fields = map items_of fields.items

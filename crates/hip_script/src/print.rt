@@ -1,11 +1,12 @@
 //! How answers and bytes are printed.
-ghost use Rattle.std.specs.Prelude.{◌≡◌, ◌++◌, codes, IsTrue, OnOk};
+ghost use Rattle.std.specs.Prelude.{◌≡◌, ◌++◌, codes, if◌then◌else◌, map, IsTrue, OnOk};
 ghost use Rattle.std.specs.Io.KnownBytes.{Appends};
 ghost use Rattle.memchr.specs.Find.{IsFirstByte};
-ghost use Rattle.hip_script.specs.Printed.{kind_name, order_name, printed_answer, printed_byte, printed_hex, printed_literal, printed_number, reason_name};
-ghost use Rattle.hip_script.specs.Said.{needs_escape};
+ghost use Rattle.hip_script.specs.Printed.{kind_name, order_name, printed_answer, printed_byte, printed_field, printed_hex, printed_literal, printed_number, printed_record, printed_records, printed_slot, reason_name};
+ghost use Rattle.hip_script.specs.Said.{items_of, needs_escape, texts_of};
 
-use hipstr::{Answer, Kind, Reason};
+use hipstr::string::HipStr;
+use hipstr::{Answer, Backend, Kind, Reason};
 use std::cmp::Ordering;
 use std::io;
 use std::io::Write;
@@ -76,6 +77,53 @@ fn refused_line(reason: Reason) -> &'static [u8]
         Reason::OneEnd => b"refused OneEnd\n",
         Reason::Memory => b"refused Memory\n",
     }
+}
+
+/// Prints what a slot is, and its bytes.
+pub(crate) fn print_slot<W: Write>(out: &mut W, is_text: bool, bytes: &[u8]) -> io::Result<()>
+    ensures { OnOk result (Appends (W.contents out.old) (W.contents out.new) (printed_slot is_text bytes.now)) }
+{
+    out.write_all(slot_word(is_text))?;
+    print_literal(out, bytes)?;
+    out.write_all(b"\n")
+}
+
+fn slot_word(is_text: bool) -> &'static [u8]
+    ensures { result.now ≡ (if is_text then codes "text " else codes "bytes ") }
+{
+    if is_text { b"text " } else { b"bytes " }
+}
+
+/// Prints records, each on a line of its own.
+pub(crate) fn print_records<B: Backend, W: Write>(
+    out: &mut W,
+    records: &[Vec<HipStr<'_, B>>],
+) -> io::Result<()>
+    ensures { OnOk result (Appends (W.contents out.old) (W.contents out.new) (printed_records (map texts_of records.now))) }
+{
+    for fields in records {
+        print_record(out, fields)?;
+    }
+    Ok(())
+}
+
+/// Prints a record: its fields as literals, each after one space.
+fn print_record<B: Backend, W: Write>(out: &mut W, fields: &[HipStr<'_, B>]) -> io::Result<()>
+    ensures { OnOk result (Appends (W.contents out.old) (W.contents out.new) (printed_record (map items_of fields.now))) }
+{
+    out.write_all(b"record")?;
+    for field in fields {
+        print_field(out, field.as_bytes())?;
+    }
+    out.write_all(b"\n")
+}
+
+/// Prints a field behind a space.
+fn print_field<W: Write>(out: &mut W, field: &[u8]) -> io::Result<()>
+    ensures { OnOk result (Appends (W.contents out.old) (W.contents out.new) (printed_field field.now)) }
+{
+    out.write_all(b" ")?;
+    print_literal(out, field)
 }
 
 /// Prints bytes as a literal: 0x20 to 0x7E stand for themselves save `\"` and `\\`.

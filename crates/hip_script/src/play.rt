@@ -1,0 +1,222 @@
+//! Playing a script.
+ghost use Rattle.std.specs.Prelude.{◌≡◌, ◌⊎◌, ℕ, List, map, IfSome, IsErrOf, OnOk};
+ghost use Rattle.std.specs.Io.KnownBytes.{Appends};
+ghost use Rattle.std.specs.List.{AllByRecursion};
+ghost use Rattle.hip_script.specs.Grammar.{script_of};
+ghost use Rattle.hip_script.specs.Performed.{Performs, PlaysLine, Tells};
+ghost use Rattle.hip_script.specs.Played.{FieldsText, IsPlayed, IsPlayedInPart, Reads, Written, fields_cost, printed_show};
+ghost use Rattle.hip_script.specs.Printed.{printed_answers};
+ghost use Rattle.hip_script.specs.Said.{IsWithin, held, says_in};
+ghost use Rattle.hipstr.specs.Meter.{RisesAtMost};
+
+use crate::fault::{PlayFault, Stop};
+use crate::line::{Aside, Line};
+use crate::print::{print_answer, print_records, print_slot};
+use crate::script::Script;
+use hip_fields::records_metered;
+use hipstr::{Answer, Backend, Command, Meter, Pool, Reason, Slot, run};
+use std::alloc::Global;
+use std::io;
+use std::io::{BufWriter, ErrorKind, Read, Write};
+
+/// How many slots a script works on.
+const SLOTS: usize = 16;
+
+/// How many commands are run at once at most, so that they and their answers stay near.
+const AT_ONCE: usize = 256;
+
+/// Plays a script: reads it whole, performs its commands on a pool of sixteen slots, and writes the answers, one a line.
+///
+/// A script with a line that is no command is refused before anything runs. What was written before a later fault stays written.
+pub fn play<B: Backend, R: Read + Drop, W: Write + Drop>(
+    alloc: Global,
+    mut reader: R,
+    writer: W,
+) -> Result<(), PlayFault>
+    ensures read { IfSome (R.remaining reader) (λ input. Reads (script_of input) result) }
+{
+    let Ok(mut out) = BufWriter::new(alloc, writer) else {
+        return Err(PlayFault::Memory);
+    };
+    let played = play_to::<B, _, _>(alloc, &mut reader, &mut out);
+    let flushed = match played {
+        Err(PlayFault::WriteFailed) => Ok(()),
+        _ => out.flush(),
+    };
+    let (_writer, _unwritten) = out.into_parts();
+    played?;
+    match flushed {
+        Ok(()) => Ok(()),
+        Err(_) => Err(PlayFault::WriteFailed),
+    }
+}
+
+/// [`play`], from and to what is lent. Each line is written at once, so `out` had better gather them; it isn't flushed.
+pub fn play_to<B: Backend, R: Read, W: Write>(
+    alloc: Global,
+    reader: &mut R,
+    out: &mut W,
+) -> Result<(), PlayFault>
+    ensures read { IfSome (R.remaining reader.old) (λ input. Reads (script_of input) result) }
+    ensures written { IfSome (R.remaining reader.old) (λ input. Written B.SHARES (script_of input)
+        (W.contents out.old) (W.contents out.new) result) }
+{
+    let mut input = Vec::new(alloc);
+    if let Err(error) = reader.read_to_end(&mut input) {
+        return Err(read_fault(&error));
+    }
+    let script = Script::read(alloc, input.as_slice())?;
+    match play_lines::<B, _>(alloc, &script, out) {
+        Ok(()) => Ok(()),
+        Err(Stop::WriteFailed) => Err(PlayFault::WriteFailed),
+        Err(Stop::Memory) => Err(PlayFault::Memory),
+    }
+}
+
+/// Why the script could not be read.
+fn read_fault(error: &io::Error) -> PlayFault
+    ensures { (result ≡ PlayFault.ReadFailed) ⊎ (result ≡ PlayFault.Memory) }
+{
+    match error.kind() {
+        ErrorKind::OutOfMemory => PlayFault::Memory,
+        _ => PlayFault::ReadFailed,
+    }
+}
+
+/// Plays all lines.
+fn play_lines<B: Backend, W: Write>(
+    alloc: Global,
+    script: &Script<'_>,
+    out: &mut W,
+) -> Result<(), Stop>
+    requires { AllByRecursion (IsWithin (held script.now.buffers)) script.now.lines.items }
+    ensures ok { OnOk result (IsPlayed B.SHARES (map (says_in (held script.now.buffers)) script.now.lines.items)
+        (W.contents out.old) (W.contents out.new)) }
+    ensures memory { IsErrOf result Stop.Memory
+        → IsPlayedInPart B.SHARES (map (says_in (held script.now.buffers)) script.now.lines.items)
+        (W.contents out.old) (W.contents out.new) }
+{
+    let mut pool = Pool::<B>::new(alloc, SLOTS)?;
+    let mut meter = Meter::new();
+    let mut commands = Vec::with_capacity(alloc, AT_ONCE)?;
+    for said in &script.lines {
+        play_line(alloc, script.line(said), &mut pool, &mut commands, &mut meter, out)?;
+    }
+    perform(alloc, &mut pool, commands.as_slice(), &mut meter, out)
+}
+
+/// Plays a line: a command waits until there are many, and what is none is told after those that waited.
+fn play_line<'b, B: Backend, W: Write>(
+    alloc: Global,
+    line: Line<'b>,
+    pool: &mut Pool<'b, B>,
+    commands: &mut Vec<Command<'b>>,
+    meter: &mut Meter,
+    out: &mut W,
+) -> Result<(), Stop>
+    ensures ok { OnOk result (PlaysLine B.SHARES line.entry commands.old.items commands.new.items
+        (record { slots = pool.old; counted = meter.old; written = W.contents out.old })
+        (record { slots = pool.new; counted = meter.new; written = W.contents out.new })) }
+    ensures memory { IsErrOf result Stop.Memory → W.contents out.new ≡ W.contents out.old }
+{
+    match line {
+        Line::Command(command) => {
+            commands.push(command)?;
+            if commands.len() < AT_ONCE {
+                return Ok(());
+            }
+            perform(alloc, pool, commands.as_slice(), meter, out)?;
+            commands.clear();
+            Ok(())
+        }
+        Line::Aside(aside) => {
+            perform(alloc, pool, commands.as_slice(), meter, out)?;
+            commands.clear();
+            tell(alloc, pool, aside, meter, out)
+        }
+    }
+}
+
+/// Performs commands, and prints their answers.
+fn perform<'b, B: Backend, W: Write>(
+    alloc: Global,
+    pool: &mut Pool<'b, B>,
+    commands: &[Command<'b>],
+    meter: &mut Meter,
+    out: &mut W,
+) -> Result<(), Stop>
+    ensures ok { OnOk result (Performs B.SHARES pool.old commands.now pool.new meter.old meter.new
+        (W.contents out.old) (W.contents out.new)) }
+    ensures memory { IsErrOf result Stop.Memory → W.contents out.new ≡ W.contents out.old }
+{
+    let answers = run(alloc, pool, commands, meter)?;
+    print_answers(out, answers.as_slice())
+}
+
+/// Prints answers, one a line.
+fn print_answers<W: Write>(out: &mut W, answers: &[Answer]) -> Result<(), Stop>
+    ensures ok { OnOk result (Appends (W.contents out.old) (W.contents out.new) (printed_answers answers.now)) }
+    ensures memory { IsErrOf result Stop.Memory → ⊥ }
+{
+    for answer in answers {
+        if print_answer(out, *answer).is_err() {
+            return Err(Stop::WriteFailed);
+        }
+    }
+    Ok(())
+}
+
+/// Tells what a line asks for that is no command.
+fn tell<B: Backend, W: Write>(
+    alloc: Global,
+    pool: &Pool<'_, B>,
+    aside: Aside,
+    meter: &mut Meter,
+    out: &mut W,
+) -> Result<(), Stop>
+    ensures ok { OnOk result (Tells B.SHARES pool.now aside meter.old meter.new (W.contents out.old) (W.contents out.new)) }
+    ensures memory { IsErrOf result Stop.Memory → ⊥ }
+{
+    let told = match aside {
+        Aside::Show(slot) => show(pool, slot, out),
+        Aside::Copied => writeln!(out, "{}", meter.copied()),
+        Aside::Fields(slot, separator) => tell_fields(alloc, pool, slot, separator, meter, out),
+    };
+    match told {
+        Ok(()) => Ok(()),
+        Err(_) => Err(Stop::WriteFailed),
+    }
+}
+
+/// Prints a slot.
+fn show<B: Backend, W: Write>(pool: &Pool<'_, B>, slot: usize, out: &mut W) -> io::Result<()>
+    ensures { OnOk result (Appends (W.contents out.old) (W.contents out.new) (printed_show pool.now slot)) }
+{
+    match pool.slot(slot) {
+        Some(slot) => print_slot(out, slot.is_text(), slot.as_bytes()),
+        None => out.write_all(b"refused NoSlot\n"),
+    }
+}
+
+/// Prints the records of a slot's text, or why there are none.
+fn tell_fields<B: Backend, W: Write>(
+    alloc: Global,
+    pool: &Pool<'_, B>,
+    slot: usize,
+    separator: char,
+    meter: &mut Meter,
+    out: &mut W,
+) -> io::Result<()>
+    ensures ok { OnOk result ((text : List ℕ) × FieldsText pool.now slot separator text
+        × Appends (W.contents out.old) (W.contents out.new) text) }
+    ensures counted { RisesAtMost meter.old meter.new (fields_cost B.SHARES pool.now slot separator) }
+{
+    match pool.slot(slot) {
+        Some(Slot::Text(text)) => match records_metered(alloc, text, separator, meter) {
+            Ok(records) => print_records(out, records.as_slice()),
+            Err(_) => out.write_all(b"refused Memory\n"),
+        },
+        Some(Slot::Bytes(_)) => out.write_all(b"refused NotText\n"),
+        None => out.write_all(b"refused NoSlot\n"),
+    }
+}
