@@ -59,5 +59,5 @@ pub prints-end : (old a b c : Option (List ℕ)) (rest bytes : List ℕ) → IsF
     → Appends a b rest → Appends b c (34 ∷ []) → Appends old c (printed_literal bytes)
 prints-end old a b c rest bytes found so_far first second =
     let whole : so_far.done ++ rest ≡ flat_map printed_byte bytes =
-        ap (λ t. so_far.done ++ t) (sym (all-plain rest (λ j below. false_from_ne_true _ (found j (omega arith) below)))) ∙ so_far.whole in
+    ap (λ t. so_far.done ++ t) (sym (all-plain rest (λ j below. false_from_ne_true _ (found j (omega arith) below)))) ∙ so_far.whole in
     rw (sym whole) (appends-then old b c (34 ∷ (so_far.done ++ rest)) (34 ∷ []) (appends-then old a b (34 ∷ so_far.done) rest so_far.written first) second)

@@ -239,7 +239,7 @@ played-line : (shares : Bool) (lines : List Spoken) (waiting left : List Command
     → IsPlayedSoFar shares (lines ++ line_says line ∷ []) (map says left) new old
 played-line shares lines waiting left (CommandLine command) place new old so_far plays =
     let more = subst (λ (w : List Spoken). IsPlayedSoFar shares (lines ++ says command ∷ []) w place old) (sym (map-push waiting command))
-        (played-command shares lines (map says waiting) (says command) place old so_far) in
+    (played-command shares lines (map says waiting) (says command) place old so_far) in
     ⊎_elim (λ waits. rw (waits.0, waits.1) more)
     (λ ran. rw ran.0 (played-run shares (lines ++ says command ∷ []) (waiting ++ command ∷ []) place new old more ran.1)) plays
 played-line shares lines waiting left (AsideLine aside) place new old so_far plays =

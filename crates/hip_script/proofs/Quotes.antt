@@ -32,7 +32,7 @@ span-added more old new span adds =
     let end = adds.end in (
       record { order = omega arith; end = omega arith },
       rw (adds.start, adds.end) (ap (λ xs. take (length new - length old) (drop (length old) xs)) adds.added
-      ∙ rw (drop-append_seam old more) (take_all (length new - length old) more (omega arith))),
+          ∙ rw (drop-append_seam old more) (take_all (length new - length old) more (omega arith))),
     )
 
 pub quotes-bytes : (quote : Quote) (literal : Literal) (held : Held) → quote ≡ bytes_quote → LiteralWithin held.bytes literal
@@ -101,7 +101,7 @@ reads-ends held new before words left word ends span within read is adds =
       within = record { quoted = quoted_moves held new before.quoted within.quoted; ends = stands.0 };
       verb = refl;
       read_is = rw (read, is) (ap (λ e. Some (record (fields_in held before) { ends = e }, left)) (sym stands.1)
-      ∙ ap (λ q. Some (record (fields_in held before) { ends = in_span new span; quoted = q }, left)) (sym (quoted-same held new before.quoted)));
+          ∙ ap (λ q. Some (record (fields_in held before) { ends = in_span new span; quoted = q }, left)) (sym (quoted-same held new before.quoted)));
     }
 
 pub follows-nothing : (follows : Follows) (held : Held) (said : Said) (left : Left) → follows ≡ Nothing → IsWithin held said

@@ -53,10 +53,10 @@ script-goes_on old new line rest after number before after_lines said whole all 
     rw pushed (
       all-within old new before said reads.grows all reads.within,
       ap (λ t. put_before t later) (all-say old new before said reads.grows all)
-      ∙ put-one so_far_says (says_in new said) (number + 1) later
-      ∙ ap (put_before so_far_says) (sym (ap (lines_said (number + 1)) first ∙ line-says line (number + 1) (lines after) some
-      ∙ ap (λ t. then_said t (number + 1) later) reads.read_is))
-      ∙ so_far,
+          ∙ put-one so_far_says (says_in new said) (number + 1) later
+          ∙ ap (put_before so_far_says) (sym (ap (lines_said (number + 1)) first ∙ line-says line (number + 1) (lines after) some
+          ∙ ap (λ t. then_said t (number + 1) later) reads.read_is))
+          ∙ so_far,
     )
 
 -- a line that says nothing

@@ -128,7 +128,11 @@ impl Buffers {
     }
 
     /// Reads what is looked for in a text.
-    fn read_pattern<'l>(&mut self, words: &mut Words<'l>, said: &mut Said<'l>) -> Result<(), LineFault>
+    fn read_pattern<'l>(
+        &mut self,
+        words: &mut Words<'l>,
+        said: &mut Said<'l>,
+    ) -> Result<(), LineFault>
         requires { IsWithin (held self.old) said.old }
         ensures ok { OnOk result (ReadsFields (pattern_said (fields_in (held self.old) said.old) words.old)
             words.new (held self.old) (held self.new) said.old said.new) }

@@ -1,5 +1,5 @@
 //! Playing a script.
-ghost use Rattle.std.specs.Prelude.{◌≡◌, ◌⊎◌, ℕ, List, map, IfSome, IsErrOf, OnOk};
+ghost use Rattle.std.specs.Prelude.{◌≡◌, ◌<◌, ◌⊎◌, ℕ, List, map, Err, IfSome, IsErrOf, OnOk};
 ghost use Rattle.std.specs.Io.KnownBytes.{Appends};
 ghost use Rattle.std.specs.List.{AllByRecursion};
 ghost use Rattle.hip_script.specs.Grammar.{script_of};
@@ -7,6 +7,7 @@ ghost use Rattle.hip_script.specs.Performed.{Performs, PlaysLine, Tells};
 ghost use Rattle.hip_script.specs.Played.{FieldsText, IsPlayed, IsPlayedInPart, Reads, Written, fields_cost, printed_show};
 ghost use Rattle.hip_script.specs.Printed.{printed_answers};
 ghost use Rattle.hip_script.specs.Said.{IsWithin, held, says_in};
+ghost use Rattle.hip_script.specs.declared.fault.PlayFault.TheVariants.{NotACommand};
 ghost use Rattle.hipstr.specs.Meter.{RisesAtMost};
 
 use crate::fault::{PlayFault, Stop};
@@ -34,6 +35,7 @@ pub fn play<B: Backend, R: Read + Drop, W: Write + Drop>(
     writer: W,
 ) -> Result<(), PlayFault>
     ensures read { IfSome (R.remaining reader) (λ input. Reads (script_of input) result) }
+    ensures bad_line { (line : ℕ) → result ≡ Err (NotACommand line) → 0 < line }
 {
     let Ok(mut out) = BufWriter::new(alloc, writer) else {
         return Err(PlayFault::Memory);
@@ -60,6 +62,7 @@ pub fn play_to<B: Backend, R: Read, W: Write>(
     ensures read { IfSome (R.remaining reader.old) (λ input. Reads (script_of input) result) }
     ensures written { IfSome (R.remaining reader.old) (λ input. Written B.SHARES (script_of input)
         (W.contents out.old) (W.contents out.new) result) }
+    ensures bad_line { (line : ℕ) → result ≡ Err (NotACommand line) → 0 < line }
 {
     let mut input = Vec::new(alloc);
     if let Err(error) = reader.read_to_end(&mut input) {
@@ -100,7 +103,14 @@ fn play_lines<B: Backend, W: Write>(
     let mut meter = Meter::new();
     let mut commands = Vec::with_capacity(alloc, AT_ONCE)?;
     for said in &script.lines {
-        play_line(alloc, script.line(said), &mut pool, &mut commands, &mut meter, out)?;
+        play_line(
+            alloc,
+            script.line(said),
+            &mut pool,
+            &mut commands,
+            &mut meter,
+            out,
+        )?;
     }
     perform(alloc, &mut pool, commands.as_slice(), &mut meter, out)
 }

@@ -1,7 +1,8 @@
 //! A whole script: its lines, and what each says.
-ghost use Rattle.std.specs.Prelude.{◌≡◌, IfOk, IsErrOf, None};
+ghost use Rattle.std.specs.Prelude.{◌≡◌, ◌<◌, ℕ, Err, IfOk, IsErrOf, None};
 ghost use Rattle.hip_script.specs.Grammar.{line_said, script_of};
 ghost use Rattle.hip_script.specs.Said.{GivesScript, ReadsLine, held};
+ghost use Rattle.hip_script.specs.declared.fault.PlayFault.TheVariants.{NotACommand};
 
 use crate::buffers::Buffers;
 use crate::fault::{LineFault, PlayFault};
@@ -22,7 +23,8 @@ impl<'l> Script<'l> {
     ///
     /// Room for all lines is taken first, as many as there are line feeds, and one.
     pub(crate) fn read(alloc: Global, input: &'l [u8]) -> Result<Self, PlayFault>
-        ensures { GivesScript result (script_of input.now) }
+        ensures script { GivesScript result (script_of input.now) }
+        ensures bad_line { (line : ℕ) → result ≡ Err (NotACommand line) → 0 < line }
     {
         let mut lines = Vec::with_capacity(alloc, count_feeds(input).saturating_add(1))?;
         let mut buffers = Buffers::new(alloc);

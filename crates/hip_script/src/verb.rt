@@ -118,42 +118,115 @@ pub(crate) enum Follows {
 /// A name, what it tells to do, and the words that follow it.
 pub(crate) type Row = (&'static str, (Verb, &'static [Word]));
 
-
 /// Every line that there is, by the first letter of its name.
 static ROWS: [Row; 34] = [
-    ("borrow", (Verb::Borrow, &[Word::Target, Word::Quoted(Quote::Bytes)])),
+    (
+        "borrow",
+        (Verb::Borrow, &[Word::Target, Word::Quoted(Quote::Bytes)]),
+    ),
     ("bytes", (Verb::Bytes, &[Word::Target])),
-    ("copy", (Verb::Copy, &[Word::Target, Word::Quoted(Quote::Bytes)])),
+    (
+        "copy",
+        (Verb::Copy, &[Word::Target, Word::Quoted(Quote::Bytes)]),
+    ),
     ("clone", (Verb::Clone, &[Word::Source, Word::Target])),
     ("clear", (Verb::Clear, &[Word::Target])),
     ("compare", (Verb::Compare, &[Word::Source, Word::Other])),
-    ("comparepath", (Verb::ComparePath, &[Word::Source, Word::Other])),
+    (
+        "comparepath",
+        (Verb::ComparePath, &[Word::Source, Word::Other]),
+    ),
     ("capacity", (Verb::Capacity, &[Word::Source])),
     ("copied", (Verb::Copied, &[])),
-    ("fields", (Verb::Fields, &[Word::Source, Word::Quoted(Quote::Char)])),
-    ("inline", (Verb::Inline, &[Word::Target, Word::Quoted(Quote::Bytes)])),
-    ("join", (Verb::Join, &[Word::Source, Word::Number, Word::Quoted(Quote::Bytes), Word::Target])),
+    (
+        "fields",
+        (Verb::Fields, &[Word::Source, Word::Quoted(Quote::Char)]),
+    ),
+    (
+        "inline",
+        (Verb::Inline, &[Word::Target, Word::Quoted(Quote::Bytes)]),
+    ),
+    (
+        "join",
+        (
+            Verb::Join,
+            &[
+                Word::Source,
+                Word::Number,
+                Word::Quoted(Quote::Bytes),
+                Word::Target,
+            ],
+        ),
+    ),
     ("kind", (Verb::Kind, &[Word::Source])),
     ("lower", (Verb::Lower, &[Word::Target])),
     ("len", (Verb::Len, &[Word::Source])),
-    ("mutate", (Verb::Mutate, &[Word::Target, Word::Quoted(Quote::Bytes)])),
+    (
+        "mutate",
+        (Verb::Mutate, &[Word::Target, Word::Quoted(Quote::Bytes)]),
+    ),
     ("new", (Verb::New, &[Word::Target])),
     ("owned", (Verb::Owned, &[Word::Target])),
-    ("once", (Verb::Once, &[Word::Source, Word::Target, Word::Other, Word::End, Word::Pattern])),
-    ("push", (Verb::Push, &[Word::Target, Word::Quoted(Quote::Bytes)])),
+    (
+        "once",
+        (
+            Verb::Once,
+            &[
+                Word::Source,
+                Word::Target,
+                Word::Other,
+                Word::End,
+                Word::Pattern,
+            ],
+        ),
+    ),
+    (
+        "push",
+        (Verb::Push, &[Word::Target, Word::Quoted(Quote::Bytes)]),
+    ),
     ("pop", (Verb::Pop, &[Word::Target])),
-    ("pieces", (Verb::Pieces, &[Word::Source, Word::Way, Word::Ends, Word::Target])),
+    (
+        "pieces",
+        (
+            Verb::Pieces,
+            &[Word::Source, Word::Way, Word::Ends, Word::Target],
+        ),
+    ),
     ("room", (Verb::Room, &[Word::Target, Word::Number])),
-    ("repeat", (Verb::Repeat, &[Word::Source, Word::Target, Word::Number])),
-    ("slice", (Verb::Slice, &[Word::Source, Word::Target, Word::Range])),
+    (
+        "repeat",
+        (Verb::Repeat, &[Word::Source, Word::Target, Word::Number]),
+    ),
+    (
+        "slice",
+        (Verb::Slice, &[Word::Source, Word::Target, Word::Range]),
+    ),
     ("shrink", (Verb::Shrink, &[Word::Target, Word::Number])),
-    ("set", (Verb::Set, &[Word::Target, Word::Number, Word::Byte])),
-    ("strip", (Verb::Strip, &[Word::Source, Word::Target, Word::End, Word::Pattern])),
+    (
+        "set",
+        (Verb::Set, &[Word::Target, Word::Number, Word::Byte]),
+    ),
+    (
+        "strip",
+        (
+            Verb::Strip,
+            &[Word::Source, Word::Target, Word::End, Word::Pattern],
+        ),
+    ),
     ("show", (Verb::Show, &[Word::Source])),
     ("truncate", (Verb::Truncate, &[Word::Target, Word::Number])),
     ("text", (Verb::Text, &[Word::Target])),
-    ("trim", (Verb::Trim, &[Word::Source, Word::Target, Word::Side])),
-    ("trimm", (Verb::TrimMatches, &[Word::Source, Word::Target, Word::Side, Word::Pattern])),
+    (
+        "trim",
+        (Verb::Trim, &[Word::Source, Word::Target, Word::Side]),
+    ),
+    (
+        "trimm",
+        (
+            Verb::TrimMatches,
+            &[Word::Source, Word::Target, Word::Side, Word::Pattern],
+        ),
+    ),
     ("upper", (Verb::Upper, &[Word::Target])),
 ];
 

@@ -11,8 +11,8 @@ loop-line-preserved c =
     c.in_ok-push-in-Ok.ensures.items c.loop-line.invariant.said in
     record { within = on.0; said = on.1; counted = omega (arith, c.in-Some.ensures.shorter) }
 
-pub returns : goal.returns
-returns c = (
+pub returns-clause-script : goal.returns-clause-script
+returns-clause-script c = (
   map (says_in (held c.loop-line.buffers)) c.loop-line.lines.items,
   script-ends _ _ _ _ c.in_default.ensures.none c.loop-line.invariant.said,
   record { within = c.loop-line.invariant.within; say = refl },
