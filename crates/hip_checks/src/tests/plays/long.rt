@@ -28,7 +28,10 @@ const TAKEN: &[(&str, &str)] = &[
     ("copy 0 \"\\x00\"\npop 0\n", "done\nbyte 0\n"),
     ("copy 0 \"\\x63\"\npop 0\n", "done\nbyte 99\n"),
     ("copy 0 \"\\xff\"\npop 0\n", "done\nbyte 255\n"),
-    ("copy 0 \"\\xc2\\xa2\"\ntext 0\npop 0\n", "done\ndone\nchar 162\n"),
+    (
+        "copy 0 \"\\xc2\\xa2\"\ntext 0\npop 0\n",
+        "done\ndone\nchar 162\n",
+    ),
     (
         "copy 0 \"\\xe2\\x82\\xac\"\ntext 0\npop 0\n",
         "done\ndone\nchar 8364\n",
@@ -129,10 +132,11 @@ fn lent(rt: HostRuntime) -> Result<(), Fail> {
 
 /// A script prints these answers on either backend.
 fn prints(rt: &impl Abort, alloc: Global, script: &str, answers: &str) {
-    for (written, ended) in [
-        played::<Rc>(alloc, script),
-        played::<Unique>(alloc, script),
-    ] {
-        assert_eq!(rt; (written.as_slice(), ended), (answers.as_bytes(), Ok(())), "{script}");
+    for (written, ended) in [played::<Rc>(alloc, script), played::<Unique>(alloc, script)] {
+        assert_eq!(rt;
+            (written.as_slice(), ended),
+            (answers.as_bytes(), Ok(())),
+            "{script}"
+        );
     }
 }
