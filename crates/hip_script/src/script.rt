@@ -10,6 +10,9 @@ use crate::lines::first_line;
 use crate::said::Said;
 use crate::words::Words;
 use std::alloc::Global;
+use std::simd::prelude::*;
+
+const LANES: usize = 16;
 
 /// A script that was read: what its lines say, and the buffers of what has no place of its own in it.
 #[derive(Drop)]
@@ -46,9 +49,17 @@ impl<'l> Script<'l> {
     }
 }
 
-/// How many line feeds there are.
+/// How many line feeds there are, sixteen bytes at a time.
 fn count_feeds(input: &[u8]) -> usize {
-    input.iter().filter(|byte| **byte == b'\n').count()
+    let mut count = 0usize;
+    let mut rest = input;
+    while LANES <= rest.len() {
+        let feeds = u8x16::from_slice(rest).simd_eq(u8x16::splat(b'\n'));
+        count = count.saturating_add(feeds.to_bitmask().count_ones() as usize);
+        rest = &rest[LANES..];
+    }
+    let last = rest.iter().filter(|byte| **byte == b'\n').count();
+    count.saturating_add(last)
 }
 
 /// Reads a line that is not empty.
