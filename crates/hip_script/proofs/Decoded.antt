@@ -127,17 +127,6 @@ pub literal-byte : (new more rest after : List ℕ) (b : ℕ) (whole : Option (L
 literal-byte new more rest after b whole so_far is no_end no_escape added =
     literal-goes_on new more rest after b whole so_far (ap (decoded Plain) is ∙ plain-byte b after no_end no_escape) added
 
--- a stretch of plain bytes: none before its end is a sign
-pub stretch-goes_on : (k : ℕ) (text new : List ℕ) → k ≤ length text → ((j : ℕ) → j < k → (get_or text j 0 ≡ 34 → ⊥) × (get_or text j 0 ≡ 92 → ⊥))
-    → behind (new ++ take k text) (decoded Plain (drop k text)) ≡ behind new (decoded Plain text)
-stretch-goes_on zero text new inside plain = ap (λ t. behind t (decoded Plain text)) (append-nil new)
-stretch-goes_on (suc k) [] new inside plain = absurd (omega arith)
-stretch-goes_on (suc k) (b ∷ bs) new inside plain =
-    let here = plain zero (omega arith) in
-    let later = stretch-goes_on k bs (new ++ b ∷ []) (omega arith) (λ j below. plain (suc j) (omega arith)) in
-    ap (λ t. behind t (decoded Plain (drop k bs))) (sym (append_assoc new (b ∷ []) (take k bs)))
-    ∙ later ∙ literal-byte new (new ++ b ∷ []) (b ∷ bs) bs b (behind new (decoded Plain (b ∷ bs))) refl refl here.0 here.1 refl
-
 pub no_sign-fails : (text : List ℕ) → ((j : ℕ) → j < length text → (get_or text j 0 ≡ 34 → ⊥) × (get_or text j 0 ≡ 92 → ⊥)) → decoded Plain text ≡ None
 no_sign-fails [] plain = plain-none [] refl
 no_sign-fails (b ∷ bs) plain =
@@ -149,26 +138,6 @@ no_sign text j not_sign = (
   λ is. not_sign (or_left (get_or text j 0 == 34) (get_or text j 0 == 92) (eq-eqb _ _ is)),
   λ is. not_sign (or_right (get_or text j 0 == 34) (get_or text j 0 == 92) (eq-eqb _ _ is)),
 )
-
-plain-upto : (b k : ℕ) (after : List ℕ) → (b ≡ 34 → ⊥) × (b ≡ 92 → ⊥) → ((j : ℕ) → j < k → (get_or after j 0 ≡ 34 → ⊥) × (get_or after j 0 ≡ 92 → ⊥))
-    → (j : ℕ) → j < suc k → (get_or (b ∷ after) j 0 ≡ 34 → ⊥) × (get_or (b ∷ after) j 0 ≡ 92 → ⊥)
-plain-upto b k after first later zero below = first
-plain-upto b k after first later (suc j) below = later j (omega arith)
-
-pub literal-stretch : (new more rest after front back : List ℕ) (b k : ℕ) (whole : Option (List ℕ × List ℕ)) → behind new (decoded Plain rest) ≡ whole
-    → rest ≡ b ∷ after → (b ≡ 34 → ⊥) × (b ≡ 92 → ⊥) → IsFirstByte (is_byte2 34 92) after (Some k) → front ≡ take (k + 1) rest → back ≡ drop (k + 1) rest
-    → more ≡ new ++ front → behind more (decoded Plain back) ≡ whole
-literal-stretch new more rest after front back b k whole so_far is first found front_is back_is added =
-    let high = found.0.high in
-    let fits : suc k ≤ length (b ∷ after) = omega arith in
-    let plain = plain-upto b k after first (λ j below. no_sign after j (found.0.before j (omega arith) below)) in
-    let on = stretch-goes_on (suc k) (b ∷ after) new fits plain in
-    rw (added, front_is, back_is, add-one k, is) (on ∙ ap (λ t. behind new (decoded Plain t)) (sym is) ∙ so_far)
-
-pub literal-no_sign : (rest after : List ℕ) (b : ℕ) → rest ≡ b ∷ after → (b ≡ 34 → ⊥) × (b ≡ 92 → ⊥) → IsFirstByte (is_byte2 34 92) after None → decoded Plain rest ≡ None
-literal-no_sign rest after b is first found =
-    ap (decoded Plain) is ∙ plain-byte b after first.0 first.1
-    ∙ ap (before b) (no_sign-fails after (λ j below. no_sign after j (found j (omega arith) below)))
 
 pub no_sign-none : (text : List ℕ) → IsFirstByte (is_byte2 34 92) text None → decoded Plain text ≡ None
 no_sign-none text found = no_sign-fails text (λ j below. no_sign text j (found j (omega arith) below))

@@ -1,6 +1,6 @@
 //! The words of a line, with one space between two, and what single words say.
 ghost use Rattle.std.specs.Prelude.{◌≡◌, ◌↔◌, ◌<◌, ◌++◌, ℕ, List, [], map, IsTrue, None, Some, MatchOption, IfOk, IfSome, IsErrOf, length, SomeIff, option_and_then};
-ghost use Rattle.memchr.specs.Find.{IsFirstByte, is_byte, is_byte2};
+ghost use Rattle.memchr.specs.Find.{IsFirstByte, is_byte};
 ghost use Rattle.std.specs.Char.{digit_value, is_ascii_hexdigit};
 ghost use Rattle.std.specs.Option.{option_map};
 ghost use Rattle.hip_script.specs.Grammar.{rows};
@@ -12,7 +12,7 @@ use crate::fault::LineFault;
 use crate::said::{Literal, Span};
 use crate::verb::{Verb, Word, named, row_with_name};
 use hipstr::End;
-use memchr::memchr;
+use memchr::{memchr, memchr2};
 use std::marker::Model;
 use std::ops::Bound;
 
@@ -236,7 +236,7 @@ fn decode<'l>(text: &'l [u8], buffer: &mut Vec<u8>) -> Result<(Literal<'l>, &'l 
     ensures ok { IfOk result (λ found. DecodesLiteral (decoded Plain text.now) found.1.now buffer.old.items buffer.new.items found.0) }
     ensures bad { IsErrOf result LineFault.NotACommand → decoded Plain text.now ≡ None }
 {
-    let Some(at) = sign_at(text) else {
+    let Some(at) = memchr2(b'"', b'\\', text) else {
         return Err(LineFault::NotACommand);
     };
     if text[at] == b'"' {
@@ -269,23 +269,12 @@ fn decode_all<'l>(text: &'l [u8], buffer: &mut Vec<u8>) -> Result<&'l [u8], Line
                 rest = after;
             }
             _ => {
-                let Some(more) = sign_at(after) else {
-                    return Err(LineFault::NotACommand);
-                };
-                let (plain, from) = rest.split_at(more + 1);
-                buffer.extend_from_slice(plain)?;
-                rest = from;
+                buffer.push(*first)?;
+                rest = after;
             }
         }
     }
     Err(LineFault::NotACommand)
-}
-
-/// Where the first `"` or `\` stands.
-fn sign_at(text: &[u8]) -> Option<usize>
-    ensures { IsFirstByte (is_byte2 34 92) text.now result }
-{
-    text.iter().position(|byte| matches!(byte, b'"' | b'\\'))
 }
 
 /// The byte that `\"`, `\\` or `\xHH` stands for, and what follows it. The text begins behind the `\`.

@@ -1,7 +1,7 @@
 use Rattle.std.proofs.Common.{rules, ◌∙◌, ap}
 use Rattle.hip_script.specs.Words.{decoded}
 use Rattle.hip_script.specs.Words.Place.{Plain}
-use Rattle.hip_script.proofs.Decoded.{literal-stretch, literal-no_sign, plain-none, plain-escape, literal-ends, literal-fails, literal-goes_on}
+use Rattle.hip_script.proofs.Decoded.{literal-byte, plain-none, plain-escape, literal-ends, literal-fails, literal-goes_on}
 use Rattle.hip_script.proofs.words.decode_all.Goals as goal
 
 pub returns-in-34-clause-ok : goal.returns-in-34-clause-ok
@@ -14,8 +14,7 @@ loop-first-preserved-in-92 c =
 
 pub loop-first-preserved : goal.loop-first-preserved
 loop-first-preserved c =
-    literal-stretch _ _ _ _ _ _ _ _ _ c.loop-first.invariant c.in-Some.ensures.cases.0 (search rules, search rules) c.in-Some-sign_at.ensures
-    c.split_at.ensures.front c.split_at.ensures.back c.in_ok-extend_from_slice-in_default-first.ensures.items
+    literal-byte _ _ _ _ _ _ c.loop-first.invariant c.in-Some.ensures.cases.0 (search rules) (search rules) c.in_ok-push-in_default-first.ensures.items
 
 pub returns-clause-bad : goal.returns-clause-bad
 returns-clause-bad c = λ _. literal-fails _ _ _ _ c.loop-first.invariant (plain-none _ c.in_default.ensures.cases)
@@ -23,7 +22,3 @@ returns-clause-bad c = λ _. literal-fails _ _ _ _ c.loop-first.invariant (plain
 pub returns-in_default-unescape-clause-bad : goal.returns-in_default-unescape-clause-bad
 returns-in_default-unescape-clause-bad c = λ _. literal-fails _ _ _ _ c.loop-first.invariant
     (ap (decoded Plain) c.in-Some.ensures.cases.0 ∙ plain-escape _ _ c.in-92.is ∙ c.in_default-unescape.ensures.value)
-
-pub returns-in_default-sign_at-clause-bad : goal.returns-in_default-sign_at-clause-bad
-returns-in_default-sign_at-clause-bad c = λ _. literal-fails _ _ _ _ c.loop-first.invariant
-    (literal-no_sign _ _ _ c.in-Some.ensures.cases.0 (search rules, search rules) c.in_default-sign_at.ensures)
