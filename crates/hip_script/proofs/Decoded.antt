@@ -1,5 +1,5 @@
 -- Literals, a byte or an escape at a time.
-use Rattle.std.proofs.Common.{◌≡◌, ℕ, ◌+◌, ◌*◌, ◌≤◌, ◌<◌, add-one, true, ◌==◌, ◌||◌, List, [], ◌∷◌, ◌++◌, suc, zero, take, drop, get_or, length, Option, Some, None, arith, refl, sym, ap, ◌∙◌, append_assoc}
+use Rattle.std.proofs.Common.{◌≡◌, ℕ, ◌+◌, ◌*◌, ◌<◌, add-one, true, ◌==◌, ◌||◌, List, [], ◌∷◌, ◌++◌, suc, zero, take, drop, get_or, length, Option, Some, None, arith, refl, sym, ap, ◌∙◌, append_assoc}
 use Rattle.memchr.specs.Find.{IsFirstByte, is_byte2}
 use Rattle.std.proofs.lemmas.List.{append-nil}
 use Rattle.std.specs.Char.{is_ascii_hexdigit, digit_value}

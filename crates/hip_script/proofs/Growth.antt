@@ -1,11 +1,11 @@
 -- What stands in a buffer stands in it when more was added.
-use Rattle.std.proofs.Common.{◌≡◌, ℕ, ◌+◌, ◌-◌, ◌≤◌, Bool, true, List, [], ◌∷◌, ◌++◌, length, drop, Option, Some, None, arith, refl, sym, ap, ◌∙◌, append_assoc, subst}
+use Rattle.std.proofs.Common.{◌≡◌, ℕ, ◌-◌, ◌≤◌, List, [], ◌++◌, length, drop, Option, Some, None, arith, refl, sym, ap, ◌∙◌, append_assoc}
 use Rattle.std.proofs.lemmas.List.{append-nil, take-append-le, drop-append-le, length-drop, length-append}
 use Rattle.std.specs.List.{slice_range}
 use Rattle.std.specs.Option.{MatchOption, option_and_then, option_map}
 use Rattle.std.specs.Str.{is_utf8}
-use Rattle.hip_script.specs.Said.{AddsSpan, Grows, Held, IsSpan, IsWithin, LiteralWithin, QuotedWithin, QuotesAs, ReadsFields, fields_in, in_span, literal_in, quoted_in}
-use Rattle.hip_script.specs.Spoken.{Fields, Pattern, Quoted}
+use Rattle.hip_script.specs.Said.{Grows, Held, IsSpan, IsWithin, LiteralWithin, QuotedWithin, ReadsFields, fields_in, in_span, literal_in, quoted_in}
+use Rattle.hip_script.specs.Spoken.{Fields}
 use Rattle.hip_script.specs.Spoken.Pattern.{TextOf, AnyOf}
 use Rattle.hip_script.specs.Spoken.Quoted.{Plainly, Sought}
 use Rattle.hip_script.specs.Words.{Left}

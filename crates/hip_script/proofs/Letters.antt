@@ -1,9 +1,8 @@
 -- The characters of a text, and the ends that letters stand for, one after another.
 use Rattle.std.proofs.Common.{◌≡◌, ℕ, ◌+◌, ◌≤◌, ◌<◌, List, [], ◌∷◌, ◌++◌, length, drop, get_or, map, Option, Some, None, arith, refl, sym, ap, ◌∙◌, append_assoc}
-use Rattle.std.proofs.lemmas.List.{append-nil, drop_more, drop_all, length-append}
+use Rattle.std.proofs.lemmas.List.{append-nil, drop_more, drop_all}
 use Rattle.std.specs.Option.{option_and_then, option_map}
 use Rattle.hip_script.specs.Grammar.{only}
-use Rattle.hip_script.specs.Spoken.{Quoted}
 use Rattle.hip_script.specs.Spoken.Pattern.{CharOf}
 use Rattle.hip_script.specs.Spoken.Quoted.{Sought}
 use Rattle.hip_script.specs.Words.{end_of, letters_of}

@@ -1,8 +1,8 @@
 -- A line: its name, its words, and nothing behind them.
-use Rattle.std.proofs.Common.{◌≡◌, ℕ, List, Option, Some, None, refl, sym, ap, ◌∙◌}
+use Rattle.std.proofs.Common.{◌≡◌, ℕ, List, Some, None, refl, sym, ap, ◌∙◌}
 use Rattle.std.specs.Option.{option_and_then}
 use Rattle.hip_script.specs.Grammar.{ended, line_said, no_fields, row_said, rows, words_said}
-use Rattle.hip_script.specs.Said.{Held, IsWithin, ReadsFields, ReadsLine, fields_in}
+use Rattle.hip_script.specs.Said.{Held, ReadsFields, ReadsLine, fields_in}
 use Rattle.hip_script.specs.Spoken.{Fields}
 use Rattle.hip_script.specs.Words.{Left, look_up, said_at}
 use Rattle.hip_script.specs.declared.said.Said.{Said}

@@ -1,13 +1,12 @@
 -- A literal is printed stretch by stretch of bytes that stand for themselves.
-use Rattle.std.proofs.Common.{◌≡◌, ℕ, ◌+◌, ◌<◌, ◌≤◌, suc, zero, Bool, true, false, ◌==◌, ◌||◌, not, List, [], ◌∷◌, ◌++◌, length, take, drop, get_or, Option, Some, None, arith, refl, sym, ap, ◌∙◌, add-one, append_assoc}
+use Rattle.std.proofs.Common.{◌≡◌, ℕ, ◌+◌, ◌<◌, suc, zero, Bool, true, false, ◌==◌, ◌||◌, not, List, [], ◌∷◌, ◌++◌, length, take, drop, get_or, Option, Some, None, arith, refl, sym, ap, ◌∙◌, add-one, append_assoc}
 use Rattle.std.proofs.lemmas.Bool.{false_from_ne_true}
-use Rattle.std.proofs.lemmas.List.{append-nil}
 use Rattle.std.specs.Bool.{if◌then◌else◌}
 use Rattle.std.specs.Io.KnownBytes.{Appends}
 use Rattle.std.specs.List.{flat_map}
 use Rattle.memchr.specs.Find.{IsFirstByte}
 use Rattle.hip_script.proofs.Appended.{appends-then}
-use Rattle.hip_script.specs.Printed.{is_printable, printed_byte, printed_hex, printed_literal}
+use Rattle.hip_script.specs.Printed.{is_printable, printed_byte, printed_literal}
 use Rattle.hip_script.specs.Said.{needs_escape}
 
 plain : (q s p : Bool) (a b c d : List ℕ) → (q || (s || not p)) ≡ false → (if q then a else if s then b else if p then c else d) ≡ c

@@ -1,17 +1,17 @@
 -- What is written for the lines of a script, a run or a line at a time.
-use Rattle.std.proofs.Common.{◌≡◌, ℕ, ◌+◌, ◌<◌, ◌≤◌, ◌⊎◌, inl, inr, Bool, List, [], ◌∷◌, ◌++◌, length, take, drop, get_or, map, Option, refl, sym, ap, ◌∙◌, subst, append_assoc, add-zero, arith, ⊎_elim}
+use Rattle.std.proofs.Common.{◌≡◌, ℕ, ◌+◌, ◌<◌, ◌≤◌, Bool, List, [], ◌∷◌, ◌++◌, length, take, drop, get_or, map, Option, refl, sym, ap, ◌∙◌, subst, append_assoc, arith, ⊎_elim}
 use Rattle.std.proofs.lemmas.List.{append-nil, map-append, map_more, take_all, take-append-drop}
 use Rattle.std.specs.Io.KnownBytes.{Appends}
 use Rattle.hipstr.specs.Run.{Run}
-use Rattle.hipstr.specs.Slot.{SlotState, empty_slot}
+use Rattle.hipstr.specs.Slot.{SlotState}
 use Rattle.hipstr.specs.Step.{Costs, Step}
 use Rattle.hipstr.specs.declared.command.Answer.{Answer}
 use Rattle.hipstr.specs.declared.command.Command.{Command}
 use Rattle.hipstr.specs.declared.command.Command.TheVariants.{New, Inline, Borrow, Copy, Room, Clone, Slice, Push, Pop, Truncate, Clear, Shrink, Upper, Lower, Set, Repeat, Join, Mutate, Owned, Text, Bytes, Trim, TrimMatches, Strip, Pieces, Once, Compare, ComparePath, Len, Kind, Capacity}
 use Rattle.hip_script.proofs.Appended.{appends-none, appends-then}
-use Rattle.hip_script.specs.Performed.{AsideText, Performs, PerformsAt, Place, PlaysLine, Tells}
+use Rattle.hip_script.specs.Performed.{AsideText, PerformsAt, Place, PlaysLine, Tells}
 use Rattle.hip_script.specs.Played.{Answers, FieldsText, IsPlayed, IsPlayedInPart, State, Writes, WritesAll, at_start, fields_cost, printed_show}
-use Rattle.hip_script.specs.Printed.{printed_answer, printed_answers, printed_number}
+use Rattle.hip_script.specs.Printed.{printed_answer, printed_answers}
 use Rattle.hip_script.specs.Said.{Held, aside_says, line_says, says_in}
 use Rattle.hip_script.specs.Spoken.{Spoken}
 use Rattle.hip_script.specs.Told.{says}

@@ -1,15 +1,14 @@
 -- What literals say, and words that are added to buffers.
-use Rattle.std.proofs.Common.{◌≡◌, ℕ, ◌+◌, ◌-◌, ◌≤◌, Bool, true, false, List, [], ◌∷◌, ◌++◌, length, drop, take, Option, Some, None, arith, refl, sym, ap, ◌∙◌}
+use Rattle.std.proofs.Common.{◌≡◌, ℕ, ◌+◌, ◌-◌, true, false, List, length, drop, take, Some, None, arith, refl, sym, ap, ◌∙◌}
 use Rattle.std.proofs.Math.Seq.{drop-append_seam}
 use Rattle.std.proofs.lemmas.Bool.{false_from_ne_true}
 use Rattle.std.proofs.lemmas.List.{take_all, length-append}
 use Rattle.std.proofs.lemmas.Str.{is_utf8-from_IsUtf8, IsUtf8-from_is_utf8}
-use Rattle.std.specs.Option.{option_and_then, option_map}
+use Rattle.std.specs.Option.{option_map}
 use Rattle.std.specs.Str.{chars, is_utf8, IsUtf8}
 use Rattle.hip_script.proofs.Growth.{grows-none}
 use Rattle.hip_script.specs.Grammar.{follows_said, only, quoted_as}
-use Rattle.hip_script.specs.Said.{AddsSpan, Grows, Held, IsSpan, IsWithin, LiteralWithin, QuotedWithin, QuotesAs, ReadsFields, fields_in, in_span, literal_in, quoted_in}
-use Rattle.hip_script.specs.Spoken.{Fields, Pattern, Quoted}
+use Rattle.hip_script.specs.Said.{AddsSpan, Held, IsSpan, IsWithin, LiteralWithin, QuotedWithin, QuotesAs, ReadsFields, fields_in, in_span, literal_in, quoted_in}
 use Rattle.hip_script.specs.Spoken.Pattern.{CharOf, AnyOf}
 use Rattle.hip_script.specs.Spoken.Quoted.{Sought}
 use Rattle.hip_script.specs.Words.{Left, ends_of, said_at, word_at}

@@ -1,18 +1,18 @@
 -- The lines of a script, and what they say (docs/PROGRAM.md): a line is a name and the words of its row, with one space between two.
 use Rattle.std.specs.Prelude.{◌≡◌, ℕ, ◌+◌, List, [], ◌∷◌, Option, None, Some, Result, Ok, Err, codes, if◌then◌else◌, refl}
 use Rattle.std.specs.Option.{option_map}
-use Rattle.std.specs.Str.{bytes_eq, chars, is_utf8}
+use Rattle.std.specs.Str.{chars, is_utf8}
 use Rattle.std.specs.declared.ops.Bound.TheVariants.{Included, Unbounded}
 use Rattle.hipstr.specs.declared.End.{End}
 use Rattle.hipstr.specs.declared.End.TheVariants.{Front, Back}
 use Rattle.hipstr.specs.declared.command.Side.{Side}
 use Rattle.hipstr.specs.declared.command.Side.TheVariants.{Start as start_side, End as end_side, Both as both_sides}
 use Rattle.hip_script.specs.Lines.{lines}
-use Rattle.hip_script.specs.Spoken.{Fields, Pattern, Quoted, Spoken, bytes_in, parting, pattern_in, separator_in}
+use Rattle.hip_script.specs.Spoken.{Fields, Quoted, Spoken, bytes_in, parting, pattern_in, separator_in}
 use Rattle.hip_script.specs.Spoken.Pattern.{TextOf, CharOf, AnyOf}
 use Rattle.hip_script.specs.Spoken.Quoted.{Plainly, Sought}
 use Rattle.hip_script.specs.Spoken.Spoken.{SayNew, SayInline, SayBorrow, SayCopy, SayRoom, SayClone, SaySlice, SayPush, SayPop, SayTruncate, SayClear, SayShrink, SayUpper, SayLower, SaySet, SayRepeat, SayJoin, SayMutate, SayOwned, SayText, SayBytes, SayTrim, SayTrimMatches, SayStrip, SayPieces, SayOnce, SayCompare, SayComparePath, SayLen, SayKind, SayCapacity, SayShow, SayCopied, SayFields}
-use Rattle.hip_script.specs.Words.{◌>>=◌, Left, byte_of, ends_of, literal_at, look_up, number_of, range_of, said_at, word_at, next_word, decoded, number_after, at_dot}
+use Rattle.hip_script.specs.Words.{◌>>=◌, Left, byte_of, ends_of, literal_at, look_up, number_of, range_of, said_at, next_word, decoded, number_after, at_dot}
 use Rattle.hip_script.specs.declared.verb.Follows.{Follows}
 use Rattle.hip_script.specs.declared.verb.Follows.TheVariants.{Nothing, APattern, CountAndPattern}
 use Rattle.hip_script.specs.declared.verb.Quote.{Quote}

@@ -1,5 +1,5 @@
 -- What the records of lines say, whose literals stand in the script or in buffers. Only private functions cite these.
-use Rattle.std.specs.Prelude.{◌≡◌, ℕ, ◌≤◌, ◌==◌, ◌||◌, not, Bool, true, List, ◌∷◌, ◌++◌, length, map, Option, Some, Result, Ok, Err, slice_range, Vec}
+use Rattle.std.specs.Prelude.{◌≡◌, ℕ, ◌≤◌, ◌==◌, ◌||◌, not, Bool, true, List, ◌++◌, length, map, Option, Some, Result, Ok, Err, slice_range, Vec}
 use Rattle.std.specs.declared.alloc.Global.{Global}
 use Rattle.hipstr.specs.Handle.{Handle}
 use Rattle.std.specs.List.{AllByRecursion}
@@ -7,7 +7,7 @@ use Rattle.std.specs.Str.{is_utf8}
 use Rattle.hipstr.specs.declared.End.{End}
 use Rattle.hip_script.specs.Grammar.{spoken}
 use Rattle.hip_script.specs.Printed.{is_printable}
-use Rattle.hip_script.specs.Spoken.{Fields, Pattern, Quoted, Spoken}
+use Rattle.hip_script.specs.Spoken.{Fields, Quoted, Spoken}
 use Rattle.hip_script.specs.Spoken.Pattern.{TextOf, CharOf, AnyOf}
 use Rattle.hip_script.specs.Spoken.Quoted.{Plainly, Sought}
 use Rattle.hip_script.specs.Spoken.Spoken.{SayShow, SayCopied, SayFields}
@@ -27,8 +27,6 @@ use Rattle.hip_script.specs.declared.said.Quoted.TheVariants.{Bytes, Text, Char,
 use Rattle.hip_script.specs.declared.said.Said.{Said}
 use Rattle.hip_script.specs.declared.said.Span.{Span}
 use Rattle.hip_script.specs.declared.script.Script.{Script}
-use Rattle.hip_script.specs.declared.verb.Verb.{Verb}
-use Rattle.hip_script.specs.declared.verb.Word.{Word}
 
 -- what the buffers hold: the bytes of literals, the characters of sets, and the ends that pieces are drawn from
 pub record Held : Type 0 where

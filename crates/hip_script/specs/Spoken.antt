@@ -1,5 +1,5 @@
 -- What the lines of a script say (docs/PROGRAM.md, the table of lines), apart from where their bytes stand.
-use Rattle.std.specs.Prelude.{ℕ, List, [], codes}
+use Rattle.std.specs.Prelude.{ℕ, List, []}
 use Rattle.std.specs.declared.ops.Bound.{Bound}
 use Rattle.hipstr.specs.declared.End.{End}
 use Rattle.hipstr.specs.declared.command.Side.{Side}

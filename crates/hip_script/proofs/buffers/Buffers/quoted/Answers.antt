@@ -1,4 +1,3 @@
-use Rattle.std.proofs.Common.{ap}
 use Rattle.hip_script.specs.Said.{held}
 use Rattle.hip_script.proofs.Quotes.{quotes-bytes, quotes-text, quotes-char, quotes-any, quotes-none, shown-text, shown-none}
 use Rattle.hip_script.proofs.buffers.Buffers.quoted.Goals as goal
