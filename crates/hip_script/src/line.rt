@@ -1,6 +1,10 @@
 //! What lines say, with their literals.
+ghost use Rattle.std.specs.Prelude.{◌≡◌};
+ghost use Rattle.hip_script.specs.Said.{IsWithin, fields_in, held, line_says, quoted_in, says_in};
+ghost use Rattle.hip_script.specs.Spoken.{bytes_in, parting, pattern_in, separator_in};
+ghost use Rattle.hip_script.specs.Told.{how_says, pattern_says};
 
-use crate::said::{Said, Sought};
+use crate::said::{Quoted, Said};
 use crate::script::Script;
 use crate::verb::{Verb, Way};
 use hipstr::{Command, How, Pat};
@@ -26,93 +30,122 @@ pub(crate) enum Line<'b> {
     Aside(Aside),
 }
 
-impl Script {
+impl<'l> Script<'l> {
     /// What a line says.
-    pub(crate) fn line(&self, said: &Said) -> Line<'_> {
+    pub(crate) fn line<'s>(&'s self, said: &Said<'s>) -> Line<'s>
+        requires { IsWithin (held self.now.buffers) said.now }
+        ensures { line_says result ≡ says_in (held self.now.buffers) said.now }
+    {
         Line::Command(match said.verb {
-            Verb::New => Command::New(said.first),
-            Verb::Inline => Command::Inline(said.first, self.literal(said)),
-            Verb::Borrow => Command::Borrow(said.first, self.literal(said)),
-            Verb::Copy => Command::Copy(said.first, self.literal(said)),
-            Verb::Room => Command::Room(said.first, said.second),
-            Verb::Clone => Command::Clone(said.first, said.second),
-            Verb::Slice => Command::Slice(said.first, said.second, said.low, said.high),
-            Verb::Push => Command::Push(said.first, self.literal(said)),
-            Verb::Pop => Command::Pop(said.first),
-            Verb::Truncate => Command::Truncate(said.first, said.second),
-            Verb::Clear => Command::Clear(said.first),
-            Verb::Shrink => Command::Shrink(said.first, said.second),
-            Verb::Upper => Command::Upper(said.first),
-            Verb::Lower => Command::Lower(said.first),
-            Verb::Set => Command::Set(said.first, said.second, said.byte),
-            Verb::Repeat => Command::Repeat(said.first, said.second, said.third),
-            Verb::Join => Command::Join(said.first, said.second, self.literal(said), said.third),
-            Verb::Mutate => Command::Mutate(said.first, self.literal(said)),
-            Verb::Owned => Command::Owned(said.first),
-            Verb::Text => Command::Text(said.first),
-            Verb::Bytes => Command::Bytes(said.first),
-            Verb::Trim => Command::Trim(said.first, said.second, said.side),
+            Verb::New => Command::New(said.target),
+            Verb::Inline => Command::Inline(said.target, self.bytes(said)),
+            Verb::Borrow => Command::Borrow(said.target, self.bytes(said)),
+            Verb::Copy => Command::Copy(said.target, self.bytes(said)),
+            Verb::Room => Command::Room(said.target, said.number),
+            Verb::Clone => Command::Clone(said.source, said.target),
+            Verb::Slice => Command::Slice(said.source, said.target, said.low, said.high),
+            Verb::Push => Command::Push(said.target, self.bytes(said)),
+            Verb::Pop => Command::Pop(said.target),
+            Verb::Truncate => Command::Truncate(said.target, said.number),
+            Verb::Clear => Command::Clear(said.target),
+            Verb::Shrink => Command::Shrink(said.target, said.number),
+            Verb::Upper => Command::Upper(said.target),
+            Verb::Lower => Command::Lower(said.target),
+            Verb::Set => Command::Set(said.target, said.number, said.byte),
+            Verb::Repeat => Command::Repeat(said.source, said.target, said.number),
+            Verb::Join => Command::Join(said.source, said.number, self.bytes(said), said.target),
+            Verb::Mutate => Command::Mutate(said.target, self.bytes(said)),
+            Verb::Owned => Command::Owned(said.target),
+            Verb::Text => Command::Text(said.target),
+            Verb::Bytes => Command::Bytes(said.target),
+            Verb::Trim => Command::Trim(said.source, said.target, said.side),
             Verb::TrimMatches => Command::TrimMatches(
-                said.first,
-                said.second,
+                said.source,
+                said.target,
                 said.side,
                 self.pattern(said),
             ),
-            Verb::Strip => Command::Strip(said.first, said.second, said.end, self.pattern(said)),
+            Verb::Strip => Command::Strip(said.source, said.target, said.end, self.pattern(said)),
             Verb::Pieces => Command::Pieces(
-                said.first,
+                said.source,
                 self.how(said),
-                said.ends.of(&self.ends),
-                said.second,
+                said.ends.of(&self.buffers.ends),
+                said.target,
             ),
             Verb::Once => Command::Once(
-                said.first,
-                said.second,
-                said.third,
+                said.source,
+                said.target,
+                said.other,
                 said.end,
                 self.pattern(said),
             ),
-            Verb::Compare => Command::Compare(said.first, said.second),
-            Verb::ComparePath => Command::ComparePath(said.first, said.second),
-            Verb::Len => Command::Len(said.first),
-            Verb::Kind => Command::Kind(said.first),
-            Verb::Capacity => Command::Capacity(said.first),
-            Verb::Show => return Line::Aside(Aside::Show(said.first)),
+            Verb::Compare => Command::Compare(said.source, said.other),
+            Verb::ComparePath => Command::ComparePath(said.source, said.other),
+            Verb::Len => Command::Len(said.source),
+            Verb::Kind => Command::Kind(said.source),
+            Verb::Capacity => Command::Capacity(said.source),
+            Verb::Show => return Line::Aside(Aside::Show(said.source)),
             Verb::Copied => return Line::Aside(Aside::Copied),
-            Verb::Fields => return Line::Aside(Aside::Fields(said.first, said.separator)),
+            Verb::Fields => return Line::Aside(Aside::Fields(said.source, separator(said))),
         })
     }
 
     /// The bytes of a line's literal.
-    fn literal(&self, said: &Said) -> &[u8] {
-        said.literal.of(&self.bytes)
+    fn bytes<'s>(&'s self, said: &Said<'s>) -> &'s [u8]
+        requires { IsWithin (held self.now.buffers) said.now }
+        ensures { result.now ≡ bytes_in (quoted_in (held self.now.buffers) said.now.quoted) }
+    {
+        match said.quoted {
+            Quoted::Bytes(literal) => literal.of(&self.buffers.bytes),
+            _ => &[],
+        }
     }
 
     /// What a line looks for.
-    fn pattern(&self, said: &Said) -> Pat<'_> {
-        match said.sought {
-            Sought::Text => Pat::Text(str::from_utf8(self.literal(said)).unwrap_or("")),
-            Sought::Char(c) => Pat::Char(c),
-            Sought::Set => Pat::Set(said.literal.of(&self.chars)),
+    fn pattern<'s>(&'s self, said: &Said<'s>) -> Pat<'s>
+        requires { IsWithin (held self.now.buffers) said.now }
+        ensures { pattern_says result ≡ pattern_in (quoted_in (held self.now.buffers) said.now.quoted) }
+    {
+        match said.quoted {
+            Quoted::Bytes(_) => Pat::Text(""),
+            Quoted::Text(literal) => match str::from_utf8(literal.of(&self.buffers.bytes)) {
+                Ok(text) => Pat::Text(text),
+                Err(_) => Pat::Text(""),
+            },
+            Quoted::Char(c) => Pat::Char(c),
+            Quoted::Any(span) => Pat::Set(span.of(&self.buffers.chars)),
         }
     }
 
     /// How a line takes a text apart.
-    fn how(&self, said: &Said) -> How<'_> {
+    fn how<'s>(&'s self, said: &Said<'s>) -> How<'s>
+        requires { IsWithin (held self.now.buffers) said.now }
+        ensures { how_says result ≡ parting said.now.way said.now.number (pattern_in (quoted_in (held self.now.buffers) said.now.quoted)) }
+    {
         let pattern = self.pattern(said);
         match said.way {
             Way::Split => How::Split(pattern),
             Way::Inclusive => How::Inclusive(pattern),
             Way::Terminator => How::Terminator(pattern),
-            Way::SplitN => How::SplitN(said.count, pattern),
+            Way::SplitN => How::SplitN(said.number, pattern),
             Way::Matches => How::Matches(pattern),
             Way::RSplit => How::RSplit(pattern),
             Way::RTerminator => How::RTerminator(pattern),
-            Way::RSplitN => How::RSplitN(said.count, pattern),
+            Way::RSplitN => How::RSplitN(said.number, pattern),
             Way::RMatches => How::RMatches(pattern),
             Way::Lines => How::Lines,
             Way::Words => How::Words,
             Way::AsciiWords => How::AsciiWords,
         }
+    }
+}
+
+/// The character between fields.
+fn separator(said: &Said<'_>) -> char
+    ensures { (held : _) → result ≡ separator_in (quoted_in held said.now.quoted) }
+{
+    match said.quoted {
+        Quoted::Char(c) => c,
+        _ => ',',
     }
 }

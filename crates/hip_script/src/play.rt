@@ -1,56 +1,84 @@
 //! Playing a script.
-ghost use Rattle.std.specs.Prelude.{◌≡◌, ◌<◌, ℕ, Err};
+ghost use Rattle.std.specs.Prelude.{◌≡◌, ◌<◌, ◌⊎◌, ℕ, List, map, Err, IfSome, IsErrOf, OnOk};
+ghost use Rattle.std.specs.Io.KnownBytes.{Appends};
+ghost use Rattle.std.specs.List.{AllByRecursion};
+ghost use Rattle.hip_script.specs.Grammar.{script_of};
+ghost use Rattle.hip_script.specs.Performed.{Performs, PlaysLine, Tells};
+ghost use Rattle.hip_script.specs.Played.{FieldsText, IsPlayed, IsPlayedInPart, Reads, Written, fields_cost, printed_show};
+ghost use Rattle.hip_script.specs.Printed.{printed_answers};
+ghost use Rattle.hip_script.specs.Said.{IsWithin, held, says_in};
 ghost use Rattle.hip_script.specs.declared.fault.PlayFault.TheVariants.{NotACommand};
+ghost use Rattle.hipstr.specs.Meter.{RisesAtMost};
 
 use crate::fault::{PlayFault, Stop};
 use crate::line::{Aside, Line};
-use crate::print::{print_answer, print_literal, print_records};
+use crate::print::{print_answer, print_records, print_slot};
 use crate::script::Script;
 use hip_fields::records_metered;
-use hipstr::string::HipStr;
 use hipstr::{Answer, Backend, Command, Meter, Pool, Reason, Slot, run};
-use std::alloc::{AllocError, Global};
+use std::alloc::Global;
 use std::io;
 use std::io::{BufWriter, ErrorKind, Read, Write};
 
 /// How many slots a script works on.
-pub(crate) const SLOTS: usize = 16;
+const SLOTS: usize = 16;
 
-/// Plays a script: reads it whole, performs its commands on a pool of [`SLOTS`] slots, and writes
-/// the answers, one a line.
+/// How many commands are run at once at most, so that they and their answers stay near.
+const AT_ONCE: usize = 256;
+
+/// Plays a script: reads it whole, performs its commands on a pool of sixteen slots, and writes the answers, one a line.
 ///
-/// A script with a line that is no command is refused before anything runs. What was written
-/// before a later fault stays written.
+/// A script with a line that is no command is refused before anything runs. What was written before a later fault stays written.
 pub fn play<B: Backend, R: Read + Drop, W: Write + Drop>(
     alloc: Global,
     mut reader: R,
     writer: W,
 ) -> Result<(), PlayFault>
+    ensures read { IfSome (R.remaining reader) (λ input. Reads (script_of input) result) }
     ensures bad_line { (line : ℕ) → result ≡ Err (NotACommand line) → 0 < line }
 {
-    let script = read_script(alloc, &mut reader)?;
     let Ok(mut out) = BufWriter::new(alloc, writer) else {
         return Err(PlayFault::Memory);
     };
-    let played = play_lines::<B, _>(alloc, &script, &mut out);
-    leave(out, played)?;
-    Ok(())
+    let played = play_to::<B, _, _>(alloc, &mut reader, &mut out);
+    let flushed = match played {
+        Err(PlayFault::WriteFailed) => Ok(()),
+        _ => out.flush(),
+    };
+    let (_writer, _unwritten) = out.into_parts();
+    played?;
+    match flushed {
+        Ok(()) => Ok(()),
+        Err(_) => Err(PlayFault::WriteFailed),
+    }
 }
 
-/// Reads a script whole.
-fn read_script<R: Read>(alloc: Global, reader: &mut R) -> Result<Script, PlayFault>
+/// [`play`], from and to what is lent. Each line is written at once, so `out` had better gather them; it isn't flushed.
+pub fn play_to<B: Backend, R: Read, W: Write>(
+    alloc: Global,
+    reader: &mut R,
+    out: &mut W,
+) -> Result<(), PlayFault>
+    ensures read { IfSome (R.remaining reader.old) (λ input. Reads (script_of input) result) }
+    ensures written { IfSome (R.remaining reader.old) (λ input. Written B.SHARES (script_of input)
+        (W.contents out.old) (W.contents out.new) result) }
     ensures bad_line { (line : ℕ) → result ≡ Err (NotACommand line) → 0 < line }
 {
     let mut input = Vec::new(alloc);
     if let Err(error) = reader.read_to_end(&mut input) {
         return Err(read_fault(&error));
     }
-    Script::read(alloc, input.as_slice())
+    let script = Script::read(alloc, input.as_slice())?;
+    match play_lines::<B, _>(alloc, &script, out) {
+        Ok(()) => Ok(()),
+        Err(Stop::WriteFailed) => Err(PlayFault::WriteFailed),
+        Err(Stop::Memory) => Err(PlayFault::Memory),
+    }
 }
 
 /// Why the script could not be read.
 fn read_fault(error: &io::Error) -> PlayFault
-    ensures { (line : ℕ) → result ≡ NotACommand line → ⊥ }
+    ensures { (result ≡ PlayFault.ReadFailed) ⊎ (result ≡ PlayFault.Memory) }
 {
     match error.kind() {
         ErrorKind::OutOfMemory => PlayFault::Memory,
@@ -58,26 +86,65 @@ fn read_fault(error: &io::Error) -> PlayFault
     }
 }
 
-/// Plays all lines. Each list of commands between two other lines is one run.
+/// Plays all lines.
 fn play_lines<B: Backend, W: Write>(
     alloc: Global,
-    script: &Script,
+    script: &Script<'_>,
     out: &mut W,
-) -> Result<(), Stop> {
+) -> Result<(), Stop>
+    requires { AllByRecursion (IsWithin (held script.now.buffers)) script.now.lines.items }
+    ensures ok { OnOk result (IsPlayed B.SHARES (map (says_in (held script.now.buffers)) script.now.lines.items)
+        (W.contents out.old) (W.contents out.new)) }
+    ensures memory { IsErrOf result Stop.Memory
+        → IsPlayedInPart B.SHARES (map (says_in (held script.now.buffers)) script.now.lines.items)
+        (W.contents out.old) (W.contents out.new) }
+{
     let mut pool = Pool::<B>::new(alloc, SLOTS)?;
     let mut meter = Meter::new();
-    let mut commands = Vec::new(alloc);
+    let mut commands = Vec::with_capacity(alloc, AT_ONCE)?;
     for said in &script.lines {
-        match script.line(said) {
-            Line::Command(command) => commands.push(command)?,
-            Line::Aside(aside) => {
-                perform(alloc, &mut pool, commands.as_slice(), &mut meter, out)?;
-                commands.clear();
-                tell(alloc, &pool, &mut meter, aside, out)?;
-            }
-        }
+        play_line(
+            alloc,
+            script.line(said),
+            &mut pool,
+            &mut commands,
+            &mut meter,
+            out,
+        )?;
     }
     perform(alloc, &mut pool, commands.as_slice(), &mut meter, out)
+}
+
+/// Plays a line: a command waits until there are many, and what is none is told after those that waited.
+fn play_line<'b, B: Backend, W: Write>(
+    alloc: Global,
+    line: Line<'b>,
+    pool: &mut Pool<'b, B>,
+    commands: &mut Vec<Command<'b>>,
+    meter: &mut Meter,
+    out: &mut W,
+) -> Result<(), Stop>
+    ensures ok { OnOk result (PlaysLine B.SHARES line.entry commands.old.items commands.new.items
+        (record { slots = pool.old; counted = meter.old; written = W.contents out.old })
+        (record { slots = pool.new; counted = meter.new; written = W.contents out.new })) }
+    ensures memory { IsErrOf result Stop.Memory → W.contents out.new ≡ W.contents out.old }
+{
+    match line {
+        Line::Command(command) => {
+            commands.push(command)?;
+            if commands.len() < AT_ONCE {
+                return Ok(());
+            }
+            perform(alloc, pool, commands.as_slice(), meter, out)?;
+            commands.clear();
+            Ok(())
+        }
+        Line::Aside(aside) => {
+            perform(alloc, pool, commands.as_slice(), meter, out)?;
+            commands.clear();
+            tell(alloc, pool, aside, meter, out)
+        }
+    }
 }
 
 /// Performs commands, and prints their answers.
@@ -87,9 +154,21 @@ fn perform<'b, B: Backend, W: Write>(
     commands: &[Command<'b>],
     meter: &mut Meter,
     out: &mut W,
-) -> Result<(), Stop> {
-    let answers = answers_of(alloc, pool, commands, meter)?;
-    for answer in &answers {
+) -> Result<(), Stop>
+    ensures ok { OnOk result (Performs B.SHARES pool.old commands.now pool.new meter.old meter.new
+        (W.contents out.old) (W.contents out.new)) }
+    ensures memory { IsErrOf result Stop.Memory → W.contents out.new ≡ W.contents out.old }
+{
+    let answers = run(alloc, pool, commands, meter)?;
+    print_answers(out, answers.as_slice())
+}
+
+/// Prints answers, one a line.
+fn print_answers<W: Write>(out: &mut W, answers: &[Answer]) -> Result<(), Stop>
+    ensures ok { OnOk result (Appends (W.contents out.old) (W.contents out.new) (printed_answers answers.now)) }
+    ensures memory { IsErrOf result Stop.Memory → ⊥ }
+{
+    for answer in answers {
         if print_answer(out, *answer).is_err() {
             return Err(Stop::WriteFailed);
         }
@@ -97,69 +176,57 @@ fn perform<'b, B: Backend, W: Write>(
     Ok(())
 }
 
-/// What commands answer. Printing needs nothing of what [`run`] promises.
-fn answers_of<'b, B: Backend>(
-    alloc: Global,
-    pool: &mut Pool<'b, B>,
-    commands: &[Command<'b>],
-    meter: &mut Meter,
-) -> Result<Vec<Answer>, AllocError> {
-    run(alloc, pool, commands, meter)
-}
-
-/// Prints what a line asks for that is no command.
+/// Tells what a line asks for that is no command.
 fn tell<B: Backend, W: Write>(
     alloc: Global,
     pool: &Pool<'_, B>,
-    meter: &mut Meter,
     aside: Aside,
+    meter: &mut Meter,
     out: &mut W,
-) -> Result<(), Stop> {
+) -> Result<(), Stop>
+    ensures ok { OnOk result (Tells B.SHARES pool.now aside meter.old meter.new (W.contents out.old) (W.contents out.new)) }
+    ensures memory { IsErrOf result Stop.Memory → ⊥ }
+{
     let told = match aside {
         Aside::Show(slot) => show(pool, slot, out),
         Aside::Copied => writeln!(out, "{}", meter.copied()),
-        Aside::Fields(slot, separator) => match records_of(alloc, pool, slot, separator, meter) {
-            Ok(records) => print_records(out, &records),
-            Err(reason) => print_answer(out, Answer::Refused(reason)),
-        },
+        Aside::Fields(slot, separator) => tell_fields(alloc, pool, slot, separator, meter, out),
     };
-    told.map_err(|_| Stop::WriteFailed)
-}
-
-/// Prints the bytes of a slot.
-fn show<B: Backend, W: Write>(pool: &Pool<'_, B>, slot: usize, out: &mut W) -> io::Result<()> {
-    let Some(slot) = pool.slot(slot) else {
-        return writeln!(out, "refused NoSlot");
-    };
-    out.write_all(if slot.is_text() { b"text " } else { b"bytes " })?;
-    print_literal(out, slot.as_bytes())?;
-    writeln!(out)
-}
-
-/// The records of a slot's text. Printing needs nothing of what [`records_metered`] promises.
-fn records_of<'b, B: Backend>(
-    alloc: Global,
-    pool: &Pool<'b, B>,
-    slot: usize,
-    separator: char,
-    meter: &mut Meter,
-) -> Result<Vec<Vec<HipStr<'b, B>>>, Reason> {
-    match pool.slot(slot) {
-        Some(Slot::Text(text)) => {
-            records_metered(alloc, text, separator, meter).map_err(|_| Reason::Memory)
-        }
-        Some(Slot::Bytes(_)) => Err(Reason::NotText),
-        None => Err(Reason::NoSlot),
+    match told {
+        Ok(()) => Ok(()),
+        Err(_) => Err(Stop::WriteFailed),
     }
 }
 
-/// Writes what waits in the buffer, but nothing more after a failed write.
-fn leave<W: Write + Drop>(mut out: BufWriter<W>, played: Result<(), Stop>) -> Result<(), Stop> {
-    let flushed = match played {
-        Err(Stop::WriteFailed) => Ok(()),
-        _ => out.flush(),
-    };
-    let (_writer, _unwritten) = out.into_parts();
-    played?;
-    flushed.map_err(|_| Stop::WriteFailed)
+/// Prints a slot.
+fn show<B: Backend, W: Write>(pool: &Pool<'_, B>, slot: usize, out: &mut W) -> io::Result<()>
+    ensures { OnOk result (Appends (W.contents out.old) (W.contents out.new) (printed_show pool.now slot)) }
+{
+    match pool.slot(slot) {
+        Some(slot) => print_slot(out, slot.is_text(), slot.as_bytes()),
+        None => out.write_all(b"refused NoSlot\n"),
+    }
+}
+
+/// Prints the records of a slot's text, or why there are none.
+fn tell_fields<B: Backend, W: Write>(
+    alloc: Global,
+    pool: &Pool<'_, B>,
+    slot: usize,
+    separator: char,
+    meter: &mut Meter,
+    out: &mut W,
+) -> io::Result<()>
+    ensures ok { OnOk result ((text : List ℕ) × FieldsText pool.now slot separator text
+        × Appends (W.contents out.old) (W.contents out.new) text) }
+    ensures counted { RisesAtMost meter.old meter.new (fields_cost B.SHARES pool.now slot separator) }
+{
+    match pool.slot(slot) {
+        Some(Slot::Text(text)) => match records_metered(alloc, text, separator, meter) {
+            Ok(records) => print_records(out, records.as_slice()),
+            Err(_) => out.write_all(b"refused Memory\n"),
+        },
+        Some(Slot::Bytes(_)) => out.write_all(b"refused NotText\n"),
+        None => out.write_all(b"refused NoSlot\n"),
+    }
 }

@@ -1,4 +1,4 @@
-//! What a line says, by positions.
+//! What a line says, with its literals where they stand.
 
 use crate::verb::{Verb, Way};
 use hipstr::{End, Side};
@@ -12,68 +12,100 @@ pub(crate) struct Span {
 }
 
 impl Span {
-    /// A stretch of nothing.
-    pub(crate) const EMPTY: Span = Span { start: 0, end: 0 };
+    ghost use Rattle.std.specs.Prelude.{◌≡◌, length};
+    ghost use Rattle.hip_script.specs.Said.{IsSpan, in_span};
 
     /// What of a buffer stands there.
-    pub(crate) fn of<T>(self, buffer: &[T]) -> &[T] {
-        buffer.get(self.start..self.end).unwrap_or(&[])
+    pub(crate) fn of<T>(self, buffer: &[T]) -> &[T]
+        requires { IsSpan (length buffer.now) self }
+        ensures { result.now ≡ in_span buffer.now self }
+    {
+        &buffer[self.start..self.end]
     }
 }
 
-/// What is looked for in a text.
+/// The bytes of a literal.
 #[derive(Clone, Copy)]
-pub(crate) enum Sought {
-    /// The line's literal.
-    Text,
+pub(crate) enum Literal<'l> {
+    /// They stand in the script as they are.
+    Plain(&'l [u8]),
+    /// They were decoded.
+    Decoded(Span),
+}
+
+impl<'l> Literal<'l> {
+    ghost use Rattle.std.specs.Prelude.{◌≡◌};
+    ghost use Rattle.hip_script.specs.Said.{LiteralWithin, literal_in};
+
+    /// Its bytes, where those that were decoded stand in this buffer.
+    pub(crate) fn of(self, bytes: &'l [u8]) -> &'l [u8]
+        requires { LiteralWithin bytes.now self }
+        ensures { result.now ≡ literal_in bytes.now self.entry }
+    {
+        match self {
+            Literal::Plain(text) => text,
+            Literal::Decoded(span) => span.of(bytes),
+        }
+    }
+}
+
+/// What a literal says.
+#[derive(Clone, Copy)]
+pub(crate) enum Quoted<'l> {
+    /// Bytes.
+    Bytes(Literal<'l>),
+    /// A text.
+    Text(Literal<'l>),
     /// A character.
     Char(char),
-    /// Each character of the line's literal.
-    Set,
+    /// Each of these characters.
+    Any(Span),
 }
 
 /// What a line says. What its verb doesn't ask for is as in [`Said::new`].
 #[derive(Clone, Copy)]
-pub(crate) struct Said {
+pub(crate) struct Said<'l> {
     pub(crate) verb: Verb,
-    pub(crate) first: usize,
-    pub(crate) second: usize,
-    pub(crate) third: usize,
     pub(crate) byte: u8,
-    pub(crate) low: Bound<usize>,
-    pub(crate) high: Bound<usize>,
     pub(crate) side: Side,
     pub(crate) end: End,
     pub(crate) way: Way,
-    pub(crate) count: usize,
-    pub(crate) sought: Sought,
-    /// The character between fields.
-    pub(crate) separator: char,
-    /// Where the literal's bytes stand, or of a set its characters.
-    pub(crate) literal: Span,
+    pub(crate) source: usize,
+    pub(crate) target: usize,
+    pub(crate) other: usize,
+    pub(crate) number: usize,
+    pub(crate) low: Bound<usize>,
+    pub(crate) high: Bound<usize>,
+    pub(crate) quoted: Quoted<'l>,
     /// Where the ends stand that pieces are drawn from.
     pub(crate) ends: Span,
 }
 
-impl Said {
+impl Said<'_> {
+    ghost use Rattle.std.specs.Prelude.{◌≡◌};
+    ghost use Rattle.hip_script.specs.Grammar.{no_fields};
+    ghost use Rattle.hip_script.specs.Said.{Held, IsWithin, fields_in};
+
     /// A verb alone.
-    pub(crate) fn new(verb: Verb) -> Self {
+    pub(crate) fn new(verb: Verb) -> Self
+        ensures verb { result.verb ≡ verb }
+        ensures fields { (held : Held) → fields_in held result ≡ no_fields }
+        ensures within { (held : Held) → IsWithin held result }
+    {
         Said {
             verb,
-            first: 0,
-            second: 0,
-            third: 0,
             byte: 0,
-            low: Bound::Unbounded,
-            high: Bound::Unbounded,
             side: Side::Both,
             end: End::Front,
             way: Way::Lines,
-            count: 0,
-            sought: Sought::Text,
-            separator: ',',
-            literal: Span::EMPTY,
-            ends: Span::EMPTY,
+            source: 0,
+            target: 0,
+            other: 0,
+            number: 0,
+            low: Bound::Unbounded,
+            high: Bound::Unbounded,
+            quoted: Quoted::Bytes(Literal::Plain(&[])),
+            ends: Span { start: 0, end: 0 },
         }
     }
 }

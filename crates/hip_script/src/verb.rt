@@ -1,6 +1,7 @@
-//! What lines tell to do, and which words say it.
-//!
-//! This is the whole grammar: a line is a verb and the words of its row, with one space between two.
+//! The names of lines, and the words that follow each.
+ghost use Rattle.std.specs.Prelude.{◌≡◌, ℕ, List, ◌∷◌, None, Some, MatchOption, map};
+ghost use Rattle.hip_script.specs.Grammar.{rows};
+ghost use Rattle.hip_script.specs.Words.{look_up};
 
 use hipstr::{End, Side};
 
@@ -47,12 +48,14 @@ pub(crate) enum Verb {
 /// What a word says, or the few words of a pattern and of a way.
 #[derive(Clone, Copy)]
 pub(crate) enum Word {
-    /// The line's first number, mostly a slot.
-    First,
-    /// Its second.
-    Second,
-    /// Its third.
-    Third,
+    /// The slot that is asked or taken from.
+    Source,
+    /// The slot that becomes something.
+    Target,
+    /// A further slot.
+    Other,
+    /// A number.
+    Number,
     /// A number that is at most 255.
     Byte,
     /// A range.
@@ -62,107 +65,26 @@ pub(crate) enum Word {
     /// One end.
     End,
     /// Bytes between two `"`.
-    Literal,
-    /// The character between fields: a literal that is just one.
-    Separator,
+    Quoted(Quote),
     /// A word for a pattern, and its literal.
     Pattern,
-    /// A word for a way to take a text apart, and what it needs.
+    /// A word for a way to take a text apart, and what follows it.
     Way,
     /// The ends that pieces are drawn from.
     Ends,
 }
 
-/// The verbs by their names, of those whose names begin with a letter.
-pub(crate) fn verbs_from(letter: u8) -> &'static [(&'static str, Verb)] {
-    match letter {
-        b'b' => &[("borrow", Verb::Borrow), ("bytes", Verb::Bytes)],
-        b'c' => &[
-            ("copy", Verb::Copy),
-            ("clone", Verb::Clone),
-            ("clear", Verb::Clear),
-            ("compare", Verb::Compare),
-            ("comparepath", Verb::ComparePath),
-            ("capacity", Verb::Capacity),
-            ("copied", Verb::Copied),
-        ],
-        b'f' => &[("fields", Verb::Fields)],
-        b'i' => &[("inline", Verb::Inline)],
-        b'j' => &[("join", Verb::Join)],
-        b'k' => &[("kind", Verb::Kind)],
-        b'l' => &[("lower", Verb::Lower), ("len", Verb::Len)],
-        b'm' => &[("mutate", Verb::Mutate)],
-        b'n' => &[("new", Verb::New)],
-        b'o' => &[("owned", Verb::Owned), ("once", Verb::Once)],
-        b'p' => &[
-            ("push", Verb::Push),
-            ("pop", Verb::Pop),
-            ("pieces", Verb::Pieces),
-        ],
-        b'r' => &[("room", Verb::Room), ("repeat", Verb::Repeat)],
-        b's' => &[
-            ("slice", Verb::Slice),
-            ("shrink", Verb::Shrink),
-            ("set", Verb::Set),
-            ("strip", Verb::Strip),
-            ("show", Verb::Show),
-        ],
-        b't' => &[
-            ("truncate", Verb::Truncate),
-            ("text", Verb::Text),
-            ("trim", Verb::Trim),
-            ("trimm", Verb::TrimMatches),
-        ],
-        b'u' => &[("upper", Verb::Upper)],
-        _ => &[],
-    }
-}
-
-impl Verb {
-    /// The words that follow the verb.
-    pub(crate) fn words(self) -> &'static [Word] {
-        match self {
-            Verb::New
-            | Verb::Pop
-            | Verb::Clear
-            | Verb::Upper
-            | Verb::Lower
-            | Verb::Owned
-            | Verb::Text
-            | Verb::Bytes
-            | Verb::Len
-            | Verb::Kind
-            | Verb::Capacity
-            | Verb::Show => &[Word::First],
-            Verb::Inline | Verb::Borrow | Verb::Copy | Verb::Push | Verb::Mutate => &[
-                Word::First,
-                Word::Literal,
-            ],
-            Verb::Room
-            | Verb::Clone
-            | Verb::Truncate
-            | Verb::Shrink
-            | Verb::Compare
-            | Verb::ComparePath => &[Word::First, Word::Second],
-            Verb::Slice => &[Word::First, Word::Second, Word::Range],
-            Verb::Set => &[Word::First, Word::Second, Word::Byte],
-            Verb::Repeat => &[Word::First, Word::Second, Word::Third],
-            Verb::Join => &[Word::First, Word::Second, Word::Literal, Word::Third],
-            Verb::Trim => &[Word::First, Word::Second, Word::Side],
-            Verb::TrimMatches => &[Word::First, Word::Second, Word::Side, Word::Pattern],
-            Verb::Strip => &[Word::First, Word::Second, Word::End, Word::Pattern],
-            Verb::Pieces => &[Word::First, Word::Way, Word::Ends, Word::Second],
-            Verb::Once => &[
-                Word::First,
-                Word::Second,
-                Word::Third,
-                Word::End,
-                Word::Pattern,
-            ],
-            Verb::Copied => &[],
-            Verb::Fields => &[Word::First, Word::Separator],
-        }
-    }
+/// What the bytes of a literal are.
+#[derive(Clone, Copy)]
+pub(crate) enum Quote {
+    /// Just bytes.
+    Bytes,
+    /// A text.
+    Text,
+    /// The one character of a text.
+    Char,
+    /// Each character of a text.
+    Any,
 }
 
 /// A way to take a text apart.
@@ -182,49 +104,197 @@ pub(crate) enum Way {
     AsciiWords,
 }
 
-/// What a way needs.
+/// What follows the name of a way.
 #[derive(Clone, Copy)]
-pub(crate) enum Need {
+pub(crate) enum Follows {
     /// Nothing.
     Nothing,
     /// A pattern.
-    Pattern,
+    APattern,
     /// How many pieces there are to be at most, and a pattern.
     CountAndPattern,
 }
 
-/// Each way, and what follows it.
-pub(crate) const WAYS: &[(&str, (Way, Need))] = &[
-    ("split", (Way::Split, Need::Pattern)),
-    ("inclusive", (Way::Inclusive, Need::Pattern)),
-    ("terminator", (Way::Terminator, Need::Pattern)),
-    ("splitn", (Way::SplitN, Need::CountAndPattern)),
-    ("matches", (Way::Matches, Need::Pattern)),
-    ("rsplit", (Way::RSplit, Need::Pattern)),
-    ("rterminator", (Way::RTerminator, Need::Pattern)),
-    ("rsplitn", (Way::RSplitN, Need::CountAndPattern)),
-    ("rmatches", (Way::RMatches, Need::Pattern)),
-    ("lines", (Way::Lines, Need::Nothing)),
-    ("words", (Way::Words, Need::Nothing)),
-    ("asciiwords", (Way::AsciiWords, Need::Nothing)),
+/// A name, what it tells to do, and the words that follow it.
+pub(crate) type Row = (&'static str, (Verb, &'static [Word]));
+
+/// Every line that there is, by the first letter of its name.
+static ROWS: [Row; 34] = [
+    (
+        "borrow",
+        (Verb::Borrow, &[Word::Target, Word::Quoted(Quote::Bytes)]),
+    ),
+    ("bytes", (Verb::Bytes, &[Word::Target])),
+    (
+        "copy",
+        (Verb::Copy, &[Word::Target, Word::Quoted(Quote::Bytes)]),
+    ),
+    ("clone", (Verb::Clone, &[Word::Source, Word::Target])),
+    ("clear", (Verb::Clear, &[Word::Target])),
+    ("compare", (Verb::Compare, &[Word::Source, Word::Other])),
+    (
+        "comparepath",
+        (Verb::ComparePath, &[Word::Source, Word::Other]),
+    ),
+    ("capacity", (Verb::Capacity, &[Word::Source])),
+    ("copied", (Verb::Copied, &[])),
+    (
+        "fields",
+        (Verb::Fields, &[Word::Source, Word::Quoted(Quote::Char)]),
+    ),
+    (
+        "inline",
+        (Verb::Inline, &[Word::Target, Word::Quoted(Quote::Bytes)]),
+    ),
+    (
+        "join",
+        (
+            Verb::Join,
+            &[
+                Word::Source,
+                Word::Number,
+                Word::Quoted(Quote::Bytes),
+                Word::Target,
+            ],
+        ),
+    ),
+    ("kind", (Verb::Kind, &[Word::Source])),
+    ("lower", (Verb::Lower, &[Word::Target])),
+    ("len", (Verb::Len, &[Word::Source])),
+    (
+        "mutate",
+        (Verb::Mutate, &[Word::Target, Word::Quoted(Quote::Bytes)]),
+    ),
+    ("new", (Verb::New, &[Word::Target])),
+    ("owned", (Verb::Owned, &[Word::Target])),
+    (
+        "once",
+        (
+            Verb::Once,
+            &[
+                Word::Source,
+                Word::Target,
+                Word::Other,
+                Word::End,
+                Word::Pattern,
+            ],
+        ),
+    ),
+    (
+        "push",
+        (Verb::Push, &[Word::Target, Word::Quoted(Quote::Bytes)]),
+    ),
+    ("pop", (Verb::Pop, &[Word::Target])),
+    (
+        "pieces",
+        (
+            Verb::Pieces,
+            &[Word::Source, Word::Way, Word::Ends, Word::Target],
+        ),
+    ),
+    ("room", (Verb::Room, &[Word::Target, Word::Number])),
+    (
+        "repeat",
+        (Verb::Repeat, &[Word::Source, Word::Target, Word::Number]),
+    ),
+    (
+        "slice",
+        (Verb::Slice, &[Word::Source, Word::Target, Word::Range]),
+    ),
+    ("shrink", (Verb::Shrink, &[Word::Target, Word::Number])),
+    (
+        "set",
+        (Verb::Set, &[Word::Target, Word::Number, Word::Byte]),
+    ),
+    (
+        "strip",
+        (
+            Verb::Strip,
+            &[Word::Source, Word::Target, Word::End, Word::Pattern],
+        ),
+    ),
+    ("show", (Verb::Show, &[Word::Source])),
+    ("truncate", (Verb::Truncate, &[Word::Target, Word::Number])),
+    ("text", (Verb::Text, &[Word::Target])),
+    (
+        "trim",
+        (Verb::Trim, &[Word::Source, Word::Target, Word::Side]),
+    ),
+    (
+        "trimm",
+        (
+            Verb::TrimMatches,
+            &[Word::Source, Word::Target, Word::Side, Word::Pattern],
+        ),
+    ),
+    ("upper", (Verb::Upper, &[Word::Target])),
 ];
 
-/// What the literal of a pattern is to it.
-#[derive(Clone, Copy)]
-pub(crate) enum Kind {
-    /// The text that is looked for.
-    Text,
-    /// The one character that is.
-    Char,
-    /// The characters of which each is.
-    Any,
+/// The lines whose names begin with a letter.
+fn rows_from(letter: u8) -> &'static [Row]
+    ensures { (word : List ℕ) → look_up (letter ∷ word) (map (λ e. (e.0.now, (e.1.0, e.1.1.now))) result.now) ≡ look_up (letter ∷ word) rows }
+{
+    match letter {
+        b'b' => &ROWS[0..2],
+        b'c' => &ROWS[2..9],
+        b'f' => &ROWS[9..10],
+        b'i' => &ROWS[10..11],
+        b'j' => &ROWS[11..12],
+        b'k' => &ROWS[12..13],
+        b'l' => &ROWS[13..15],
+        b'm' => &ROWS[15..16],
+        b'n' => &ROWS[16..17],
+        b'o' => &ROWS[17..19],
+        b'p' => &ROWS[19..22],
+        b'r' => &ROWS[22..24],
+        b's' => &ROWS[24..29],
+        b't' => &ROWS[29..33],
+        b'u' => &ROWS[33..34],
+        _ => &[],
+    }
 }
 
-/// The kinds of patterns by their names.
-pub(crate) const KINDS: &[(&str, Kind)] = &[
-    ("text", Kind::Text),
-    ("char", Kind::Char),
-    ("any", Kind::Any),
+/// The line with a name.
+pub(crate) fn row_with_name(word: &[u8]) -> Option<(Verb, &'static [Word])>
+    ensures { MatchOption result (look_up word.now rows ≡ None) (λ row. look_up word.now rows ≡ Some (row.0, row.1.now)) }
+{
+    let (first, _rest) = word.split_first()?;
+    named(rows_from(*first), word)
+}
+
+/// What a word is the name of.
+pub(crate) fn named<T: Copy>(names: &[(&'static str, T)], word: &[u8]) -> Option<T>
+    ensures { result ≡ look_up word.now (map (λ e. (e.0.now, e.1)) names.now) }
+{
+    for (name, named) in names {
+        if name.as_bytes() == word {
+            return Some(*named);
+        }
+    }
+    None
+}
+
+/// Each way, and what follows it.
+pub(crate) const WAYS: &[(&str, (Way, Follows))] = &[
+    ("split", (Way::Split, Follows::APattern)),
+    ("inclusive", (Way::Inclusive, Follows::APattern)),
+    ("terminator", (Way::Terminator, Follows::APattern)),
+    ("splitn", (Way::SplitN, Follows::CountAndPattern)),
+    ("matches", (Way::Matches, Follows::APattern)),
+    ("rsplit", (Way::RSplit, Follows::APattern)),
+    ("rterminator", (Way::RTerminator, Follows::APattern)),
+    ("rsplitn", (Way::RSplitN, Follows::CountAndPattern)),
+    ("rmatches", (Way::RMatches, Follows::APattern)),
+    ("lines", (Way::Lines, Follows::Nothing)),
+    ("words", (Way::Words, Follows::Nothing)),
+    ("asciiwords", (Way::AsciiWords, Follows::Nothing)),
+];
+
+/// The patterns by their names.
+pub(crate) const PATTERNS: &[(&str, Quote)] = &[
+    ("text", Quote::Text),
+    ("char", Quote::Char),
+    ("any", Quote::Any),
 ];
 
 /// The sides by their names.

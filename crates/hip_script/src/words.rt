@@ -1,15 +1,20 @@
 //! The words of a line, with one space between two, and what single words say.
-ghost use Rattle.std.specs.Prelude.{◌<◌, ◌≤◌, length, IfSome, SomeIff};
-ghost use Rattle.std.specs.Char.{digit_value};
+ghost use Rattle.std.specs.Prelude.{◌≡◌, ◌↔◌, ◌<◌, ◌++◌, ℕ, List, [], map, IsTrue, None, Some, MatchOption, IfOk, IfSome, IsErrOf, length, SomeIff, option_and_then};
+ghost use Rattle.memchr.specs.Find.{IsFirstByte, is_byte};
+ghost use Rattle.std.specs.Char.{digit_value, is_ascii_hexdigit};
+ghost use Rattle.std.specs.Option.{option_map};
+ghost use Rattle.hip_script.specs.Grammar.{rows};
+ghost use Rattle.hip_script.specs.Said.{DecodesLiteral, ReadsLiteral};
+ghost use Rattle.hip_script.specs.Words.{at_dot, before, behind_dots, byte_of, closed, decoded, end_of, high_of, literal_at, look_up, low_of, number_of, range_of, said_at, word_at};
+ghost use Rattle.hip_script.specs.Words.Place.{Escape, High, Plain};
 
 use crate::fault::LineFault;
-use crate::said::Span;
-use crate::verb::{Verb, verbs_from};
-use memchr::memchr;
+use crate::said::{Literal, Span};
+use crate::verb::{Verb, Word, named, row_with_name};
+use hipstr::End;
+use memchr::{memchr, memchr2};
+use std::marker::Model;
 use std::ops::Bound;
-use std::simd::prelude::*;
-
-const LANES: usize = 16;
 
 /// What is left of a line.
 #[derive(Drop)]
@@ -18,19 +23,35 @@ pub(crate) struct Words<'l> {
     rest: Option<&'l [u8]>,
 }
 
+impl<'l> Model for Words<'l> {
+    ghost use Rattle.std.specs.Prelude.{ℕ, List, Option};
+    ghost use Rattle.std.specs.Option.{option_map};
+
+    ghost Value = { Option (List ℕ) };
+
+    ghost view = { λ s. option_map (λ text. text.now) s.rest };
+}
+
 impl<'l> Words<'l> {
     /// All words of a line.
-    pub(crate) fn new(line: &'l [u8]) -> Self {
+    pub(crate) fn new(line: &'l [u8]) -> Self
+        ensures { result ≡ Some line.now }
+    {
         Words { rest: Some(line) }
     }
 
     /// Whether no word is left.
-    pub(crate) fn is_empty(&self) -> bool {
+    pub(crate) fn is_empty(&self) -> bool
+        ensures { IsTrue result ↔ (self.now ≡ None) }
+    {
         self.rest.is_none()
     }
 
     /// The next word.
-    pub(crate) fn next(&mut self) -> Option<&'l [u8]> {
+    pub(crate) fn next(&mut self) -> Option<&'l [u8]>
+        ensures { MatchOption result ((word_at self.old ≡ None) × (self.new ≡ None))
+            (λ word. word_at self.old ≡ Some (word.now, self.new)) }
+    {
         let rest = self.rest?;
         match space_at(rest) {
             Some(at) => {
@@ -44,74 +65,97 @@ impl<'l> Words<'l> {
         }
     }
 
-    /// The verb whose name is the next word.
-    pub(crate) fn verb(&mut self) -> Option<Verb> {
-        let word = self.next()?;
-        named(verbs_from(*word.first()?), word)
+    /// The line whose name is the next word.
+    pub(crate) fn row(&mut self) -> Option<(Verb, &'static [Word])>
+        ensures { MatchOption result (said_at (λ word. look_up word rows) self.old ≡ None)
+            (λ row. said_at (λ word. look_up word rows) self.old ≡ Some ((row.0, row.1.now), self.new)) }
+    {
+        row_with_name(self.next()?)
     }
 
     /// What the next word is the name of.
-    pub(crate) fn one_of<T: Copy>(&mut self, names: &[(&'static str, T)]) -> Option<T> {
+    pub(crate) fn one_of<T: Copy>(&mut self, names: &[(&'static str, T)]) -> Option<T>
+        ensures { MatchOption result (said_at (λ word. look_up word (map (λ e. (e.0.now, e.1)) names.now)) self.old ≡ None)
+            (λ found. said_at (λ word. look_up word (map (λ e. (e.0.now, e.1)) names.now)) self.old ≡ Some (found, self.new)) }
+    {
         named(names, self.next()?)
     }
 
     /// The next word as a number.
-    pub(crate) fn number(&mut self) -> Option<usize> {
+    pub(crate) fn number(&mut self) -> Option<usize>
+        ensures { MatchOption result (said_at number_of self.old ≡ None) (λ n. said_at number_of self.old ≡ Some (n, self.new)) }
+    {
         number(self.next()?)
     }
 
     /// The next word as a number that is at most 255.
-    pub(crate) fn byte(&mut self) -> Option<u8> {
-        u8::try_from(self.number()?).ok()
+    pub(crate) fn byte(&mut self) -> Option<u8>
+        ensures { MatchOption result (said_at byte_of self.old ≡ None) (λ n. said_at byte_of self.old ≡ Some (n, self.new)) }
+    {
+        byte(self.next()?)
     }
 
     /// The next word as a range.
-    pub(crate) fn range(&mut self) -> Option<(Bound<usize>, Bound<usize>)> {
+    pub(crate) fn range(&mut self) -> Option<(Bound<usize>, Bound<usize>)>
+        ensures { MatchOption result (said_at range_of self.old ≡ None) (λ range. said_at range_of self.old ≡ Some ((range.0, range.1), self.new)) }
+    {
         range(self.next()?)
     }
 
-    /// The next word as a literal: where its bytes stand, which are added to the buffer.
-    pub(crate) fn literal(&mut self, buffer: &mut Vec<u8>) -> Result<Span, LineFault> {
-        let start = buffer.len();
-        let Some(Some((b'"', text))) = self.rest.map(|rest| rest.split_first()) else {
+    /// The next word as a literal. Where it has escapes, its bytes are added to the buffer.
+    pub(crate) fn literal(&mut self, buffer: &mut Vec<u8>) -> Result<Literal<'l>, LineFault>
+        ensures ok { IfOk result (λ literal. ReadsLiteral (literal_at self.old) self.new buffer.old.items buffer.new.items literal) }
+        ensures bad { IsErrOf result LineFault.NotACommand → literal_at self.old ≡ None }
+    {
+        let Some(rest) = self.rest else {
             return Err(LineFault::NotACommand);
         };
-        let after = decode(text, buffer)?;
-        self.rest = match after.split_first() {
-            None => None,
-            Some((b' ', rest)) => Some(rest),
-            Some(_) => return Err(LineFault::NotACommand),
+        let Some(text) = unquoted(rest) else {
+            return Err(LineFault::NotACommand);
         };
-        Ok(Span {
-            start,
-            end: buffer.len(),
-        })
+        let (literal, after) = decode(text, buffer)?;
+        let Some(left) = close(after) else {
+            return Err(LineFault::NotACommand);
+        };
+        self.rest = left;
+        Ok(literal)
     }
 }
 
-/// Where the first space stands. Words are mostly short, so a look at each of the first bytes costs less than a search.
+/// Where the first space stands. Words are short, so a look at each byte costs less than a search.
 fn space_at(text: &[u8]) -> Option<usize>
-    ensures { IfSome result (λ at. at < length text.now) }
+    ensures { IsFirstByte (is_byte 32) text.now result }
 {
-    let near = &text[..text.len().min(LANES)];
-    match near.iter().position(|byte| *byte == b' ') {
-        Some(at) => Some(at),
-        None => Some(near.len() + memchr(b' ', &text[near.len()..])?),
+    text.iter().position(|byte| *byte == b' ')
+}
+
+/// What stands behind the first `"` of a literal.
+fn unquoted(text: &[u8]) -> Option<&[u8]>
+    ensures { MatchOption result (literal_at (Some text.now) ≡ None)
+        (λ rest. literal_at (Some text.now) ≡ option_and_then closed (decoded Plain rest.now)) }
+{
+    match text {
+        [b'"', rest @ ..] => Some(rest),
+        _ => None,
     }
 }
 
-/// What a word is the name of.
-fn named<T: Copy>(names: &[(&'static str, T)], word: &[u8]) -> Option<T> {
-    for (name, named) in names {
-        if name.as_bytes() == word {
-            return Some(*named);
-        }
+/// What is left of a line behind the last `"` of a literal.
+fn close(after: &[u8]) -> Option<Option<&[u8]>>
+    ensures { (bytes : List ℕ) → MatchOption result (closed (bytes, after.now) ≡ None)
+        (λ left. closed (bytes, after.now) ≡ Some (bytes, option_map (λ rest. rest.now) left)) }
+{
+    match after {
+        [] => Some(None),
+        [b' ', rest @ ..] => Some(Some(rest)),
+        _ => None,
     }
-    None
 }
 
 /// One or more digits, at most the greatest `usize`.
-fn number(word: &[u8]) -> Option<usize> {
+fn number(word: &[u8]) -> Option<usize>
+    ensures { result ≡ number_of word.now }
+{
     if word.is_empty() {
         return None;
     }
@@ -125,88 +169,145 @@ fn number(word: &[u8]) -> Option<usize> {
     Some(value)
 }
 
+/// A number that is at most 255.
+fn byte(word: &[u8]) -> Option<u8>
+    ensures { result ≡ byte_of word.now }
+{
+    u8::try_from(number(word)?).ok()
+}
+
 /// `a..b`, `a..=b`, `a..`, `..b`, `..=b` or `..`.
-fn range(word: &[u8]) -> Option<(Bound<usize>, Bound<usize>)> {
+fn range(word: &[u8]) -> Option<(Bound<usize>, Bound<usize>)>
+    ensures { result ≡ range_of word.now }
+{
     let at = memchr(b'.', word)?;
-    let (low, dots) = word.split_at(at);
-    let low = if low.is_empty() {
-        Bound::Unbounded
-    } else {
-        Bound::Included(number(low)?)
-    };
-    let high = match dots {
-        b".." => Bound::Unbounded,
-        [b'.', b'.', b'=', high @ ..] => Bound::Included(number(high)?),
-        [b'.', b'.', high @ ..] => Bound::Excluded(number(high)?),
-        _ => return None,
-    };
+    let (digits, dots) = word.split_at(at);
+    let low = low(digits)?;
+    let high = behind_dots(dots)?;
     Some((low, high))
 }
 
+/// The bound before the dots.
+fn low(digits: &[u8]) -> Option<Bound<usize>>
+    ensures { result ≡ low_of digits.now }
+{
+    if digits.is_empty() {
+        Some(Bound::Unbounded)
+    } else {
+        Some(Bound::Included(number(digits)?))
+    }
+}
+
+/// The bound behind two dots.
+fn behind_dots(dots: &[u8]) -> Option<Bound<usize>>
+    ensures { result ≡ behind_dots dots.now }
+{
+    match dots {
+        [b'.', b'.', rest @ ..] => high(rest),
+        _ => None,
+    }
+}
+
+/// The bound that a number says, or one behind `=`.
+fn high(text: &[u8]) -> Option<Bound<usize>>
+    ensures { result ≡ high_of text.now }
+{
+    match text {
+        [] => Some(Bound::Unbounded),
+        [b'=', digits @ ..] => Some(Bound::Included(number(digits)?)),
+        digits => Some(Bound::Excluded(number(digits)?)),
+    }
+}
+
+/// The end that a letter stands for.
+pub(crate) fn end(letter: u8) -> Option<End>
+    ensures { result ≡ end_of letter }
+{
+    match letter {
+        b'F' => Some(End::Front),
+        b'B' => Some(End::Back),
+        _ => None,
+    }
+}
+
+/// A literal whose first `"` was passed, and what follows its last one. Without an escape it lies where it stands, and else its bytes are
+/// added to the buffer.
+fn decode<'l>(text: &'l [u8], buffer: &mut Vec<u8>) -> Result<(Literal<'l>, &'l [u8]), LineFault>
+    ensures ok { IfOk result (λ found. DecodesLiteral (decoded Plain text.now) found.1.now buffer.old.items buffer.new.items found.0) }
+    ensures bad { IsErrOf result LineFault.NotACommand → decoded Plain text.now ≡ None }
+{
+    let Some(at) = memchr2(b'"', b'\\', text) else {
+        return Err(LineFault::NotACommand);
+    };
+    if text[at] == b'"' {
+        return Ok((Literal::Plain(&text[..at]), &text[at + 1..]));
+    }
+    let start = buffer.len();
+    let after = decode_all(text, buffer)?;
+    let span = Span {
+        start,
+        end: buffer.len(),
+    };
+    Ok((Literal::Decoded(span), after))
+}
+
 /// Adds the bytes of a literal whose first `"` was passed, and gives what follows its last one.
-fn decode<'l>(text: &'l [u8], buffer: &mut Vec<u8>) -> Result<&'l [u8], LineFault> {
+fn decode_all<'l>(text: &'l [u8], buffer: &mut Vec<u8>) -> Result<&'l [u8], LineFault>
+    ensures ok { IfOk result (λ after. (bytes : List ℕ) × (decoded Plain text.now ≡ Some (bytes, after.now))
+        × (buffer.new.items ≡ buffer.old.items ++ bytes)) }
+    ensures bad { IsErrOf result LineFault.NotACommand → decoded Plain text.now ≡ None }
+{
     let mut rest = text;
     while let Some((first, after)) = rest.split_first() {
         match first {
             b'"' => return Ok(after),
             b'\\' => {
-                let (byte, after) = unescape(after).ok_or(LineFault::NotACommand)?;
+                let Some((byte, after)) = unescape(after) else {
+                    return Err(LineFault::NotACommand);
+                };
                 buffer.push(byte)?;
                 rest = after;
             }
-            _ => match plain_before_sign(rest) {
-                // Plain bytes are mostly few, so all sixteen are added, and those from the sign on taken away: only where there is room,
-                // so that no more memory is asked for than the plain ones need.
-                Some(plain) if LANES <= buffer.capacity() - buffer.len() => {
-                    let start = buffer.len();
-                    buffer.extend_from_slice(&rest[..LANES])?;
-                    buffer.truncate(start + plain);
-                    rest = &rest[plain..];
-                }
-                _ => {
-                    let more = after.iter().position(|byte| matches!(byte, b'"' | b'\\'));
-                    let (plain, from) = rest.split_at(more.ok_or(LineFault::NotACommand)? + 1);
-                    buffer.extend_from_slice(plain)?;
-                    rest = from;
-                }
-            },
+            _ => {
+                buffer.push(*first)?;
+                rest = after;
+            }
         }
     }
     Err(LineFault::NotACommand)
 }
 
-/// How many bytes come before the first `"` or `\` among the first sixteen, where the very first is none.
-#[inline(always)]
-fn plain_before_sign(text: &[u8]) -> Option<usize>
-    ensures some { IfSome result (λ plain. 0 < plain) }
-    ensures few { IfSome result (λ plain. plain ≤ 16 × 16 ≤ length text.now) }
+/// The byte that `\"`, `\\` or `\xHH` stands for, and what follows it. The text begins behind the `\`.
+fn unescape(text: &[u8]) -> Option<(u8, &[u8])>
+    ensures value { MatchOption result (decoded Escape text.now ≡ None)
+        (λ found. decoded Escape text.now ≡ before found.0 (decoded Plain found.1.now)) }
+    ensures shorter { IfSome result (λ found. length found.1.now < length text.now) }
 {
-    if text.len() < LANES {
-        return None;
-    }
-    let lanes = u8x16::from_slice(text);
-    let signs = lanes.simd_eq(u8x16::splat(b'"')) | lanes.simd_eq(u8x16::splat(b'\\'));
-    match signs.to_bitmask() {
-        0 => None,
-        found => Some((found.trailing_zeros() as usize).clamp(1, LANES)),
+    let (first, rest) = text.split_first()?;
+    match first {
+        b'"' | b'\\' => Some((*first, rest)),
+        b'x' => unhex(rest),
+        _ => None,
     }
 }
 
-/// The byte that `\"`, `\\` or `\xHH` stands for, and what follows it. The text begins behind the `\`.
-fn unescape(text: &[u8]) -> Option<(u8, &[u8])>
+/// The byte that two digits stand for, and what follows them.
+fn unhex(text: &[u8]) -> Option<(u8, &[u8])>
+    ensures value { MatchOption result (decoded High text.now ≡ None)
+        (λ found. decoded High text.now ≡ before found.0 (decoded Plain found.1.now)) }
     ensures shorter { IfSome result (λ found. length found.1.now < length text.now) }
 {
-    match text {
-        [b'x', high, low, rest @ ..] => Some((hex_digit(*high)? * 16 + hex_digit(*low)?, rest)),
-        [byte @ (b'"' | b'\\'), rest @ ..] => Some((*byte, rest)),
-        _ => None,
-    }
+    let (high, rest) = text.split_first()?;
+    let high = hex_digit(*high)?;
+    let (low, rest) = rest.split_first()?;
+    Some((high * 16 + hex_digit(*low)?, rest))
 }
 
 /// The value of a hexadecimal digit of either case, by its low four bits: nine more where it is a letter. A branch on which of the two it
 /// is can't be foreseen, and costs a fifth of the time of a script of escapes.
 fn hex_digit(byte: u8) -> Option<u8>
-    ensures { SomeIff result (digit_value byte < 16) (digit_value byte) }
+    ensures value { SomeIff result (IsTrue (is_ascii_hexdigit byte)) (digit_value byte) }
+    ensures small { IfSome result (λ value. value < 16) }
 {
     if byte.is_ascii_hexdigit() {
         Some(byte % 16 + 9 * (byte / 64))

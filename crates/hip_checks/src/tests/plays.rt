@@ -1,6 +1,7 @@
-//! The lines of scripts and their answers, lines that are no commands, readers and writers that fail, and scripts beside the earlier code.
+//! The lines of scripts and their answers, lines that are no commands, readers and writers that fail, and scripts longer than what is
+//! gathered.
 mod bad_lines;
-mod earlier;
 mod failing;
+mod long;
 mod scripts;
 mod support;

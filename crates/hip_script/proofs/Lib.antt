@@ -1,0 +1,16 @@
+pub mod Appended
+pub mod Bytes
+pub mod Decoded
+pub mod FieldTexts
+pub mod Growth
+pub mod Letters
+pub mod LineLaws
+pub mod LineReads
+pub mod Literals
+pub mod Names
+pub mod NumberLaws
+pub mod Plays
+pub mod Quotes
+pub mod RangeLaws
+pub mod ScriptLaws
+pub mod WordLaws

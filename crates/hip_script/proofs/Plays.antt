@@ -1,0 +1,309 @@
+-- What is written for the lines of a script, a run or a line at a time.
+use Rattle.std.proofs.Common.{◌≡◌, ℕ, ◌+◌, ◌<◌, ◌≤◌, Bool, List, [], ◌∷◌, ◌++◌, length, take, drop, get_or, map, Option, refl, sym, ap, ◌∙◌, subst, append_assoc, arith, ⊎_elim}
+use Rattle.std.proofs.lemmas.List.{append-nil, map-append, map_more, take_all, take-append-drop}
+use Rattle.std.specs.Io.KnownBytes.{Appends}
+use Rattle.hipstr.specs.Run.{Run}
+use Rattle.hipstr.specs.Slot.{SlotState}
+use Rattle.hipstr.specs.Step.{Costs, Step}
+use Rattle.hipstr.specs.declared.command.Answer.{Answer}
+use Rattle.hipstr.specs.declared.command.Command.{Command}
+use Rattle.hipstr.specs.declared.command.Command.TheVariants.{New, Inline, Borrow, Copy, Room, Clone, Slice, Push, Pop, Truncate, Clear, Shrink, Upper, Lower, Set, Repeat, Join, Mutate, Owned, Text, Bytes, Trim, TrimMatches, Strip, Pieces, Once, Compare, ComparePath, Len, Kind, Capacity}
+use Rattle.hip_script.proofs.Appended.{appends-none, appends-then}
+use Rattle.hip_script.specs.Performed.{AsideText, PerformsAt, Place, PlaysLine, Tells}
+use Rattle.hip_script.specs.Played.{Answers, FieldsText, IsPlayed, IsPlayedInPart, State, Writes, WritesAll, at_start, fields_cost, printed_show}
+use Rattle.hip_script.specs.Printed.{printed_answer, printed_answers}
+use Rattle.hip_script.specs.Said.{Held, aside_says, line_says, says_in}
+use Rattle.hip_script.specs.Spoken.{Spoken}
+use Rattle.hip_script.specs.Told.{says}
+use Rattle.hip_script.specs.declared.line.Aside.{Aside}
+use Rattle.hip_script.specs.declared.line.Aside.TheVariants.{Show, Copied, Fields as FieldsOf}
+use Rattle.hip_script.specs.declared.line.Line.{Line}
+use Rattle.hip_script.specs.declared.line.Line.TheVariants.{Command as CommandLine, Aside as AsideLine}
+use Rattle.hip_script.specs.declared.said.Said.{Said}
+
+-- the lines so far, of which some wait
+pub record IsPlayedSoFar (shares : Bool) (lines waiting : List Spoken) (place : Place) (old : Option (List ℕ)) : Type 0 where
+  pub done : List Spoken
+  pub text : List ℕ
+  pub state : State
+  pub writes : WritesAll shares at_start done text state
+  pub slots : state.slots ≡ place.slots
+  pub low : state.least ≤ place.counted
+  pub high : place.counted ≤ state.most
+  pub written : Appends old place.written text
+  pub all : done ++ waiting ≡ lines
+
+-- a command's line is none of the three others
+writes-said : (shares : Bool) (old new : State) (command : Command) (text : List ℕ) → Answers shares old (says command) text new → Writes shares old (says command) text new
+writes-said shares old new (New a) text answers = answers
+writes-said shares old new (Inline a b) text answers = answers
+writes-said shares old new (Borrow a b) text answers = answers
+writes-said shares old new (Copy a b) text answers = answers
+writes-said shares old new (Room a b) text answers = answers
+writes-said shares old new (Clone a b) text answers = answers
+writes-said shares old new (Slice a b c d) text answers = answers
+writes-said shares old new (Push a b) text answers = answers
+writes-said shares old new (Pop a) text answers = answers
+writes-said shares old new (Truncate a b) text answers = answers
+writes-said shares old new (Clear a) text answers = answers
+writes-said shares old new (Shrink a b) text answers = answers
+writes-said shares old new (Upper a) text answers = answers
+writes-said shares old new (Lower a) text answers = answers
+writes-said shares old new (Set a b c) text answers = answers
+writes-said shares old new (Repeat a b c) text answers = answers
+writes-said shares old new (Join a b c d) text answers = answers
+writes-said shares old new (Mutate a b) text answers = answers
+writes-said shares old new (Owned a) text answers = answers
+writes-said shares old new (Text a) text answers = answers
+writes-said shares old new (Bytes a) text answers = answers
+writes-said shares old new (Trim a b c) text answers = answers
+writes-said shares old new (TrimMatches a b c d) text answers = answers
+writes-said shares old new (Strip a b c d) text answers = answers
+writes-said shares old new (Pieces a b c d) text answers = answers
+writes-said shares old new (Once a b c d e) text answers = answers
+writes-said shares old new (Compare a b) text answers = answers
+writes-said shares old new (ComparePath a b) text answers = answers
+writes-said shares old new (Len a) text answers = answers
+writes-said shares old new (Kind a) text answers = answers
+writes-said shares old new (Capacity a) text answers = answers
+
+abbrev behind : State → List SlotState → ℕ → State
+behind old slots cost = record { slots = slots; least = old.least; most = old.most + cost }
+
+writes-step : (shares : Bool) (old : State) (command : Command) (answer : Answer) (between : List SlotState) (cost : ℕ)
+    → Step shares old.slots command answer between → Costs shares old.slots command cost
+    → Writes shares old (says command) (printed_answer answer) (behind old between cost)
+writes-step shares old command answer between cost step costs =
+    writes-said shares old (behind old between cost) command (printed_answer answer) (record {
+      command = command;
+      answer = answer;
+      cost = cost;
+      is = refl;
+      step = step;
+      costs = costs;
+      least = refl;
+      most = refl;
+      printed = refl;
+    })
+
+writes-run : (shares : Bool) (old : State) (commands : List Command) (answers : List Answer) (new : List SlotState) (total : ℕ)
+    → Run shares old.slots commands answers new total → WritesAll shares old (map says commands) (printed_answers answers) (behind old new total)
+writes-run shares old [] [] new total run = (
+  refl,
+  ap (λ slots. behind old slots total) run.0 ∙ ap (λ most. record { slots = old.slots; least = old.least; most = most }) (let none = run.1 in omega arith),
+)
+writes-run shares old (c ∷ cs) (a ∷ xs) new total run =
+    let mid = behind old run.0 run.1 in
+    let rest = run.2 in
+    let same : (old.most + run.1) + rest ≡ old.most + total = (let is = run.6 in omega arith) in
+    let later = writes-run shares mid cs xs new rest run.5 in (
+      mid,
+      printed_answer a,
+      printed_answers xs,
+      writes-step shares old c a run.0 run.1 run.3 run.4,
+      subst (λ (most : ℕ). WritesAll shares mid (map says cs) (printed_answers xs) (record { slots = new; least = old.least; most = most })) same later,
+      refl,
+    )
+writes-run shares old [] (a ∷ xs) new total run = absurd run
+writes-run shares old (c ∷ cs) [] new total run = absurd run
+
+writes-then : (shares : Bool) (old mid new : State) (first more : List Spoken) (before after : List ℕ) → WritesAll shares old first before mid
+    → WritesAll shares mid more after new → WritesAll shares old (first ++ more) (before ++ after) new
+writes-then shares old mid new [] more before after writes later =
+    rw writes.0 (subst (λ (state : State). WritesAll shares state more after new) writes.1 later)
+writes-then shares old mid new (x ∷ xs) more before after writes later = (
+  writes.0,
+  writes.1,
+  writes.2 ++ after,
+  writes.3,
+  writes-then shares writes.0 mid new xs more writes.2 after writes.4 later,
+  rw writes.5 (append_assoc writes.1 writes.2 after),
+)
+
+writes-one : (shares : Bool) (old mid new : State) (first : List Spoken) (line : Spoken) (before after : List ℕ) → WritesAll shares old first before mid
+    → Writes shares mid line after new → WritesAll shares old (first ++ line ∷ []) (before ++ after) new
+writes-one shares old mid new first line before after writes last =
+    writes-then shares old mid new first (line ∷ []) before after writes (new, after, [], last, (refl, refl), sym (append-nil after))
+
+-- nothing was written yet
+pub played-none : (shares : Bool) (slots : List SlotState) (counted : ℕ) (old : Option (List ℕ)) → slots ≡ at_start.slots → counted ≡ 0
+    → IsPlayedSoFar shares [] [] (record { slots = slots; counted = counted; written = old }) old
+played-none shares slots counted old empty none = record {
+  done = [];
+  text = [];
+  state = at_start;
+  writes = (refl, refl);
+  slots = sym empty;
+  low = omega arith;
+  high = omega arith;
+  written = appends-none old;
+  all = refl;
+}
+
+pub played-run : (shares : Bool) (lines : List Spoken) (commands : List Command) (place new : Place) (old : Option (List ℕ))
+    → IsPlayedSoFar shares lines (map says commands) place old → PerformsAt shares commands place new → IsPlayedSoFar shares lines [] new old
+played-run shares lines commands place new old so_far performs =
+    let run = subst (λ (slots : List SlotState). Run shares slots commands performs.answers new.slots performs.total) (sym so_far.slots) performs.run in
+    let low = so_far.low in
+    let high = so_far.high in
+    let never_falls = performs.rises.never_falls in
+    let at_most = performs.rises.at_most in
+    record {
+      done = lines;
+      text = so_far.text ++ printed_answers performs.answers;
+      state = behind so_far.state new.slots performs.total;
+      writes = rw (sym so_far.all) (writes-then shares at_start so_far.state (behind so_far.state new.slots performs.total) so_far.done (map says commands) so_far.text
+          (printed_answers performs.answers) so_far.writes (writes-run shares so_far.state commands performs.answers new.slots performs.total run));
+      slots = refl;
+      low = omega arith;
+      high = omega arith;
+      written = appends-then old place.written new.written so_far.text (printed_answers performs.answers) so_far.written performs.written;
+      all = append-nil lines;
+    }
+
+-- a line that is no command, whose text is told
+pub record AsideWrites (shares : Bool) (state : State) (line : Spoken) (text : List ℕ) (slots : List SlotState) (counts : ℕ) : Type 0 where
+  pub new : State
+  pub writes : Writes shares state line text new
+  pub slots_are : new.slots ≡ slots
+  pub low : new.least ≤ counts
+  pub high : counts ≤ new.most
+
+aside-writes : (shares : Bool) (state : State) (slots : List SlotState) (aside : Aside) (counted counts : ℕ) (text : List ℕ) → state.slots ≡ slots
+    → state.least ≤ counted → counted ≤ state.most → AsideText shares slots aside counted counts text
+    → AsideWrites shares state (aside_says aside) text slots counts
+aside-writes shares state slots (Show s) counted counts text same low high tells =
+    let is = tells.1 in record {
+      new = state;
+      writes = (tells.0 ∙ ap (λ t. printed_show t s) (sym same), refl);
+      slots_are = same;
+      low = omega arith;
+      high = omega arith;
+    }
+aside-writes shares state slots Copied counted counts text same low high tells =
+    let is = tells.1 in record {
+      new = record { slots = state.slots; least = counted; most = counted };
+      writes = (counted, low, high, tells.0, refl);
+      slots_are = same;
+      low = omega arith;
+      high = omega arith;
+    }
+aside-writes shares state slots (FieldsOf s separator) counted counts text same low high tells =
+    let never_falls = tells.1.never_falls in
+    let at_most = subst (λ (t : List SlotState). counts ≤ counted + fields_cost shares t s separator) (sym same) tells.1.at_most in record {
+      new = record { slots = state.slots; least = state.least; most = state.most + fields_cost shares state.slots s separator };
+      writes = (subst (λ (t : List SlotState). FieldsText t s separator text) (sym same) tells.0, refl);
+      slots_are = same;
+      low = omega arith;
+      high = omega arith;
+    }
+
+pub played-aside : (shares : Bool) (lines : List Spoken) (aside : Aside) (place new : Place) (old : Option (List ℕ)) → IsPlayedSoFar shares lines [] place old
+    → new.slots ≡ place.slots → Tells shares place.slots aside place.counted new.counted place.written new.written
+    → IsPlayedSoFar shares (lines ++ aside_says aside ∷ []) [] new old
+played-aside shares lines aside place new old so_far same tells =
+    let writes = aside-writes shares so_far.state place.slots aside place.counted new.counted tells.text so_far.slots so_far.low so_far.high tells.tells in
+    let all : so_far.done ≡ lines = sym (append-nil so_far.done) ∙ so_far.all in record {
+      done = lines ++ aside_says aside ∷ [];
+      text = so_far.text ++ tells.text;
+      state = writes.new;
+      writes = rw (sym all) (writes-one shares at_start so_far.state writes.new so_far.done (aside_says aside) so_far.text tells.text so_far.writes writes.writes);
+      slots = writes.slots_are ∙ sym same;
+      low = writes.low;
+      high = writes.high;
+      written = appends-then old place.written new.written so_far.text tells.text so_far.written tells.written;
+      all = append-nil (lines ++ aside_says aside ∷ []);
+    }
+
+pub played-command : (shares : Bool) (lines waiting : List Spoken) (line : Spoken) (place : Place) (old : Option (List ℕ))
+    → IsPlayedSoFar shares lines waiting place old → IsPlayedSoFar shares (lines ++ line ∷ []) (waiting ++ line ∷ []) place old
+played-command shares lines waiting line place old so_far = record {
+  done = so_far.done;
+  text = so_far.text;
+  state = so_far.state;
+  writes = so_far.writes;
+  slots = so_far.slots;
+  low = so_far.low;
+  high = so_far.high;
+  written = so_far.written;
+  all = sym (append_assoc so_far.done waiting (line ∷ [])) ∙ ap (λ t. t ++ line ∷ []) so_far.all;
+}
+
+map-push : (commands : List Command) (command : Command) → map says (commands ++ command ∷ []) ≡ map says commands ++ says command ∷ []
+map-push [] command = refl
+map-push (c ∷ cs) command = ap (λ t. says c ∷ t) (map-push cs command)
+
+-- one line more
+played-line : (shares : Bool) (lines : List Spoken) (waiting left : List Command) (line : Line) (place new : Place) (old : Option (List ℕ))
+    → IsPlayedSoFar shares lines (map says waiting) place old → PlaysLine shares line waiting left place new
+    → IsPlayedSoFar shares (lines ++ line_says line ∷ []) (map says left) new old
+played-line shares lines waiting left (CommandLine command) place new old so_far plays =
+    let more = subst (λ (w : List Spoken). IsPlayedSoFar shares (lines ++ says command ∷ []) w place old) (sym (map-push waiting command))
+    (played-command shares lines (map says waiting) (says command) place old so_far) in
+    ⊎_elim (λ waits. rw (waits.0, waits.1) more)
+    (λ ran. rw ran.0 (played-run shares (lines ++ says command ∷ []) (waiting ++ command ∷ []) place new old more ran.1)) plays
+played-line shares lines waiting left (AsideLine aside) place new old so_far plays =
+    rw plays.0 (played-aside shares lines aside plays.1 new old (played-run shares lines waiting place plays.1 old so_far plays.2) plays.3 plays.4)
+
+pub played-next : (shares : Bool) (held : Held) (items lines : List Said) (i : ℕ) (d : Said) (waiting left : List Command) (line : Line) (place new : Place) (old : Option (List ℕ))
+    → items ≡ lines → i < length items → line_says line ≡ says_in held (get_or items i d)
+    → IsPlayedSoFar shares (map (says_in held) (take i lines)) (map says waiting) place old → PlaysLine shares line waiting left place new
+    → IsPlayedSoFar shares (map (says_in held) (take (i + 1) lines)) (map says left) new old
+played-next shares held items lines i d waiting left line place new old same inside is so_far plays =
+    let within = rw same at inside in
+    let says_it = rw same at is in
+    rw (map_more (says_in held) lines i d within, sym says_it)
+    (played-line shares (map (says_in held) (take i lines)) waiting left line place new old so_far plays)
+
+played-all : (shares : Bool) (lines : List Spoken) (place : Place) (old : Option (List ℕ)) → IsPlayedSoFar shares lines [] place old
+    → IsPlayed shares lines old place.written
+played-all shares lines place old so_far = record {
+  text = so_far.text;
+  state = so_far.state;
+  writes = let all : so_far.done ≡ lines = sym (append-nil so_far.done) ∙ so_far.all in rw (sym all) so_far.writes;
+  written = so_far.written;
+}
+
+pub played-last : (shares : Bool) (held : Held) (items lines : List Said) (i : ℕ) (waiting passed : List Command) (place new : Place) (old : Option (List ℕ))
+    → items ≡ lines → length items ≤ i → passed ≡ waiting → IsPlayedSoFar shares (map (says_in held) (take i lines)) (map says waiting) place old
+    → PerformsAt shares passed place new → IsPlayed shares (map (says_in held) lines) old new.written
+played-last shares held items lines i waiting passed place new old same all passes so_far performs =
+    let whole = rw (take_all i lines (rw same at all)) at so_far in
+    let performed = rw passes at performs in
+    played-all shares (map (says_in held) lines) new old (played-run shares (map (says_in held) lines) waiting place new old whole performed)
+
+-- what was written when memory was refused is what some first lines write
+halves : (held : Held) (i : ℕ) (lines : List Said) → map (says_in held) (take i lines) ++ map (says_in held) (drop i lines) ≡ map (says_in held) lines
+halves held i lines = sym (map-append (says_in held) (take i lines) (drop i lines)) ∙ ap (map (says_in held)) (take-append-drop i lines)
+
+pub played-front : (shares : Bool) (held : Held) (lines : List Said) (i : ℕ) (waiting : List Command) (place : Place) (old after : Option (List ℕ))
+    → after ≡ place.written → IsPlayedSoFar shares (map (says_in held) (take i lines)) (map says waiting) place old
+    → IsPlayedInPart shares (map (says_in held) lines) old after
+played-front shares held lines i waiting place old after same so_far = record {
+  front = so_far.done;
+  later = map says waiting ++ map (says_in held) (drop i lines);
+  all =
+      sym (append_assoc so_far.done (map says waiting) (map (says_in held) (drop i lines)))
+      ∙ ap (λ t. t ++ map (says_in held) (drop i lines)) so_far.all ∙ halves held i lines;
+  played = record {
+    text = so_far.text;
+    state = so_far.state;
+    writes = so_far.writes;
+    written = rw same so_far.written;
+  };
+}
+
+pub played-nothing : (shares : Bool) (lines : List Spoken) (old : Option (List ℕ)) → IsPlayedInPart shares lines old old
+played-nothing shares lines old = record {
+  front = [];
+  later = lines;
+  all = refl;
+  played = record { text = []; state = at_start; writes = (refl, refl); written = appends-none old };
+}
+
+pub plays-aside : (shares : Bool) (line : Line) (aside : Aside) (waiting passed left : List Command) (old ran new : Place) → line ≡ AsideLine aside → left ≡ []
+    → passed ≡ waiting → PerformsAt shares passed old ran → new.slots ≡ ran.slots
+    → Tells shares ran.slots aside ran.counted new.counted ran.written new.written → PlaysLine shares line waiting left old new
+plays-aside shares line aside waiting passed left old ran new is empty passes performs same tells =
+    let performed = rw passes at performs in
+    rw is (empty, ran, performed, same, tells)

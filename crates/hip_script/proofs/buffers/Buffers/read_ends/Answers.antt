@@ -1,0 +1,8 @@
+use Rattle.hip_script.specs.Said.{held}
+use Rattle.hip_script.proofs.Quotes.{reads-ends}
+use Rattle.hip_script.proofs.buffers.Buffers.read_ends.Goals as goal
+
+pub returns-clause-ok : goal.returns-clause-ok
+returns-clause-ok c =
+    let read = c.in_ok-said.ensures.ok in
+    reads-ends (held c.args.self.now) _ _ _ _ _ _ _ c.requires c.in-Some.ensures read.1 read.2

@@ -1,0 +1,24 @@
+use Rattle.std.proofs.Common.{rules, ◌∙◌, ap}
+use Rattle.hip_script.specs.Words.{decoded}
+use Rattle.hip_script.specs.Words.Place.{Plain}
+use Rattle.hip_script.proofs.Decoded.{literal-byte, plain-none, plain-escape, literal-ends, literal-fails, literal-goes_on}
+use Rattle.hip_script.proofs.words.decode_all.Goals as goal
+
+pub returns-in-34-clause-ok : goal.returns-in-34-clause-ok
+returns-in-34-clause-ok c = literal-ends _ _ _ _ _ _ c.loop-first.invariant c.in-Some.ensures.cases.0 c.in-34.is
+
+pub loop-first-preserved-in-92 : goal.loop-first-preserved-in-92
+loop-first-preserved-in-92 c =
+    literal-goes_on _ _ _ _ _ _ c.loop-first.invariant
+    (ap (decoded Plain) c.in-Some.ensures.cases.0 ∙ plain-escape _ _ c.in-92.is ∙ c.in-Some-unescape.ensures.value) c.in_ok-push-in-92.ensures.items
+
+pub loop-first-preserved : goal.loop-first-preserved
+loop-first-preserved c =
+    literal-byte _ _ _ _ _ _ c.loop-first.invariant c.in-Some.ensures.cases.0 (search rules) (search rules) c.in_ok-push-in_default-first.ensures.items
+
+pub returns-clause-bad : goal.returns-clause-bad
+returns-clause-bad c = λ _. literal-fails _ _ _ _ c.loop-first.invariant (plain-none _ c.in_default.ensures.cases)
+
+pub returns-in_default-unescape-clause-bad : goal.returns-in_default-unescape-clause-bad
+returns-in_default-unescape-clause-bad c = λ _. literal-fails _ _ _ _ c.loop-first.invariant
+    (ap (decoded Plain) c.in-Some.ensures.cases.0 ∙ plain-escape _ _ c.in-92.is ∙ c.in_default-unescape.ensures.value)

@@ -1,0 +1,9 @@
+pub mod Grammar
+pub mod Lines
+pub mod Performed
+pub mod Played
+pub mod Printed
+pub mod Said
+pub mod Spoken
+pub mod Told
+pub mod Words

@@ -1,0 +1,287 @@
+//! The words of a line are read into its record, and into the buffers of what has no place of its own in the script.
+ghost use Rattle.std.specs.Prelude.{◌≡◌, ◌++◌, ℕ, List, map, None, Some, IfOk, OnOk, OnErr, IsErrOf, length};
+ghost use Rattle.std.specs.Option.{option_map};
+ghost use Rattle.std.specs.Str.{chars};
+ghost use Rattle.hip_script.specs.Grammar.{follows_said, number_said, only, pattern_said, quoted_as, quoted_said, way_said, word_said, words_said};
+ghost use Rattle.hip_script.specs.Said.{AddsSpan, IsWithin, LiteralWithin, QuotesAs, ReadsFields, fields_in, held, literal_in};
+ghost use Rattle.hip_script.specs.Spoken.Quoted.{Sought};
+ghost use Rattle.hip_script.specs.Spoken.Pattern.{CharOf};
+ghost use Rattle.hip_script.specs.Words.{ends_of, letters_of, said_at};
+
+use crate::fault::LineFault;
+use crate::said::{Literal, Quoted, Said, Span};
+use crate::verb::{ENDS, Follows, PATTERNS, Quote, SIDES, WAYS, Word};
+use crate::words::{Words, end};
+use hipstr::End;
+use std::alloc::{AllocError, Global};
+use std::str;
+
+/// What the lines of a script name by its place.
+#[derive(Drop)]
+pub(crate) struct Buffers {
+    /// The bytes of literals that have escapes.
+    pub(crate) bytes: Vec<u8>,
+    /// The characters of all sets.
+    pub(crate) chars: Vec<char>,
+    /// The ends of all walks.
+    pub(crate) ends: Vec<End>,
+}
+
+impl Buffers {
+    /// Buffers of nothing.
+    pub(crate) fn new(alloc: Global) -> Self {
+        Buffers {
+            bytes: Vec::new(alloc),
+            chars: Vec::new(alloc),
+            ends: Vec::new(alloc),
+        }
+    }
+
+    /// Reads the words of a line, one after another.
+    pub(crate) fn read_words<'l>(
+        &mut self,
+        list: &[Word],
+        words: &mut Words<'l>,
+        said: &mut Said<'l>,
+    ) -> Result<(), LineFault>
+        requires { IsWithin (held self.old) said.old }
+        ensures ok { OnOk result (ReadsFields (words_said list.now (fields_in (held self.old) said.old) words.old)
+            words.new (held self.old) (held self.new) said.old said.new) }
+        ensures bad { IsErrOf result LineFault.NotACommand
+            → words_said list.now (fields_in (held self.old) said.old) words.old ≡ None }
+    {
+        for word in list {
+            self.read_word(*word, words, said)?;
+        }
+        Ok(())
+    }
+
+    /// Reads a word, or those of a pattern or of a way.
+    fn read_word<'l>(
+        &mut self,
+        word: Word,
+        words: &mut Words<'l>,
+        said: &mut Said<'l>,
+    ) -> Result<(), LineFault>
+        requires { IsWithin (held self.old) said.old }
+        ensures ok { OnOk result (ReadsFields (word_said word (fields_in (held self.old) said.old) words.old)
+            words.new (held self.old) (held self.new) said.old said.new) }
+        ensures bad { IsErrOf result LineFault.NotACommand
+            → word_said word (fields_in (held self.old) said.old) words.old ≡ None }
+    {
+        match word {
+            Word::Source => put(words.number(), &mut said.source),
+            Word::Target => put(words.number(), &mut said.target),
+            Word::Other => put(words.number(), &mut said.other),
+            Word::Number => put(words.number(), &mut said.number),
+            Word::Byte => put(words.byte(), &mut said.byte),
+            Word::Range => read_range(words, said),
+            Word::Side => put(words.one_of(SIDES), &mut said.side),
+            Word::End => put(words.one_of(ENDS), &mut said.end),
+            Word::Quoted(quote) => self.read_quoted(quote, words, said),
+            Word::Pattern => self.read_pattern(words, said),
+            Word::Way => self.read_way(words, said),
+            Word::Ends => self.read_ends(words, said),
+        }
+    }
+
+    /// Reads a literal.
+    fn read_quoted<'l>(
+        &mut self,
+        quote: Quote,
+        words: &mut Words<'l>,
+        said: &mut Said<'l>,
+    ) -> Result<(), LineFault>
+        requires { IsWithin (held self.old) said.old }
+        ensures ok { OnOk result (ReadsFields (quoted_said quote (fields_in (held self.old) said.old) words.old)
+            words.new (held self.old) (held self.new) said.old said.new) }
+        ensures bad { IsErrOf result LineFault.NotACommand
+            → quoted_said quote (fields_in (held self.old) said.old) words.old ≡ None }
+    {
+        let literal = words.literal(&mut self.bytes)?;
+        said.quoted = self.quoted(quote, literal)?;
+        Ok(())
+    }
+
+    /// What a literal says.
+    fn quoted<'l>(&mut self, quote: Quote, literal: Literal<'l>) -> Result<Quoted<'l>, LineFault>
+        requires { LiteralWithin self.old.bytes.items literal }
+        ensures ok { IfOk result (λ quoted. QuotesAs (quoted_as quote (literal_in self.old.bytes.items literal.entry))
+            (held self.old) (held self.new) quoted) }
+        ensures bad { IsErrOf result LineFault.NotACommand → quoted_as quote (literal_in self.old.bytes.items literal.entry) ≡ None }
+    {
+        if let Quote::Bytes = quote {
+            return Ok(Quoted::Bytes(literal));
+        }
+        let Ok(text) = str::from_utf8(literal.of(&self.bytes)) else {
+            return Err(LineFault::NotACommand);
+        };
+        match quote {
+            Quote::Bytes => Ok(Quoted::Bytes(literal)),
+            Quote::Text => Ok(Quoted::Text(literal)),
+            Quote::Char => match only_char(text) {
+                Some(c) => Ok(Quoted::Char(c)),
+                None => Err(LineFault::NotACommand),
+            },
+            Quote::Any => Ok(Quoted::Any(add_chars(&mut self.chars, text)?)),
+        }
+    }
+
+    /// Reads what is looked for in a text.
+    fn read_pattern<'l>(
+        &mut self,
+        words: &mut Words<'l>,
+        said: &mut Said<'l>,
+    ) -> Result<(), LineFault>
+        requires { IsWithin (held self.old) said.old }
+        ensures ok { OnOk result (ReadsFields (pattern_said (fields_in (held self.old) said.old) words.old)
+            words.new (held self.old) (held self.new) said.old said.new) }
+        ensures bad { IsErrOf result LineFault.NotACommand
+            → pattern_said (fields_in (held self.old) said.old) words.old ≡ None }
+    {
+        let Some(quote) = words.one_of(PATTERNS) else {
+            return Err(LineFault::NotACommand);
+        };
+        self.read_quoted(quote, words, said)
+    }
+
+    /// Reads how a text is taken apart.
+    fn read_way<'l>(&mut self, words: &mut Words<'l>, said: &mut Said<'l>) -> Result<(), LineFault>
+        requires { IsWithin (held self.old) said.old }
+        ensures ok { OnOk result (ReadsFields (way_said (fields_in (held self.old) said.old) words.old)
+            words.new (held self.old) (held self.new) said.old said.new) }
+        ensures bad { IsErrOf result LineFault.NotACommand
+            → way_said (fields_in (held self.old) said.old) words.old ≡ None }
+    {
+        let Some((way, follows)) = words.one_of(WAYS) else {
+            return Err(LineFault::NotACommand);
+        };
+        said.way = way;
+        self.read_following(follows, words, said)
+    }
+
+    /// Reads what follows the name of a way.
+    fn read_following<'l>(
+        &mut self,
+        follows: Follows,
+        words: &mut Words<'l>,
+        said: &mut Said<'l>,
+    ) -> Result<(), LineFault>
+        requires { IsWithin (held self.old) said.old }
+        ensures ok { OnOk result (ReadsFields (follows_said follows (fields_in (held self.old) said.old) words.old)
+            words.new (held self.old) (held self.new) said.old said.new) }
+        ensures bad { IsErrOf result LineFault.NotACommand
+            → follows_said follows (fields_in (held self.old) said.old) words.old ≡ None }
+    {
+        match follows {
+            Follows::Nothing => Ok(()),
+            Follows::APattern => self.read_pattern(words, said),
+            Follows::CountAndPattern => {
+                put(words.number(), &mut said.number)?;
+                self.read_pattern(words, said)
+            }
+        }
+    }
+
+    /// Reads the ends that pieces are drawn from: `-`, or letters `F` and `B`.
+    fn read_ends<'l>(&mut self, words: &mut Words<'l>, said: &mut Said<'l>) -> Result<(), LineFault>
+        requires { IsWithin (held self.old) said.old }
+        ensures ok { OnOk result (ReadsFields (word_said Word.Ends (fields_in (held self.old) said.old) words.old)
+            words.new (held self.old) (held self.new) said.old said.new) }
+        ensures bad { IsErrOf result LineFault.NotACommand
+            → word_said Word.Ends (fields_in (held self.old) said.old) words.old ≡ None }
+    {
+        let Some(word) = words.next() else {
+            return Err(LineFault::NotACommand);
+        };
+        said.ends = add_ends(&mut self.ends, word)?;
+        Ok(())
+    }
+}
+
+/// Puts what was found in its place.
+fn put<T: Copy>(found: Option<T>, place: &mut T) -> Result<(), LineFault>
+    ensures ok { OnOk result (found ≡ Some place.new) }
+    ensures bad { OnErr result (found ≡ None) }
+{
+    match found {
+        Some(value) => {
+            *place = value;
+            Ok(())
+        }
+        None => Err(LineFault::NotACommand),
+    }
+}
+
+/// Reads a range.
+fn read_range<'l>(words: &mut Words<'l>, said: &mut Said<'l>) -> Result<(), LineFault>
+    ensures ok { OnOk result ((held : _) → IsWithin held said.old
+        → ReadsFields (word_said Word.Range (fields_in held said.old) words.old) words.new held held said.old said.new) }
+    ensures bad { OnErr result ((held : _) → word_said Word.Range (fields_in held said.old) words.old ≡ None) }
+{
+    let Some((low, high)) = words.range() else {
+        return Err(LineFault::NotACommand);
+    };
+    said.low = low;
+    said.high = high;
+    Ok(())
+}
+
+/// The character of a text that is one.
+fn only_char(text: &str) -> Option<char>
+    ensures { option_map (λ c. Sought (CharOf c)) result ≡ only (chars text.now) }
+{
+    let mut found = None;
+    for c in text.chars() {
+        match found {
+            None => found = Some(c),
+            Some(_) => return None,
+        }
+    }
+    found
+}
+
+/// Adds the characters of a text, and says where they stand.
+fn add_chars(buffer: &mut Vec<char>, text: &str) -> Result<Span, AllocError>
+    ensures { IfOk result (λ span. AddsSpan (chars text.now) buffer.old.items buffer.new.items span) }
+{
+    let start = buffer.len();
+    for c in text.chars() {
+        buffer.push(c)?;
+    }
+    Ok(Span {
+        start,
+        end: buffer.len(),
+    })
+}
+
+/// Adds the ends that a word says, and says where they stand.
+fn add_ends(buffer: &mut Vec<End>, word: &[u8]) -> Result<Span, LineFault>
+    ensures ok { IfOk result (λ span. (ends : List End) × (ends_of word.now ≡ Some ends) × AddsSpan ends buffer.old.items buffer.new.items span) }
+    ensures bad { IsErrOf result LineFault.NotACommand → ends_of word.now ≡ None }
+{
+    let start = buffer.len();
+    match word {
+        [] => return Err(LineFault::NotACommand),
+        [b'-'] => {}
+        letters => add_letters(buffer, letters)?,
+    }
+    Ok(Span {
+        start,
+        end: buffer.len(),
+    })
+}
+
+/// Adds the ends that letters stand for.
+fn add_letters(buffer: &mut Vec<End>, letters: &[u8]) -> Result<(), LineFault>
+    ensures ok { OnOk result ((ends : List End) × (letters_of letters.now ≡ Some ends) × (buffer.new.items ≡ buffer.old.items ++ ends)) }
+    ensures bad { IsErrOf result LineFault.NotACommand → letters_of letters.now ≡ None }
+{
+    for letter in letters {
+        let Some(end) = end(*letter) else {
+            return Err(LineFault::NotACommand);
+        };
+        buffer.push(end)?;
+    }
+    Ok(())
+}
