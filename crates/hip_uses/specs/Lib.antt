@@ -1,5 +1,6 @@
 pub mod Cells
 pub mod Number
+pub mod Packed
 pub mod Template
 pub mod Token
 pub mod Turns

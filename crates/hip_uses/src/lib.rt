@@ -10,6 +10,7 @@
 mod fault;
 pub mod intern;
 mod keyed;
+mod packed;
 pub mod queue;
 pub mod table;
 pub mod template;
