@@ -1,4 +1,4 @@
-//! Maps whose hashers have a seed: the texts of a caller get the same numbers, names the same values, whatever the seed.
+//! Maps whose hashers are seeded: texts get the same numbers, and names the same values, by each of three seeds.
 use hip_uses::intern::Interner;
 use hip_uses::template::{Values, fill, parse};
 use hipstr::Rc;
@@ -11,6 +11,7 @@ use std::process::Abort;
 use std::random::RandomSource;
 
 /// A source that gives one byte again and again, or fails.
+#[derive(Drop)]
 struct Given(Option<u8>);
 
 impl RandomSource for Given {
@@ -27,9 +28,9 @@ impl RandomSource for Given {
 
 const SEEDS: [u8; 3] = [0, 7, 255];
 
-const TEXT: &str = "one fish, two fish; red fish, a-word-of-more-than-23-bytes one";
+const TEXT: &str = "one fish, two fish; red fish, a-word-of-more-than-23-bytes one, characters, internationalization, characters";
 
-const NUMBERS: [u32; 14] = [0, 1, 2, 1, 3, 1, 4, 5, 6, 7, 8, 9, 10, 0];
+const NUMBERS: [u32; 17] = [0, 1, 2, 1, 3, 1, 4, 5, 6, 7, 8, 9, 10, 0, 11, 12, 11];
 
 /// The numbers of the words of a text.
 fn numbers<S: BuildHasher + Drop>(alloc: Global, hash_builder: S) -> Option<Vec<u32>> {
