@@ -1,6 +1,7 @@
 //! Words, and how often each comes.
 use crate::fault::ToolFault;
 use hip_uses::intern::Interner;
+use hip_uses::packed::Packed;
 use hipstr::Rc;
 use hipstr::string::HipStr;
 use std::alloc::{AllocError, Global};
@@ -10,7 +11,7 @@ use std::hash::RandomState;
 /// The different words of a text, and how often each comes, by its number.
 #[derive(Drop)]
 pub(crate) struct Words<'b> {
-    interner: Interner<'b, Rc, RandomState>,
+    interner: Interner<'b, Rc, Packed<RandomState>>,
     counts: Vec<u64>,
 }
 
@@ -21,7 +22,7 @@ impl<'b> Words<'b> {
         alloc: Global,
         text: &HipStr<'b, Rc>,
     ) -> Result<Self, ToolFault> {
-        let mut interner = Interner::with_hasher(alloc, state);
+        let mut interner = Interner::with_hasher(alloc, Packed::new(state));
         let numbers = interner.intern_words(alloc, text)?;
         let mut counts = vec![in alloc; 0u64; interner.len()]?;
         for number in &numbers {

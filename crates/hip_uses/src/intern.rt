@@ -7,7 +7,6 @@ ghost use Rattle.hip_uses.specs.Number.{number_of};
 
 pub use crate::fault::InternFault;
 use crate::keyed::found;
-use crate::packed::Packed;
 use hipstr::Backend;
 use hipstr::string::HipStr;
 use std::alloc::Global;
@@ -24,7 +23,7 @@ pub mod words;
 /// `S` makes the hashers of the texts. The default has a fixed seed; for texts from outside see [`Interner::with_hasher`].
 #[derive(Drop)]
 pub struct Interner<'b, B: Backend, S: BuildHasher = BuildHasherDefault<FoldHasher>> {
-    numbers: HashMap<HipStr<'b, B>, u32, Packed<S>>,
+    numbers: HashMap<HipStr<'b, B>, u32, S>,
     texts: Vec<HipStr<'b, B>>,
 }
 
@@ -58,7 +57,7 @@ impl<'b, B: Backend, S: BuildHasher> Interner<'b, B, S> {
         ensures { result ≡ [] }
     {
         Interner {
-            numbers: HashMap::with_hasher(alloc, Packed::new(hash_builder)),
+            numbers: HashMap::with_hasher(alloc, hash_builder),
             texts: Vec::new(alloc),
         }
     }

@@ -5,12 +5,14 @@
 //! - [`queue`]: a message goes to many subscribers as clones of one handle.
 //! - [`intern`]: each different text is kept once, and has a number.
 //! - [`table`]: a header names the columns of the rows below it.
+//!
+//! [`packed`] makes the maps of `intern` and `template` faster where their hasher is seeded.
 #![tactic(auto)]
 
 mod fault;
 pub mod intern;
 mod keyed;
-mod packed;
+pub mod packed;
 pub mod queue;
 pub mod table;
 pub mod template;

@@ -1,24 +1,26 @@
-//! Hashers that take a text of up to 16 bytes as one number or two: SipHash takes a number of eight bytes in one step, but the last bytes of
-//! a text one by one.
+//! Hashers that take a text of up to 16 bytes as one number. std's `DefaultHasher` takes a number of eight bytes in one step, but the last
+//! bytes of a text one by one.
 ghost use Rattle.std.specs.Prelude.{◌≡◌, ◌+◌, ◌≤◌, length};
 ghost use Rattle.hip_uses.specs.Packed as packing;
 
 use std::hash::{BuildHasher, Hasher};
 
-/// Makes hashers of texts.
+/// Makes hashers of texts out of another's, for the maps of `Interner` and `Values`. It pays over `RandomState`, by some 7 ns a word;
+/// `FoldHasher` packs texts itself.
 #[derive(Drop)]
-pub(crate) struct Packed<S: BuildHasher> {
+pub struct Packed<S: BuildHasher> {
     hash_builder: S,
 }
 
-/// Hashes a text. At most nine texts of up to 8 bytes make one number, and at most eight of up to 16 one pair of numbers.
+/// Hashes a text. The reads overlap: at most nine texts of up to 8 bytes make one number, and at most eight of 9 to 16.
 #[derive(Drop)]
-pub(crate) struct PackedHasher<H: Hasher + Drop> {
+pub struct PackedHasher<H: Hasher + Drop> {
     hasher: H,
 }
 
 impl<S: BuildHasher> Packed<S> {
-    pub(crate) fn new(hash_builder: S) -> Self {
+    /// Hashes by a hasher of `hash_builder` for each text.
+    pub fn new(hash_builder: S) -> Self {
         Packed { hash_builder }
     }
 }

@@ -3,7 +3,6 @@ ghost use Rattle.std.specs.Prelude.{◌≡◌, ℕ, List, [], MatchOption, OnErr
 ghost use Rattle.hip_uses.specs.Template.{value_of, value_with};
 
 use crate::keyed::{found, put};
-use crate::packed::Packed;
 use hipstr::Backend;
 use hipstr::string::HipStr;
 use std::alloc::{AllocError, Global};
@@ -16,7 +15,7 @@ use std::marker::Model;
 /// `S` makes the hashers of the names. The default has a fixed seed; for names from outside see [`Values::with_hasher`].
 #[derive(Drop)]
 pub struct Values<'b, B: Backend, S: BuildHasher = BuildHasherDefault<FoldHasher>> {
-    values: HashMap<HipStr<'b, B>, HipStr<'b, B>, Packed<S>>,
+    values: HashMap<HipStr<'b, B>, HipStr<'b, B>, S>,
 }
 
 impl<'b, B: Backend, S: BuildHasher> Model for Values<'b, B, S> {
@@ -43,7 +42,7 @@ impl<'b, B: Backend, S: BuildHasher> Values<'b, B, S> {
         ensures { result ≡ [] }
     {
         Values {
-            values: HashMap::with_hasher(alloc, Packed::new(hash_builder)),
+            values: HashMap::with_hasher(alloc, hash_builder),
         }
     }
 

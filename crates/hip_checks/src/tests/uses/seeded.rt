@@ -1,5 +1,6 @@
 //! Maps whose hashers are seeded: texts get the same numbers, and names the same values, by each of three seeds.
 use hip_uses::intern::Interner;
+use hip_uses::packed::Packed;
 use hip_uses::template::{Values, fill, parse};
 use hipstr::Rc;
 use hipstr::string::HipStr;
@@ -59,6 +60,8 @@ fn any_seed_gives_the_same_numbers(rt: HostRuntime) {
         let state = RandomState::new(&Given(Some(seed))).expect(&rt, "a given seed");
         let found = numbers(alloc, state).expect(&rt, "memory for the numbers");
         assert!(rt; found.as_slice() == NUMBERS.as_slice(), "by the seed {seed}");
+        let found = numbers(alloc, Packed::new(state)).expect(&rt, "memory for the numbers");
+        assert!(rt; found.as_slice() == NUMBERS.as_slice(), "packed, by the seed {seed}");
         assert!(rt; filled(alloc, state) == Ok(true), "by the seed {seed}");
     }
 }
