@@ -22,7 +22,10 @@ impl<'b> Words<'b> {
         alloc: Global,
         text: &HipStr<'b, Rc>,
     ) -> Result<Self, ToolFault> {
-        let mut interner = Interner::with_hasher(alloc, Packed::new(state));
+        let hash_builder = Packed {
+            hash_builder: state,
+        };
+        let mut interner = Interner::with_hasher(alloc, hash_builder);
         let numbers = interner.intern_words(alloc, text)?;
         let mut counts = vec![in alloc; 0u64; interner.len()]?;
         for number in &numbers {

@@ -9,20 +9,13 @@ use std::hash::{BuildHasher, Hasher};
 /// `FoldHasher` packs texts itself.
 #[derive(Drop)]
 pub struct Packed<S: BuildHasher> {
-    hash_builder: S,
+    pub hash_builder: S,
 }
 
 /// Hashes a text. The reads overlap: at most nine texts of up to 8 bytes make one number, and at most eight of 9 to 16.
 #[derive(Drop)]
 pub struct PackedHasher<H: Hasher + Drop> {
     hasher: H,
-}
-
-impl<S: BuildHasher> Packed<S> {
-    /// Hashes by a hasher of `hash_builder` for each text.
-    pub fn new(hash_builder: S) -> Self {
-        Packed { hash_builder }
-    }
 }
 
 impl<S: BuildHasher> BuildHasher for Packed<S> {

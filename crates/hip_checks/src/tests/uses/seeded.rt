@@ -60,7 +60,10 @@ fn any_seed_gives_the_same_numbers(rt: HostRuntime) {
         let state = RandomState::new(&Given(Some(seed))).expect(&rt, "a given seed");
         let found = numbers(alloc, state).expect(&rt, "memory for the numbers");
         assert!(rt; found.as_slice() == NUMBERS.as_slice(), "by the seed {seed}");
-        let found = numbers(alloc, Packed::new(state)).expect(&rt, "memory for the numbers");
+        let packed = Packed {
+            hash_builder: state,
+        };
+        let found = numbers(alloc, packed).expect(&rt, "memory for the numbers");
         assert!(rt; found.as_slice() == NUMBERS.as_slice(), "packed, by the seed {seed}");
         assert!(rt; filled(alloc, state) == Ok(true), "by the seed {seed}");
     }
