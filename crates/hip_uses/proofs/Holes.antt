@@ -1,5 +1,5 @@
 -- Where the parts of a hole stand in a template.
-use Rattle.std.proofs.Common.{◌≡◌, ◌∙◌, ℕ, ◌+◌, ◌-◌, ◌≤◌, List, [], ◌++◌, Option, Result, Ok, Some, rules, length, take, drop, ap, sym, subst, append_assoc, drop-drop, length-append, length-take-le, take-append-drop, arith}
+use Rattle.std.proofs.Common.{◌≡◌, ◌∙◌, ℕ, ◌+◌, ◌-◌, ◌≤◌, List, [], ◌++◌, Ok, Some, rules, length, take, drop, ap, sym, subst, append_assoc, drop-drop, length-append, length-take-le, take-append-drop, arith}
 use Rattle.std.specs.Prelude.{slice_range}
 use Rattle.std.specs.Str.{IsCharBoundary, IsUtf8}
 use Rattle.std.proofs.Math.Seq.{drop-append_seam, take-append_seam}

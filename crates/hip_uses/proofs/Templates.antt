@@ -14,7 +14,7 @@ use Rattle.hipstr.specs.Join.{joined}
 use Rattle.hipstr.specs.Handle.{Handle}
 use Rattle.hip_uses.proofs.Pushed.{All-more}
 use Rattle.hip_uses.specs.Number.{bytes_of, same_text}
-use Rattle.hip_uses.specs.Template.{AllKnown, all_shown, FillFails, FirstHole, HoleFails, IsParsed, IsUnknown, ParseFails, closing, filled, hole_filled, hole_written, opening, value_in, value_of, values_in, value_with, woven, written}
+use Rattle.hip_uses.specs.Template.{AllKnown, all_shown, FillFails, FirstHole, HoleFails, IsParsed, IsUnknown, ParseFails, closing, filled, hole_written, opening, value_in, value_of, values_in, value_with, woven, written}
 use Rattle.hip_uses.specs.declared.template.Hole.{Hole}
 use Rattle.hip_uses.specs.declared.fault.TemplateFault.{TemplateFault}
 use Rattle.hip_uses.specs.declared.fault.TemplateFault.TheVariants.{Unclosed, Unknown, Memory}

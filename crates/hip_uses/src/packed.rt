@@ -42,7 +42,8 @@ impl<H: Hasher + Drop> Hasher for PackedHasher<H> {
         if len > 16 {
             self.hasher.write(bytes);
         } else if len > 8 {
-            self.hasher.write_u128(pair(read_u64(bytes, 0), read_u64(bytes, len - 8)));
+            self.hasher
+                .write_u128(pair(read_u64(bytes, 0), read_u64(bytes, len - 8)));
         } else if !is_end(bytes) {
             self.hasher.write_u64(read_short(bytes));
         }

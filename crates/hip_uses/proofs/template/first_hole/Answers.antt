@@ -1,6 +1,6 @@
 use Rattle.std.proofs.Common.{refl}
 use Rattle.hip_uses.specs.Template.{closing, opening}
-use Rattle.hip_uses.proofs.Holes.{behind-lies, closing-utf8, end-of-end, mark-lies, opening-utf8, same-hole}
+use Rattle.hip_uses.proofs.Holes.{behind-lies, closing-utf8, end-of-end, mark-lies, opening-utf8}
 use Rattle.hip_uses.proofs.template.first_hole.Goals as goal
 
 pub part_before-requires : goal.part_before-requires

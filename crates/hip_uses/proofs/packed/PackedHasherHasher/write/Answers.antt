@@ -1,4 +1,4 @@
-use Rattle.std.proofs.Common.{rules, length}
+use Rattle.std.proofs.Common.{length}
 use mathlib.Core.Path.{sym}
 use borrow.Author.Tests.{le-ltb, lt-ltb}
 use Rattle.hip_uses.specs.Packed.{fed, writes}

@@ -1,6 +1,4 @@
-use Rattle.std.proofs.Common.{◌∙◌, List, ℕ, sym, subst}
 use Rattle.std.proofs.lemmas.Str.{IsCharBoundary-start}
-use Rattle.hipstr.specs.Parted.{IsParted}
 use Rattle.hip_uses.proofs.Holes.{parted-at}
 use Rattle.hip_uses.proofs.template.Sign.part.Goals as goal
 

@@ -1,5 +1,4 @@
-use Rattle.std.proofs.Common.{◌≡◌, ◌∙◌, List, [], ap, sym, subst, length}
-use Rattle.std.specs.Borrow.{Bor}
+use Rattle.std.proofs.Common.{◌≡◌, ◌∙◌, [], ap, sym, length}
 use Rattle.hipstr.specs.Join.{joined}
 use Rattle.hip_uses.specs.Template.{all_shown, woven}
 use Rattle.hip_uses.specs.declared.template.Hole.{Hole}
