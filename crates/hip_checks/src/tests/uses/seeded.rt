@@ -29,16 +29,15 @@ impl RandomSource for Given {
 
 const SEEDS: [u8; 3] = [0, 7, 255];
 
-const TEXT: &str = "one fish, two fish; red fish, a-word-of-more-than-23-bytes one, characters, internationalization, characters";
+const TEXT: &str =
+    "one fish, two fish; red fish, a-word-of-more-than-23-bytes one, characters, internationalization, characters";
 
 const NUMBERS: [u32; 17] = [0, 1, 2, 1, 3, 1, 4, 5, 6, 7, 8, 9, 10, 0, 11, 12, 11];
 
 /// The numbers of the words of a text.
 fn numbers<S: BuildHasher + Drop>(alloc: Global, hash_builder: S) -> Option<Vec<u32>> {
     let mut interner = Interner::<Rc, S>::with_hasher(alloc, hash_builder);
-    interner
-        .intern_words(alloc, &HipStr::borrowed(TEXT))
-        .ok()
+    interner.intern_words(alloc, &HipStr::borrowed(TEXT)).ok()
 }
 
 /// A template that is filled by two values.
@@ -59,12 +58,18 @@ fn any_seed_gives_the_same_numbers(rt: HostRuntime) {
     for seed in SEEDS {
         let state = RandomState::new(&Given(Some(seed))).expect(&rt, "a given seed");
         let found = numbers(alloc, state).expect(&rt, "memory for the numbers");
-        assert!(rt; found.as_slice() == NUMBERS.as_slice(), "by the seed {seed}");
+        assert!(rt;
+            found.as_slice() == NUMBERS.as_slice(),
+            "by the seed {seed}"
+        );
         let packed = Packed {
             hash_builder: state,
         };
         let found = numbers(alloc, packed).expect(&rt, "memory for the numbers");
-        assert!(rt; found.as_slice() == NUMBERS.as_slice(), "packed, by the seed {seed}");
+        assert!(rt;
+            found.as_slice() == NUMBERS.as_slice(),
+            "packed, by the seed {seed}"
+        );
         assert!(rt; filled(alloc, state) == Ok(true), "by the seed {seed}");
     }
 }

@@ -62,8 +62,14 @@ fn finds_cells(rt: HostRuntime) {
     let alloc = rt.alloc();
     for (text, wanted) in ROWS {
         for by_place in [false, true] {
-            assert!(rt; is(&shown::<Rc>(alloc, text, by_place), wanted), "of {text:?}");
-            assert!(rt; is(&shown::<Unique>(alloc, text, by_place), wanted), "of {text:?}");
+            assert!(rt;
+                is(&shown::<Rc>(alloc, text, by_place), wanted),
+                "of {text:?}"
+            );
+            assert!(rt;
+                is(&shown::<Unique>(alloc, text, by_place), wanted),
+                "of {text:?}"
+            );
         }
     }
 }
