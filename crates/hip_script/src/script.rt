@@ -14,6 +14,9 @@ use std::simd::prelude::*;
 
 const LANES: usize = 16;
 
+/// How many bytes a line has at least that says something, as `pop 0`, with its line feed.
+const SHORTEST_LINE: usize = 6;
+
 /// A script that was read: what its lines say, and the buffers of what has no place of its own in it.
 #[derive(Drop)]
 pub(crate) struct Script<'l> {
@@ -24,12 +27,13 @@ pub(crate) struct Script<'l> {
 impl<'l> Script<'l> {
     /// Reads a script. The first line that is no command is told by its number.
     ///
-    /// Room for all lines is taken first, as many as there are line feeds, and one.
+    /// Room is taken first for one line more than there are line feeds, but for no more than have place in the script.
     pub(crate) fn read(alloc: Global, input: &'l [u8]) -> Result<Self, PlayFault>
         ensures script { GivesScript result (script_of input.now) }
         ensures bad_line { (line : ℕ) → result ≡ Err (NotACommand line) → 0 < line }
     {
-        let mut lines = Vec::with_capacity(alloc, count_feeds(input).saturating_add(1))?;
+        let most = count_feeds(input).min(input.len() / SHORTEST_LINE);
+        let mut lines = Vec::with_capacity(alloc, most.saturating_add(1))?;
         let mut buffers = Buffers::new(alloc);
         let mut number = 0usize;
         let mut rest = input;

@@ -35,6 +35,25 @@ pub struct Template<'b, B: Backend> {
     earlier_places: Vec<usize>,
 }
 
+impl<'b, B: Backend> Template<'b, B> {
+    /// A template of these holes, with a text behind the last one.
+    pub fn new(
+        alloc: Global,
+        holes: Vec<Hole<'b, B>>,
+        rest: HipStr<'b, B>,
+    ) -> Result<Self, AllocError>
+        ensures holes { IfOk result (λ made. made.holes.items ≡ holes.entry.items) }
+        ensures rest { IfOk result (λ made. made.rest ≡ rest.entry) }
+    {
+        let earlier_places = earlier_places(alloc, holes.as_slice())?;
+        Ok(Template {
+            holes,
+            rest,
+            earlier_places,
+        })
+    }
+}
+
 /// A sign of a hole, `{{` or `}}`, prepared once for all searches of a template.
 #[derive(Drop)]
 struct Sign {
@@ -147,10 +166,5 @@ pub fn parse<'b, B: Backend>(
         rest = after;
     }
     let rest = last_part(alloc, template, rest, holes.is_empty())?;
-    let earlier_places = earlier_places(alloc, holes.as_slice())?;
-    Ok(Template {
-        holes,
-        rest,
-        earlier_places,
-    })
+    Ok(Template::new(alloc, holes, rest)?)
 }

@@ -3,6 +3,7 @@ use Rattle.std.proofs.lemmas.List.{append-nil}
 use Rattle.std.specs.Borrow.{Bor}
 use Rattle.std.specs.Prelude.{IfSome}
 use Rattle.std.specs.Str.{IsUtf8}
+use Rattle.hipstr.specs.Handle.{Handle}
 use Rattle.hipstr.specs.Parted.{Lacks}
 use Rattle.hip_uses.specs.Template.{FirstHole, IsParsed, ParseFails, opening, written}
 use Rattle.hip_uses.specs.declared.template.Hole.{Hole}
@@ -19,8 +20,11 @@ returns-clause-parsed g c =
     let AHole : Type 0 = Hole g.row.B.Denot g.row.B-Sole.Denot g.row.B-Start.Denot in
     let rest = c.loop-holes.rest.now in
     let lacks : Lacks opening rest = subst (λ (found : Option (AHole × Bor (List ℕ))). FirstHole rest (Ok found)) c.in_default.is c.in_ok-hole.ensures.hole in
-    subst (λ (last : List ℕ). IsParsed c.args.template.now.items c.loop-holes.holes.items last) (sym c.in_ok-rest.ensures)
-    (subst (λ (holes : List AHole). IsParsed c.args.template.now.items holes rest) (append-nil c.loop-holes.holes.items) (c.loop-holes.invariant.parsed [] rest (refl, lacks)))
+    let found = c.loop-holes.holes.items in
+    subst (λ (holes : List AHole). IsParsed c.args.template.now.items holes c.in_ok-new.field-0.rest.items) (sym c.in_ok-new.ensures.holes)
+    (subst (λ (last : Handle). IsParsed c.args.template.now.items found last.items) (sym c.in_ok-new.ensures.rest)
+    (subst (λ (last : List ℕ). IsParsed c.args.template.now.items found last) (sym c.in_ok-rest.ensures)
+    (subst (λ (holes : List AHole). IsParsed c.args.template.now.items holes rest) (append-nil found) (c.loop-holes.invariant.parsed [] rest (refl, lacks)))))
 
 pub loop-holes-smaller : goal.loop-holes-smaller
 loop-holes-smaller g c =
