@@ -1,6 +1,6 @@
 //! Templates, filled with `name` and `greeting`.
 use super::support::is;
-use hip_uses::template::{TemplateFault, Values, fill, parse};
+use hip_uses::template::{Hole, Template, TemplateFault, Values, fill, parse};
 use hipstr::string::HipStr;
 use hipstr::{Backend, Rc, Unique};
 use std::alloc::{AllocError, Global};
@@ -52,4 +52,29 @@ fn fills_holes(rt: HostRuntime) {
         assert!(rt; is(&shown::<Rc>(alloc, text), wanted), "of {text:?}");
         assert!(rt; is(&shown::<Unique>(alloc, text), wanted), "of {text:?}");
     }
+}
+
+/// A template that is put together of its parts, and filled.
+fn put_together<B: Backend>(
+    alloc: Global,
+) -> Result<HipStr<'static, B>, TemplateFault<'static, B>> {
+    let mut holes = Vec::new(alloc);
+    for (before, name) in [("", "name"), (": ", "greeting"), (", ", "name")] {
+        holes.push(Hole {
+            before: HipStr::from_static(before),
+            name: HipStr::from_static(name),
+        })?;
+    }
+    let template = Template::new(alloc, holes, HipStr::from_static("!"))?;
+    let values = values(alloc)?;
+    fill(alloc, &template, &values)
+}
+
+#[test]
+fn fills_what_was_put_together(rt: HostRuntime) {
+    let alloc = rt.alloc();
+    assert!(rt; put_together::<Rc>(alloc).is_ok_and(|text| text.str_eq("Ada: Good evening, Ada!")));
+    assert!(rt;
+        put_together::<Unique>(alloc).is_ok_and(|text| text.str_eq("Ada: Good evening, Ada!"))
+    );
 }
