@@ -1,5 +1,5 @@
 -- What literals say, and words that are added to buffers.
-use Rattle.std.proofs.Common.{◌≡◌, ℕ, ◌+◌, ◌-◌, true, false, List, length, drop, take, Some, None, arith, refl, sym, ap, ◌∙◌}
+use Rattle.std.proofs.Common.{◌≡◌, ℕ, ◌+◌, ◌-◌, true, false, List, length, drop, take, Some, None, arith, refl, sym, ap, subst, ◌∙◌}
 use Rattle.std.proofs.Math.Seq.{drop-append_seam}
 use Rattle.std.proofs.lemmas.Bool.{false_from_ne_true}
 use Rattle.std.proofs.lemmas.List.{take_all, length-append}
@@ -38,17 +38,19 @@ pub quotes-bytes : (quote : Quote) (literal : Literal) (held : Held) → quote �
     → QuotesAs (quoted_as quote (literal_in held.bytes literal)) held held (Bytes literal)
 quotes-bytes quote literal held is within = rw is (record { grows = grows-none held; within = within; is = refl })
 
-pub shown-text : (bytes lent shown text : List ℕ) (literal : Literal) → lent ≡ bytes → shown ≡ literal_in lent literal → text ≡ shown → IsUtf8 shown
+pub shown-text : (bytes shown text : List ℕ) (literal : Literal) → shown ≡ literal_in bytes literal → text ≡ shown → IsUtf8 shown
     → (text ≡ literal_in bytes literal) × (is_utf8 (literal_in bytes literal) ≡ true)
-shown-text bytes lent shown text literal lent_is shown_is text_is utf8 =
-    let is : shown ≡ literal_in bytes literal = shown_is ∙ ap (λ b. literal_in b literal) lent_is in
-    (text_is ∙ is, ap is_utf8 (sym is) ∙ is_utf8-from_IsUtf8 shown utf8)
+shown-text bytes shown text literal is text_is utf8 = (text_is ∙ is, ap is_utf8 (sym is) ∙ is_utf8-from_IsUtf8 shown utf8)
 
-pub shown-none : (bytes lent shown : List ℕ) (literal : Literal) → lent ≡ bytes → shown ≡ literal_in lent literal → ¬ (IsUtf8 shown)
+pub shown-none : (bytes shown : List ℕ) (literal : Literal) → shown ≡ literal_in bytes literal → ¬ (IsUtf8 shown)
     → is_utf8 (literal_in bytes literal) ≡ false
-shown-none bytes lent shown literal lent_is shown_is other =
-    let is : shown ≡ literal_in bytes literal = shown_is ∙ ap (λ b. literal_in b literal) lent_is in
-    ap is_utf8 (sym is) ∙ false_from_ne_true (is_utf8 shown) (λ h. other (IsUtf8-from_is_utf8 shown h))
+shown-none bytes shown literal is other = ap is_utf8 (sym is) ∙ false_from_ne_true (is_utf8 shown) (λ h. other (IsUtf8-from_is_utf8 shown h))
+
+-- a text that was read from a buffer as it is lent
+pub lent-text : (bytes lent text : List ℕ) (literal : Literal) → lent ≡ bytes
+    → (text ≡ literal_in lent literal) × (is_utf8 (literal_in lent literal) ≡ true)
+    → (text ≡ literal_in bytes literal) × (is_utf8 (literal_in bytes literal) ≡ true)
+lent-text bytes lent text literal is shown = subst (λ b. (text ≡ literal_in b literal) × (is_utf8 (literal_in b literal) ≡ true)) is shown
 
 pub quotes-none : (quote : Quote) (bytes : List ℕ) → (quote ≡ bytes_quote → ⊥) → is_utf8 bytes ≡ false → quoted_as quote bytes ≡ None
 quotes-none bytes_quote bytes other is = absurd (other refl)
