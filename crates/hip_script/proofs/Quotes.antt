@@ -1,5 +1,5 @@
 -- What literals say, and words that are added to buffers.
-use Rattle.std.proofs.Common.{◌≡◌, ℕ, ◌+◌, ◌-◌, true, false, List, length, drop, take, Some, None, arith, refl, sym, ap, ◌∙◌}
+use Rattle.std.proofs.Common.{◌≡◌, ℕ, ◌+◌, ◌-◌, true, false, List, length, drop, take, Some, arith, refl, sym, ap, subst, ◌∙◌}
 use Rattle.std.proofs.Math.Seq.{drop-append_seam}
 use Rattle.std.proofs.lemmas.Bool.{false_from_ne_true}
 use Rattle.std.proofs.lemmas.List.{take_all, length-append}
@@ -9,7 +9,7 @@ use Rattle.std.specs.Str.{chars, is_utf8, IsUtf8}
 use Rattle.hip_script.proofs.Growth.{grows-none}
 use Rattle.hip_script.specs.Grammar.{follows_said, only, quoted_as}
 use Rattle.hip_script.specs.Said.{AddsSpan, Held, IsSpan, IsWithin, LiteralWithin, QuotedWithin, QuotesAs, ReadsFields, fields_in, in_span, literal_in, quoted_in}
-use Rattle.hip_script.specs.Spoken.Pattern.{CharOf, AnyOf}
+use Rattle.hip_script.specs.Spoken.Pattern.{CharOf}
 use Rattle.hip_script.specs.Spoken.Quoted.{Sought}
 use Rattle.hip_script.specs.Words.{Left, ends_of, said_at, word_at}
 use Rattle.hipstr.specs.declared.End.{End}
@@ -21,7 +21,7 @@ use Rattle.hip_script.specs.declared.said.Span.{Span}
 use Rattle.hip_script.specs.declared.verb.Follows.{Follows}
 use Rattle.hip_script.specs.declared.verb.Follows.TheVariants.{Nothing}
 use Rattle.hip_script.specs.declared.verb.Quote.{Quote}
-use Rattle.hip_script.specs.declared.verb.Quote.TheVariants.{Bytes as bytes_quote, Text as text_quote, Char as char_quote, Any as any_quote}
+use Rattle.hip_script.specs.declared.verb.Quote.TheVariants.{Bytes as bytes_quote, Text as text_quote, Char as char_quote}
 
 -- what was added stands in the span
 pub span-added : {A : Type 0} (more old new : List A) (span : Span) → AddsSpan more old new span → IsSpan (length new) span × (in_span new span ≡ more)
@@ -38,23 +38,19 @@ pub quotes-bytes : (quote : Quote) (literal : Literal) (held : Held) → quote �
     → QuotesAs (quoted_as quote (literal_in held.bytes literal)) held held (Bytes literal)
 quotes-bytes quote literal held is within = rw is (record { grows = grows-none held; within = within; is = refl })
 
-pub shown-text : (bytes lent shown text : List ℕ) (literal : Literal) → lent ≡ bytes → shown ≡ literal_in lent literal → text ≡ shown → IsUtf8 shown
+pub shown-text : (bytes shown text : List ℕ) (literal : Literal) → shown ≡ literal_in bytes literal → text ≡ shown → IsUtf8 shown
     → (text ≡ literal_in bytes literal) × (is_utf8 (literal_in bytes literal) ≡ true)
-shown-text bytes lent shown text literal lent_is shown_is text_is utf8 =
-    let is : shown ≡ literal_in bytes literal = shown_is ∙ ap (λ b. literal_in b literal) lent_is in
-    (text_is ∙ is, ap is_utf8 (sym is) ∙ is_utf8-from_IsUtf8 shown utf8)
+shown-text bytes shown text literal is text_is utf8 = (text_is ∙ is, ap is_utf8 (sym is) ∙ is_utf8-from_IsUtf8 shown utf8)
 
-pub shown-none : (bytes lent shown : List ℕ) (literal : Literal) → lent ≡ bytes → shown ≡ literal_in lent literal → ¬ (IsUtf8 shown)
+pub shown-none : (bytes shown : List ℕ) (literal : Literal) → shown ≡ literal_in bytes literal → ¬ (IsUtf8 shown)
     → is_utf8 (literal_in bytes literal) ≡ false
-shown-none bytes lent shown literal lent_is shown_is other =
-    let is : shown ≡ literal_in bytes literal = shown_is ∙ ap (λ b. literal_in b literal) lent_is in
-    ap is_utf8 (sym is) ∙ false_from_ne_true (is_utf8 shown) (λ h. other (IsUtf8-from_is_utf8 shown h))
+shown-none bytes shown literal is other = ap is_utf8 (sym is) ∙ false_from_ne_true (is_utf8 shown) (λ h. other (IsUtf8-from_is_utf8 shown h))
 
-pub quotes-none : (quote : Quote) (bytes : List ℕ) → (quote ≡ bytes_quote → ⊥) → is_utf8 bytes ≡ false → quoted_as quote bytes ≡ None
-quotes-none bytes_quote bytes other is = absurd (other refl)
-quotes-none text_quote bytes other is = rw is refl
-quotes-none char_quote bytes other is = rw is refl
-quotes-none any_quote bytes other is = rw is refl
+-- a text that was read from a buffer as it is lent
+pub lent-text : (bytes lent text : List ℕ) (literal : Literal) → lent ≡ bytes
+    → (text ≡ literal_in lent literal) × (is_utf8 (literal_in lent literal) ≡ true)
+    → (text ≡ literal_in bytes literal) × (is_utf8 (literal_in bytes literal) ≡ true)
+lent-text bytes lent text literal is shown = subst (λ b. (text ≡ literal_in b literal) × (is_utf8 (literal_in b literal) ≡ true)) is shown
 
 pub quotes-text : (quote : Quote) (text : List ℕ) (literal : Literal) (held : Held) → quote ≡ text_quote → LiteralWithin held.bytes literal
     → (text ≡ literal_in held.bytes literal) × (is_utf8 (literal_in held.bytes literal) ≡ true)
@@ -65,17 +61,6 @@ pub quotes-char : (quote : Quote) (text bytes : List ℕ) (c : ℕ) (held : Held
     → Some (Sought (CharOf c)) ≡ only (chars text) → QuotesAs (quoted_as quote bytes) held held (Char c)
 quotes-char quote text bytes c held is shown told =
     rw is (record { grows = grows-none held; within = tt; is = rw shown.1 (ap (λ t. only (chars t)) (sym shown.0) ∙ sym told) })
-
-pub quotes-any : (quote : Quote) (text bytes new : List ℕ) (span : Span) (held : Held) → quote ≡ any_quote → (text ≡ bytes) × (is_utf8 bytes ≡ true)
-    → AddsSpan (chars text) held.chars new span → QuotesAs (quoted_as quote bytes) held (record held { chars = new }) (Any span)
-quotes-any quote text bytes new span held is shown adds =
-    let stands = span-added (chars text) held.chars new span adds in
-    let none = grows-none held in
-    rw is (record {
-      grows = record { more_bytes = none.more_bytes; bytes = none.bytes; more_chars = chars text; chars = adds.added; more_ends = none.more_ends; ends = none.ends };
-      within = stands.0;
-      is = rw shown.1 (ap (λ t. Some (Sought (AnyOf (chars t)))) (sym shown.0) ∙ ap (λ cs. Some (Sought (AnyOf cs))) (sym stands.1));
-    })
 
 quoted_moves : (held : Held) (new : List End) (quoted : Said_quoted) → QuotedWithin held quoted → QuotedWithin (record held { ends = new }) quoted
 quoted_moves held new (Bytes literal) within = within

@@ -1,7 +1,7 @@
 //! The words of a line are read into its record, and into the buffers of what has no place of its own in the script.
-ghost use Rattle.std.specs.Prelude.{◌≡◌, ◌++◌, ℕ, List, map, None, Some, IfOk, OnOk, OnErr, IsErrOf, length};
+ghost use Rattle.std.specs.Prelude.{◌≡◌, ◌++◌, ℕ, List, false, map, true, None, Some, IfOk, OnOk, OnErr, IsErrOf, length};
 ghost use Rattle.std.specs.Option.{option_map};
-ghost use Rattle.std.specs.Str.{chars};
+ghost use Rattle.std.specs.Str.{chars, is_utf8};
 ghost use Rattle.hip_script.specs.Grammar.{follows_said, number_said, only, pattern_said, quoted_as, quoted_said, way_said, word_said, words_said};
 ghost use Rattle.hip_script.specs.Said.{AddsSpan, IsWithin, LiteralWithin, QuotesAs, ReadsFields, fields_in, held, literal_in};
 ghost use Rattle.hip_script.specs.Spoken.Quoted.{Sought};
@@ -110,20 +110,20 @@ impl Buffers {
             (held self.old) (held self.new) quoted) }
         ensures bad { IsErrOf result LineFault.NotACommand → quoted_as quote (literal_in self.old.bytes.items literal.entry) ≡ None }
     {
-        if let Quote::Bytes = quote {
-            return Ok(Quoted::Bytes(literal));
-        }
-        let Ok(text) = str::from_utf8(literal.of(&self.bytes)) else {
-            return Err(LineFault::NotACommand);
-        };
         match quote {
             Quote::Bytes => Ok(Quoted::Bytes(literal)),
-            Quote::Text => Ok(Quoted::Text(literal)),
-            Quote::Char => match only_char(text) {
+            Quote::Text => {
+                text_of(literal, &self.bytes)?;
+                Ok(Quoted::Text(literal))
+            }
+            Quote::Char => match only_char(text_of(literal, &self.bytes)?) {
                 Some(c) => Ok(Quoted::Char(c)),
                 None => Err(LineFault::NotACommand),
             },
-            Quote::Any => Ok(Quoted::Any(add_chars(&mut self.chars, text)?)),
+            Quote::Any => {
+                let text = text_of(literal, &self.bytes)?;
+                Ok(Quoted::Any(add_chars(&mut self.chars, text)?))
+            }
         }
     }
 
@@ -225,6 +225,19 @@ fn read_range<'l>(words: &mut Words<'l>, said: &mut Said<'l>) -> Result<(), Line
     said.low = low;
     said.high = high;
     Ok(())
+}
+
+/// The text that the bytes of a literal are.
+fn text_of<'l>(literal: Literal<'l>, bytes: &'l [u8]) -> Result<&'l str, LineFault>
+    requires { LiteralWithin bytes.now literal }
+    ensures text { IfOk result (λ text. (text.now ≡ literal_in bytes.now literal.entry)
+        × (is_utf8 (literal_in bytes.now literal.entry) ≡ true)) }
+    ensures bad { IsErrOf result LineFault.NotACommand → is_utf8 (literal_in bytes.now literal.entry) ≡ false }
+{
+    match str::from_utf8(literal.of(bytes)) {
+        Ok(text) => Ok(text),
+        Err(_) => Err(LineFault::NotACommand),
+    }
 }
 
 /// The character of a text that is one.
