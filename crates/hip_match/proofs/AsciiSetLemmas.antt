@@ -1,15 +1,19 @@
--- Sets of ASCII characters, by bytes: no byte of another character is one of ASCII.
-use Rattle.std.proofs.Common.{◌≡◌, ℕ, zero, suc, get_or, [], ◌∷◌, ◌+◌, ◌-◌, ◌<◌, ◌≤◌, Bool, true, false, List, Option, Some, None, length, drop, sym, ap, subst, ◌∙◌, arith, ⊎_elim, add-zero, get_or-drop, length-drop}
-use Rattle.std.specs.Prelude.{slice_index}
+-- Sets of characters of ASCII, by bytes: no byte of another character is one of ASCII.
+use Rattle.std.proofs.Common.{◌≡◌, ℕ, ◌+◌, ◌-◌, ◌*◌, ◌/◌, ◌%◌, ◌^◌, ◌<◌, ◌≤◌, ◌==◌, ◌&&◌, Bool, true, false, not, List, Option, Some, None, length, drop, sym, ap, subst, ◌∙◌, arith, refl, ⊎_elim, add-zero, get_or-drop, bit_and}
+use Rattle.std.specs.Prelude.{nat_lt, slice_index}
+use Rattle.std.specs.Int.{bit_at}
 use Rattle.std.specs.Option.{option_map}
 use Rattle.std.proofs.lemmas.Bool.Decides.{nat_tests}
-use Rattle.std.proofs.lemmas.Bool.{cases_lt, cases_Bool, cond-true, cond-false, false≢true}
+use Rattle.std.proofs.lemmas.Bool.{cases_lt, cases_Bool, false≢true, and_parts}
+use Rattle.std.proofs.lemmas.Nat.{and_mask}
+use Rattle.std.proofs.lemmas.Nat.Bits.{and_pow}
 use Rattle.std.proofs.lemmas.Option.{none-some, same_Some}
 use Rattle.std.proofs.lemmas.Str.{byte_from_char, IsCharBoundary-before_ascii}
 use Rattle.std.specs.Str.{IsUtf8}
-use Rattle.memchr.specs.Find.{IsFirstByte, Nowhere, NoneBefore, Passes, TakesFirst, is_byte2, places, places_from}
-use Rattle.hip_match.specs.Occurrence.{IsNextMatch, is_boundary}
-use Rattle.hip_match.specs.Characters.{char_ends, IsAsciiPair}
+use Rattle.memchr.specs.Find.{IsFirst, IsLast, Passes}
+use Rattle.hip_match.specs.Marks.{has_nibbles, in_rows}
+use Rattle.hip_match.specs.Occurrence.{IsNextMatch, IsLastMatch, is_boundary}
+use Rattle.hip_match.specs.Characters.{char_ends}
 use Rattle.hip_match.specs.CharLaws.{is_boundary-true, is_boundary-is, starts_char, char_at-ascii, char_at-end, char_at-off, char_ends-no, char_ends-none}
 use Rattle.hip_match.proofs.OccurrenceLemmas.{option_cases}
 use Rattle.hip_match.proofs.SetLemmas.{ends_here}
@@ -51,88 +55,46 @@ module _ (p : ℕ → Bool) (low : (c : ℕ) → 128 ≤ c → p c ≡ false) (t
       (λ (ge : length t ≤ a). absurd (none-some b (sym (char_ends-none p t a (char_at-end t a ge)) ∙ is)))
       (cases_lt a (length t))
 
-  -- the first such byte from a place on is the first occurrence
-  pub first_byte : (from : ℕ) (r : Option ℕ) → from ≤ length t → IsFirstByte p (drop from t) r
-      → IsNextMatch (char_ends p t) from (option_map (λ i. (from + i, from + i + 1)) r)
-  first_byte from None le none = λ k lo. option_cases (char_ends p t k) (λ free. free) (λ b is.
-      let here = ascii-is k b is in
-      let within = here.0 in
-      let at : slice_index (drop from t) (k - from) ≡ slice_index t k = get_or-drop from t (k - from) 0 ∙ ap (λ n. slice_index t n) (omega arith) in
-      absurd (none (k - from) (omega arith) (omega (arith, length-drop from t)) (ap p at ∙ here.1)))
-  first_byte from (Some i) le found =
+  next_here : (from : ℕ) (r : Option ℕ) → IsFirst (Passes p t) from (length t) r → IsNextMatch (char_ends p t) from (option_map (λ i. (i, i + 1)) r)
+  next_here from None none = λ k lo. option_cases (char_ends p t k) (λ free. free) (λ b is. let here = ascii-is k b is in absurd (none k lo here.0 here.1))
+  next_here from (Some i) found = record {
+    after = found.0.low;
+    occurs = ascii-some i found.0.high found.1;
+    first = λ k lo hi. option_cases (char_ends p t k) (λ free. free) (λ b is. absurd (found.0.before k lo hi (ascii-is k b is).1));
+  }
+
+  last_here : (to : ℕ) (r : Option ℕ) → to ≤ length t → IsLast (Passes p t) 0 to r → IsLastMatch (char_ends p t) to (option_map (λ i. (i, i + 1)) r)
+  last_here to None le none = λ a b is.
+      let here = ascii-is a b is in
+      let end : b ≡ a + 1 = here.2 in
+      ⊎_elim (λ (lt : a < to). absurd (none a (omega arith) lt here.1)) (λ (ge : to ≤ a). omega arith) (cases_lt a to)
+  last_here to (Some i) le found =
       let high = found.0.high in
       record {
-        after = omega arith;
-        occurs = ascii-some (from + i) (omega (arith, length-drop from t)) (ap p (sym (get_or-drop from t i 0)) ∙ found.1);
-        first = λ k lo hi. ⊎_elim
-            (λ yes.
-            let at : slice_index (drop from t) (k - from) ≡ slice_index t k = get_or-drop from t (k - from) 0 ∙ ap (λ n. slice_index t n) (omega arith) in
-            absurd (found.0.before (k - from) (omega arith) (omega arith) (ap p at ∙ yes)))
-            (λ no. ascii-none k no)
-            (cases_Bool (p (slice_index t k)));
+        before = omega arith;
+        occurs = ascii-some i (omega arith) found.1;
+        last = λ a b is past.
+            let here = ascii-is a b is in
+            let end : b ≡ a + 1 = here.2 in
+            ⊎_elim (λ (lt : a < to). absurd (found.0.after a (omega arith) lt here.1)) (λ (ge : to ≤ a). omega arith) (cases_lt a to);
       }
 
--- a set that is two characters of ASCII
-module _ (p : ℕ → Bool) (pair : ℕ × ℕ) (h : IsAsciiPair p pair) where
-  pair_test : is_byte2 pair.0 pair.1 ≡ p
-  pair_test = λ i d. sym (h.is d) i
+-- the places of a test that tells a set of ASCII
+module _ (p q : ℕ → Bool) (same : (c : ℕ) → p c ≡ q c) (low : (c : ℕ) → 128 ≤ c → p c ≡ false) (t bytes : List ℕ) (utf8 : IsUtf8 t) (value : bytes ≡ t) where
+  pub next-match : (from : ℕ) (r : Option ℕ) → IsFirst (Passes p bytes) from (length bytes) r → IsNextMatch (char_ends q t) from (option_map (λ i. (i, i + 1)) r)
+  next-match from r found =
+      subst (λ (test : ℕ → Bool). IsNextMatch (char_ends test t) from (option_map (λ i. (i, i + 1)) r)) (λ i c. same c i)
+      (next_here p low t utf8 from r (subst (λ (l : List ℕ). IsFirst (Passes p l) from (length l) r) value found))
 
-  pair_low : (c : ℕ) → 128 ≤ c → p c ≡ false
-  pair_low c high = h.is c ∙ over h.one h.other
-    where
-      over : pair.0 < 128 → pair.1 < 128 → is_byte2 pair.0 pair.1 c ≡ false
-      over one other = grind (arith, nat_tests)
+  pub last-match : (to : ℕ) (r : Option ℕ) → to ≤ length t → IsLast (Passes p bytes) 0 to r → IsLastMatch (char_ends q t) to (option_map (λ i. (i, i + 1)) r)
+  last-match to r le found =
+      subst (λ (test : ℕ → Bool). IsLastMatch (char_ends test t) to (option_map (λ i. (i, i + 1)) r)) (λ i c. same c i)
+      (last_here p low t utf8 to r le (subst (λ (l : List ℕ). IsLast (Passes p l) 0 to r) value found))
 
-  pub first_of_pair : (t : List ℕ) (from : ℕ) (r : Option ℕ) → IsUtf8 t → from ≤ length t → IsFirstByte (is_byte2 pair.0 pair.1) (drop from t) r
-      → IsNextMatch (char_ends p t) from (option_map (λ i. (from + i, from + i + 1)) r)
-  first_of_pair t from r utf8 le found =
-      first_byte p pair_low t utf8 from r le (subst (λ (test : ℕ → Bool). IsFirstByte test (drop from t) r) pair_test found)
+-- ---- tables of ASCII
 
-not_nil : (x : ℕ) (xs : List ℕ) → x ∷ xs ≡ [] → ⊥
-not_nil x xs is = omega (arith, ap length is)
+pub in_rows-low : (rows : List ℕ) (c : ℕ) → 128 ≤ c → in_rows rows c ≡ false
+in_rows-low rows c high = let past : nat_lt c 128 ≡ false = grind (arith, nat_tests) in ap (λ b. b && bit_at (slice_index rows (c % 16)) (c / 16) == 1) past
 
--- the first of all places whose bytes pass a test is the first
-module _ (test : ℕ → Bool) (hay : List ℕ) where
-  none_from : (i n : ℕ) → places_from test hay i n ≡ [] → Nowhere (Passes test hay) i (i + n)
-  unfolding places_from
-  none_from i zero is = λ k lo hi. absurd (omega arith)
-  none_from i (suc n) is = ⊎_elim
-      (λ yes. absurd (not_nil _ _ (sym (cond-true _ _ _ yes) ∙ is)))
-      (λ no. λ k lo hi passes. ⊎_elim
-      (λ (past : i < k). none_from (i + 1) n (sym (cond-false _ _ _ no) ∙ is) k (omega arith) (omega arith) passes)
-      (λ (le : k ≤ i). let same : k ≡ i = omega arith in false≢true (sym no ∙ ap (λ j. test (slice_index hay j)) (sym same) ∙ passes))
-      (cases_lt i k))
-      (cases_Bool (test (slice_index hay i)))
-
-  some_from : (i n k : ℕ) (rest : List ℕ) → places_from test hay i n ≡ k ∷ rest → NoneBefore (Passes test hay) i (i + n) k × Passes test hay k
-  unfolding places_from
-  some_from i zero k rest is = absurd (not_nil _ _ (sym is))
-  some_from i (suc n) k rest is = ⊎_elim
-      (λ yes.
-      let same : i ≡ k = ap (λ l. get_or l 0 0) (sym (cond-true _ _ _ yes) ∙ is) in
-      (record { low = omega arith; high = omega arith; before = λ j lo hi. absurd (omega arith) }, ap (λ j. test (slice_index hay j)) (sym same) ∙ yes))
-      (λ no.
-      let found = some_from (i + 1) n k rest (sym (cond-false _ _ _ no) ∙ is) in
-      let low = found.0.low in
-      let high = found.0.high in (
-        record {
-          low = omega arith;
-          high = omega arith;
-          before = λ j lo hi passes. ⊎_elim
-              (λ (past : i < j). found.0.before j (omega arith) hi passes)
-              (λ (le : j ≤ i). let same : j ≡ i = omega arith in false≢true (sym no ∙ ap (λ m. test (slice_index hay m)) (sym same) ∙ passes))
-              (cases_lt i j);
-        },
-        found.1,
-      ))
-      (cases_Bool (test (slice_index hay i)))
-
-  all_of : places_from test hay 0 (length hay) ≡ places test hay
-  all_of = ap (places_from test hay 0) (omega arith)
-
-  pub first_place : (r : Option ℕ) (rest : List ℕ) → TakesFirst (places test hay) r rest → IsFirstByte test hay r
-  first_place None rest takes = λ k lo hi. none_from 0 (length hay) (all_of ∙ takes.0) k lo (omega arith)
-  first_place (Some k) rest takes =
-      let found = some_from 0 (length hay) k rest (all_of ∙ takes) in
-      let high = found.0.high in
-      (record { low = omega arith; high = omega arith; before = found.0.before }, found.1)
+pub byte-low : (byte : ℕ) → byte < 128 → (c : ℕ) → 128 ≤ c → (c == byte) ≡ false
+byte-low byte small c high = grind (arith, nat_tests)

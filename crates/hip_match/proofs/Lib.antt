@@ -6,6 +6,7 @@ pub mod PiecesLemmas
 pub mod OneCharLemmas
 pub mod SetLemmas
 pub mod AsciiSetLemmas
+pub mod TableLemmas
 pub mod TextLemmas
 mod AnswerLemmas
 pub mod CharTextLemmas
@@ -15,8 +16,9 @@ pub mod LawLemmas
 pub mod RightLawLemmas
 pub mod DecodeLemmas
 pub mod RunLemmas
+pub mod BitLemmas
 pub mod LaneLemmas
 pub mod MarkLemmas
-pub mod GapLemmas
+pub mod SpaceLemmas
 pub mod OrderLemmas
 pub mod PartedLemmas

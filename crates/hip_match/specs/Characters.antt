@@ -23,12 +23,6 @@ end_if belongs c = if scalar c.0 && belongs c.0 then Some c.1 else None
 abbrev pub char_ends : (ℕ → Bool) → List ℕ → ℕ → Option ℕ
 char_ends belongs text i = option_and_then (end_if belongs) (char_at text i)
 
--- a set of characters is these two of ASCII
-pub record IsAsciiPair (belongs : ℕ → Bool) (pair : ℕ × ℕ) : Type 0 where
-  pub one : pair.0 < 128
-  pub other : pair.1 < 128
-  pub is : (c : ℕ) → belongs c ≡ (c == pair.0 || c == pair.1)
-
 -- the character r.0 stands before `to`, from the boundary r.1 on
 pub record IsCharBefore (text : List ℕ) (to : ℕ) (r : ℕ × ℕ) : Type 0 where
   pub before : r.1 < to

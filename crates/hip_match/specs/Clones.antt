@@ -1,10 +1,8 @@
 -- What clones of patterns and of iterators keep.
 use Rattle.std.specs.Prelude.{◌≡◌, ℕ, Bool, Option, List, [], map, if◌then◌else◌}
 use Rattle.std.proofs.Common.{refl, sym, ◌∙◌}
-use Rattle.hip_match.specs.Leftmost.{leftmost_between}
-use Rattle.hip_match.specs.Rightmost.{rightmost_between}
 use Rattle.hip_match.specs.Pieces.{ended, gaps, gaps_back}
-use Rattle.hip_match.specs.Ready.{IsBackWindow, IsBetween, IsBetweenBack, IsFrontWindow}
+use Rattle.hip_match.specs.Ready.{IsBetween, IsBetweenBack}
 use Rattle.hip_match.specs.Runs.{line_of}
 
 -- the pattern q may be searched for where p may, and occurs where p does
@@ -28,30 +26,6 @@ abbrev pub KeepsRanges : {I : Type 0} → (I → Type 0) → (I → List ℕ) �
 KeepsRanges ready text rest i copy = Keeps (ready i) (ready copy) (text i) (text copy) (rest i) (rest copy)
 
 -- ---- what follows of the parts of an iterator
-
--- the leftmost matches that are left in a window
-pub front_kept : (can copy_can : Type 0) (t u : List ℕ) (e f : List ℕ → ℕ → Option ℕ) (i j k l : ℕ) (d b : Bool)
-    → (can → copy_can) → u ≡ t → f ≡ e → j ≡ i → l ≡ k → b ≡ d
-    → Keeps (IsFrontWindow can t (e t) i k) (IsFrontWindow copy_can u (f u) j l) t u
-    (if d then [] else leftmost_between (e t) i k) (if b then [] else leftmost_between (f u) j l)
-front_kept can copy_can t u e f i j k l d b move text ends from to done =
-    record {
-      ready = λ h. rw (text, ends, from, to) (record { searchable = move h.searchable; window = h.window; whole = h.whole });
-      text = text;
-      rest = rw (text, ends, from, to, done) refl;
-    }
-
--- the rightmost ones
-pub back_kept : (can copy_can : Type 0) (t u : List ℕ) (e f : List ℕ → ℕ → Option ℕ) (i j k l : ℕ) (d b : Bool)
-    → (can → copy_can) → u ≡ t → f ≡ e → j ≡ i → l ≡ k → b ≡ d
-    → Keeps (IsBackWindow can t (e t) i k) (IsBackWindow copy_can u (f u) j l) t u
-    (if d then [] else rightmost_between (e t) i k) (if b then [] else rightmost_between (f u) j l)
-back_kept can copy_can t u e f i j k l d b move text ends from to done =
-    record {
-      ready = λ h. rw (text, ends, from, to) (record { searchable = move h.searchable; window = h.window; whole = h.whole });
-      text = text;
-      rest = rw (text, ends, from, to, done) refl;
-    }
 
 -- the parts that a place, a list of matches and another place make, where what lies in order between the places stays so
 pub parts_kept : {A : Type 0} (Between : List ℕ → ℕ → List (ℕ × ℕ) → ℕ → Type 0)

@@ -12,6 +12,8 @@ pub mod Draw
 pub mod Joined
 pub mod Answers
 pub mod Marks
+pub mod AsciiSets
+pub mod Searchers
 pub mod Ready
 pub mod Clones
 pub mod Iterators

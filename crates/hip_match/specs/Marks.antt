@@ -1,51 +1,63 @@
--- Where ASCII white space stands in a block of 64 places of a text, as the bits of a number. Only private functions cite it.
-use Rattle.std.specs.Prelude.{◌≡◌, ℕ, ◌+◌, ◌*◌, ◌<◌, ◌≤◌, Bool, true, false, List, length, slice_index, if◌then◌else◌}
-use Rattle.std.specs.Char.{is_ascii_whitespace}
+-- Where the bytes of a text pass a test, as the bits of a number. Only private functions cite it.
+use Rattle.std.specs.Prelude.{◌≡◌, ℕ, ◌+◌, ◌-◌, ◌/◌, ◌%◌, ◌<◌, ◌≤◌, ◌==◌, ◌&&◌, nat_lt, nat_le, Bool, not, List, length, slice_index, bit_and, if◌then◌else◌}
 use Rattle.std.specs.Int.{bit_at}
-use Rattle.hip_match.specs.Characters.{char_ends}
-use Rattle.hip_match.specs.Leftmost.{leftmost_between}
-use Rattle.hip_match.specs.Pieces.{gaps}
+use Rattle.memchr.specs.Find.{Nowhere, Passes}
 
--- the byte at i is ASCII white space; none stands past the end
-abbrev pub is_space : List ℕ → ℕ → Bool
-is_space text i = is_ascii_whitespace (slice_index text i)
+-- ---- bits
 
--- no byte from i up to j is
-abbrev pub NoSpace : List ℕ → ℕ → ℕ → Type 0
-NoSpace text i j = (k : ℕ) → i ≤ k → k < j → is_space text k ≡ false
+pub record IsLowest (m r : ℕ) : Type 0 where
+  pub bound : r < 64
+  pub set : bit_at m r ≡ 1
+  pub below : (k : ℕ) → k < r → bit_at m k ≡ 0
 
--- bit k says so of the byte at `at + k`
-abbrev pub AreMarks : List ℕ → ℕ → ℕ → Type 0
-AreMarks text at marks = (k : ℕ) → k < 64 → bit_at marks k ≡ (if is_space text (at + k) then 1 else 0)
+pub record IsHighest (m r : ℕ) : Type 0 where
+  pub bound : r < 64
+  pub set : bit_at m r ≡ 1
+  pub above : (k : ℕ) → r < k → bit_at m k ≡ 0
 
--- the parts from `from` up to `to` between ASCII white space
-abbrev pub parts : List ℕ → ℕ → ℕ → List (ℕ × ℕ)
-parts text from to = gaps from (leftmost_between (char_ends is_ascii_whitespace text) from to) to
+-- ---- tests
 
--- the first white space at or after `from`
-pub record IsNextSpace (text : List ℕ) (from at : ℕ) : Type 0 where
-  pub after : from ≤ at
-  pub is : is_space text at ≡ true
-  pub first : NoSpace text from at
+-- the row of a byte, told by its low four bits, has the column of its high four
+abbrev pub has_nibbles : List ℕ → List ℕ → ℕ → Bool
+has_nibbles rows columns byte = not (bit_and (slice_index rows (bit_and byte 15)) (slice_index columns (byte / 16)) == 0)
 
--- the last white space before `to`
-pub record IsLastSpace (text : List ℕ) (to at : ℕ) : Type 0 where
-  pub before : at < to
-  pub is : is_space text at ≡ true
-  pub last : NoSpace text (at + 1) to
+-- a character of ASCII whose row, told by its low four bits, has the bit of its high three
+abbrev pub in_rows : List ℕ → ℕ → Bool
+in_rows rows c = nat_lt c 128 && bit_at (slice_index rows (c % 16)) (c / 16) == 1
 
--- the marks of the 64 places from `block` on, those before `from` taken, and nothing between `from` and the block
-pub record AreFrontMarks (text : List ℕ) (from block marks : ℕ) : Type 0 where
-  pub within : block ≤ length text
-  pub reached : from ≤ block + 64
-  pub between : NoSpace text from block
-  pub taken : (k : ℕ) → k < 64 → block + k < from → bit_at marks k ≡ 0
-  pub left : (k : ℕ) → k < 64 → from ≤ block + k → bit_at marks k ≡ (if is_space text (block + k) then 1 else 0)
+-- ---- marks
 
--- the marks of the 64 places behind the first `blocks` blocks, those from `to` on taken, and nothing between the block and `to`
-pub record AreBackMarks (text : List ℕ) (to blocks marks : ℕ) : Type 0 where
-  pub within : 64 * blocks < length text + 64
-  pub reached : NoSpace text to (64 * blocks)
-  pub between : NoSpace text (64 * blocks + 64) to
-  pub taken : (k : ℕ) → k < 64 → to ≤ 64 * blocks + k → bit_at marks k ≡ 0
-  pub left : (k : ℕ) → k < 64 → 64 * blocks + k < to → bit_at marks k ≡ (if is_space text (64 * blocks + k) then 1 else 0)
+-- bit k of the first sixteen says whether the byte at `at + k` passes
+abbrev pub AreLanes : (ℕ → Bool) → List ℕ → ℕ → ℕ → Type 0
+AreLanes test text at bits = (k : ℕ) → k < 16 → bit_at bits k ≡ (if test (slice_index text (at + k)) then 1 else 0)
+
+-- the same of 64
+abbrev pub AreBlock : (ℕ → Bool) → List ℕ → ℕ → ℕ → Type 0
+AreBlock test text at bits = (k : ℕ) → k < 64 → bit_at bits k ≡ (if test (slice_index text (at + k)) then 1 else 0)
+
+-- bit k says whether the byte at k passes, from one place up to another, and the others are not set
+abbrev pub AreFew : (ℕ → Bool) → List ℕ → ℕ → ℕ → ℕ → Type 0
+AreFew test text from to bits = (k : ℕ) → k < 64 → bit_at bits k ≡ (if nat_le from k && (nat_lt k to && test (slice_index text k)) then 1 else 0)
+
+-- bit k says whether the byte at `next + k - 64` passes, at `from` or behind it, and the others are not set
+abbrev pub AreBefore : (ℕ → Bool) → List ℕ → ℕ → ℕ → ℕ → Type 0
+AreBefore test text from next bits =
+    (k : ℕ) → k < 64 → bit_at bits k ≡ (if nat_le (from + 64) (next + k) && test (slice_index text (next + k - 64)) then 1 else 0)
+
+-- the marks that are left from `from` on of the 64 places before `next`, and nothing between `from` and these places
+pub record Ahead (test : ℕ → Bool) (text : List ℕ) (from next bits : ℕ) : Type 0 where
+  pub within : next ≤ length text
+  pub between : Nowhere (Passes test text) from (next - 64)
+  pub beyond : Nowhere (Passes test text) next from
+  pub left : AreBefore test text from next bits
+
+-- bit k says whether the byte at `start + k` passes, before `to`, and the others are not set
+abbrev pub AreUpTo : (ℕ → Bool) → List ℕ → ℕ → ℕ → ℕ → Type 0
+AreUpTo test text to start bits = (k : ℕ) → k < 64 → bit_at bits k ≡ (if nat_lt (start + k) to && test (slice_index text (start + k)) then 1 else 0)
+
+-- the marks that are left before `to` of the 64 places from `start` on, and nothing between these places and `to`
+pub record Behind (test : ℕ → Bool) (text : List ℕ) (to start bits : ℕ) : Type 0 where
+  pub within : start ≤ length text
+  pub between : Nowhere (Passes test text) (start + 64) to
+  pub beyond : Nowhere (Passes test text) to start
+  pub left : AreUpTo test text to start bits

@@ -23,6 +23,14 @@ pub record StartsFirst (ends : ℕ → Option ℕ) (from : ℕ) (m : ℕ × ℕ)
   pub occurs : ends m.0 ≡ Some m.1
   pub first : NoneStarts ends from m.0
 
+-- a walk goes on there behind the match m: at its end, or behind that where the match is empty
+abbrev pub GoesOnAt : ℕ × ℕ → ℕ → Type 0
+GoesOnAt m k = (m.1 ≤ k) × (m.0 < m.1 → k ≡ m.1)
+
+-- a walk from the end goes on there before the match m: at its start, or before that where the match is empty
+abbrev pub GoesOnBefore : ℕ × ℕ → ℕ → Type 0
+GoesOnBefore m k = (k ≤ m.0) × (m.0 < m.1 → k ≡ m.0)
+
 -- r is the occurrence that starts first at or after `from`
 abbrev pub IsNextMatch : (ℕ → Option ℕ) → ℕ → Option (ℕ × ℕ) → Type 0
 IsNextMatch ends from r = MatchOption r ((k : ℕ) → from ≤ k → ends k ≡ None) (StartsFirst ends from)

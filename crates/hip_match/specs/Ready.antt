@@ -1,5 +1,5 @@
 -- What an iterator keeps of its places in a text.
-use Rattle.std.specs.Prelude.{◌≡◌, ℕ, ◌<◌, ◌≤◌, Option, List, [], ◌∷◌, ◌++◌, MatchOption}
+use Rattle.std.specs.Prelude.{◌≡◌, ℕ, ◌<◌, ◌≤◌, Bool, false, Option, List, [], ◌∷◌, ◌++◌, MatchOption}
 use Rattle.std.specs.Str.{IsCharBoundary, IsUtf8}
 use Rattle.hip_match.specs.Occurrence.{NoneCrosses}
 use Rattle.hip_match.specs.Pieces.{InOrder, InOrderBack, ended}
@@ -10,6 +10,10 @@ pub record IsWindow (text : List ℕ) (from to : ℕ) : Type 0 where
   pub start : IsCharBoundary text from
   pub end : IsCharBoundary text to
   pub ordered : from ≤ to
+
+-- a walk that isn't done keeps a searcher that is ready at both of its ends
+abbrev pub IsGoing : Bool → Type 0 → Type 0 → Type 0
+IsGoing done front back = done ≡ false → front × back
 
 -- such a window, a pattern that can be searched for, and no occurrence that lies across the window's end
 pub record IsFrontWindow (can : Type 0) (text : List ℕ) (ends : ℕ → Option ℕ) (from to : ℕ) : Type 0 where

@@ -1,11 +1,8 @@
 //! The characters of a text, by position, and sets of characters.
-ghost use Rattle.std.specs.Prelude.{◌≡◌, ◌-◌, ◌<◌, ◌≤◌, ℕ, Bool, Some, IfSome, MatchOption, length, slice_index};
+ghost use Rattle.std.specs.Prelude.{◌≡◌, ◌-◌, ◌<◌, ◌≤◌, ℕ, Bool, Some, MatchOption, length, slice_index};
 ghost use Rattle.std.specs.Str.{IsCharBoundary};
-ghost use Rattle.memchr.specs.Find.{IsFirstByte, is_byte2};
 ghost use Rattle.hip_match.specs.Occurrence.{IsNextMatch, IsLastMatch, start_of};
-ghost use Rattle.hip_match.specs.Characters.{char_at, char_ends, IsAsciiPair, IsCharBefore};
-
-use memchr::memchr2_iter;
+ghost use Rattle.hip_match.specs.Characters.{char_at, char_ends, IsCharBefore};
 
 // The number of the character of two to four bytes that starts at `at`, and where it ends.
 #[inline]
@@ -135,41 +132,11 @@ pub(crate) trait CharSet {
     fn has(&self, c: char) -> bool
         requires { can_test self.now }
         ensures { result ≡ belongs self.now c };
-
-    /// The bytes of a set that is two characters of ASCII. It is looked for by them, since no other character has such a byte.
-    #[inline]
-    fn ascii_pair(&self) -> Option<(u8, u8)>
-        ensures { IfSome result (IsAsciiPair (belongs self.now)) }
-    {
-        None
-    }
 }
 
-// The first place of either byte, which is mostly near.
-#[inline]
-fn first_of_two(one: u8, other: u8, hay: &[u8]) -> Option<usize>
-    ensures { IsFirstByte (is_byte2 one other) hay.now result }
-{
-    memchr2_iter(one, other, hay).next()
-}
-
-// The first character at or after `from` that belongs.
+// The first character at or after `from` that belongs, a character at a time.
 #[inline]
 pub(crate) fn first_of<S: CharSet>(set: &S, text: &str, from: usize) -> Option<(usize, usize)>
-    requires can { S.can_test set.now }
-    requires boundary { IsCharBoundary text.now from }
-    ensures { IsNextMatch (char_ends (S.belongs set.now) text.now) from result }
-{
-    let Some((one, other)) = set.ascii_pair() else {
-        return first_char_of(set, text, from);
-    };
-    let at = from + first_of_two(one, other, &text.as_bytes()[from..])?;
-    Some((at, at + 1))
-}
-
-// The same, a character at a time.
-#[inline]
-fn first_char_of<S: CharSet>(set: &S, text: &str, from: usize) -> Option<(usize, usize)>
     requires can { S.can_test set.now }
     requires boundary { IsCharBoundary text.now from }
     ensures { IsNextMatch (char_ends (S.belongs set.now) text.now) from result }

@@ -24,25 +24,29 @@
 //! what holds of the places where characters and texts occur.
 #![tactic(auto)]
 
-mod ascii_space;
+pub mod ascii_set;
+mod bits;
 mod boundaries;
+pub mod byte_test;
 mod chars;
 pub mod chosen;
 pub mod draw;
 pub mod laws;
 pub mod lines;
+pub mod marks;
 pub mod matches;
 pub mod pattern;
 pub mod predicate;
 pub mod ranges;
 pub mod rmatches;
 pub mod rsplit;
-mod sets;
+pub mod sets;
 pub mod split;
 pub mod texts;
 pub mod trim;
 pub mod white_space;
 
+pub use ascii_set::AsciiSet;
 pub use chosen::Chosen;
 pub use draw::{End, draw_into};
 pub use lines::Lines;

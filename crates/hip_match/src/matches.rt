@@ -3,7 +3,7 @@ ghost use Rattle.std.specs.Prelude.{◌<◌, [], IfSome, length, if◌then◌els
 ghost use Rattle.hip_match.specs.Clones.{ClonesKeep};
 ghost use Rattle.hip_match.specs.Iterators.{Gives, GivesAlike, Takes};
 ghost use Rattle.hip_match.specs.Leftmost.{leftmost, leftmost_between};
-ghost use Rattle.hip_match.specs.Ready.{IsFrontWindow, IsBetween, TakesLast, TakesLastCut};
+ghost use Rattle.hip_match.specs.Ready.{IsFrontWindow, IsBetween, IsGoing, TakesLast, TakesLastCut};
 
 use crate::boundaries::boundary_after;
 use crate::pattern::{ClonePattern, OneChar, Pattern};
@@ -30,7 +30,7 @@ impl<'h, P: Pattern + Clone> Clone for Matches<'h, P> {
 
     fn clone(&self) -> Result<Self, AllocError> {
         let pattern = self.pattern.clone()?;
-        let searcher = pattern.searcher();
+        let searcher = pattern.searcher(self.text, self.from, self.to);
         Ok(Matches {
             text: self.text,
             pattern,
@@ -56,7 +56,7 @@ impl<'h, P: Pattern> Matches<'h, P> {
         ensures between { IsBetween text.now 0
             (leftmost (P.ends pattern text.now) (length text.now)) (length text.now) }
     {
-        let searcher = pattern.searcher();
+        let searcher = pattern.searcher(text, 0, text.len());
         Matches {
             text,
             pattern,
@@ -69,7 +69,7 @@ impl<'h, P: Pattern> Matches<'h, P> {
 }
 
 impl<'h, P: Pattern> Ranges for Matches<'h, P> {
-    ghost ready = { λ s. IsFrontWindow (P.can_search s.pattern × P.is_searcher s.pattern s.searcher) s.text.now (P.ends s.pattern s.text.now) s.from s.to };
+    ghost ready = { λ s. IsFrontWindow (P.can_search s.pattern × IsGoing s.done (P.is_ready s.pattern s.searcher s.text.now s.from) (P.is_ready_back s.pattern s.searcher s.text.now s.to)) s.text.now (P.ends s.pattern s.text.now) s.from s.to };
 
     ghost text = { λ s. s.text.now };
 
@@ -82,7 +82,7 @@ impl<'h, P: Pattern> Ranges for Matches<'h, P> {
         }
         match self
             .pattern
-            .next_match_by(&self.searcher, self.text, self.from)
+            .next_match_by(&mut self.searcher, self.text, self.from)
         {
             Some((start, end)) if end <= self.to => {
                 if start < end {
@@ -113,7 +113,10 @@ impl<'h, P: OneChar> Matches<'h, P> {
         if self.done {
             return None;
         }
-        match self.pattern.last_match(self.text, self.to) {
+        match self
+            .pattern
+            .last_match_by(&mut self.searcher, self.text, self.to)
+        {
             Some((start, end)) if self.from <= start => {
                 self.to = start;
                 Some((start, end))

@@ -1,15 +1,16 @@
 //! What can be looked for in a text.
-ghost use Rattle.std.specs.Prelude.{◌≡◌, ℕ, List, Option, Some};
+ghost use Rattle.std.specs.Prelude.{◌≡◌, ℕ, List, Option, Some, IfSome};
 ghost use Rattle.std.specs.Option.{is_some};
 ghost use Rattle.std.specs.Str.{IsUtf8, IsCharBoundary};
 ghost use Rattle.hip_match.specs.Clones.{ClonesKeep};
 ghost use Rattle.hip_match.specs.Occurrence.{IsNextMatch, IsLastMatch, IsCut, IsOneChar, start_of};
+ghost use Rattle.hip_match.specs.Occurrence.{GoesOnAt, GoesOnBefore};
 
 /// What can be looked for in a text from its front.
 ///
 /// A pattern occurs at most once from a given start. The positions are byte positions at character boundaries.
 pub trait Pattern: Drop {
-    /// What is prepared once for all searches of a walk.
+    /// What a walk keeps of the pattern from one match to the next.
     type Searcher: Drop;
 
     /// What a search asks of the pattern: nothing but for a [`CharPred`](crate::predicate::CharPred), whose closure has to be callable.
@@ -18,12 +19,16 @@ pub trait Pattern: Drop {
     /// The end of the occurrence that starts at a place of a text, if one does.
     ghost ends: { Self → List ℕ → ℕ → Option ℕ };
 
-    /// What was prepared of a pattern.
-    ghost is_searcher: { Self → Self.Searcher → Type 0 } = { λ _ _. Unit {0} };
+    /// The searcher finds what starts in a text at a place or behind it.
+    ghost is_ready: { Self → Self.Searcher → List ℕ → ℕ → Type 0 } = { λ _ _ _ _. Unit {0} };
 
-    /// Prepares a walk's searches.
-    fn searcher(&self) -> Self::Searcher
-        ensures { is_searcher self.now result };
+    /// The searcher finds what ends in a text at a place or before it.
+    ghost is_ready_back: { Self → Self.Searcher → List ℕ → ℕ → Type 0 } = { λ _ _ _ _. Unit {0} };
+
+    /// The searcher of a walk over what lies from `from` up to `to`.
+    fn searcher(&self, text: &str, from: usize, to: usize) -> Self::Searcher
+        ensures front { IsCharBoundary text.now from → is_ready self.now result text.now from }
+        ensures back { IsCharBoundary text.now to → is_ready_back self.now result text.now to };
 
     /// The occurrence that starts first at or after `from`, as its start and end.
     fn next_match(&self, text: &str, from: usize) -> Option<(usize, usize)>
@@ -31,17 +36,21 @@ pub trait Pattern: Drop {
         requires boundary { IsCharBoundary text.now from }
         ensures { IsNextMatch (ends self.now text.now) from result };
 
-    /// The same, by what was prepared.
+    /// Like `next_match`, but by a walk's searcher, which goes on behind the match.
     fn next_match_by(
         &self,
-        searcher: &Self::Searcher,
+        searcher: &mut Self::Searcher,
         text: &str,
         from: usize,
     ) -> Option<(usize, usize)>
         requires can { can_search self.now }
-        requires prepared { is_searcher self.now searcher.now }
+        requires ready { is_ready self.now searcher.old text.now from }
         requires boundary { IsCharBoundary text.now from }
-        ensures { IsNextMatch (ends self.now text.now) from result };
+        ensures found { IsNextMatch (ends self.now text.now) from result }
+        ensures front { IfSome result (λ m. (k : ℕ) → GoesOnAt m k
+            → is_ready self.now searcher.new text.now k) }
+        ensures back { (to : ℕ) → is_ready_back self.now searcher.old text.now to
+            → is_ready_back self.now searcher.new text.now to };
 
     /// The end of the occurrence that starts at `at`.
     fn match_at(&self, text: &str, at: usize) -> Option<usize>
@@ -55,9 +64,10 @@ pub trait Pattern: Drop {
 
 /// A pattern that can be looked for from a text's end too. It occurs at most once to a given end.
 pub trait ReversePattern: Pattern {
-    /// Prepares the searches of a walk from the end.
-    fn reverse_searcher(&self) -> Self::Searcher
-        ensures { Self.is_searcher self.now result };
+    /// Like `searcher`, but prepared for a walk that begins at the end.
+    fn reverse_searcher(&self, text: &str, from: usize, to: usize) -> Self::Searcher
+        ensures front { IsCharBoundary text.now from → Self.is_ready self.now result text.now from }
+        ensures back { IsCharBoundary text.now to → Self.is_ready_back self.now result text.now to };
 
     /// The occurrence that ends last at or before `to`, as its start and end.
     fn last_match(&self, text: &str, to: usize) -> Option<(usize, usize)>
@@ -65,17 +75,21 @@ pub trait ReversePattern: Pattern {
         requires boundary { IsCharBoundary text.now to }
         ensures { IsLastMatch (Self.ends self.now text.now) to result };
 
-    /// The same, by what was prepared.
+    /// Like `last_match`, but by a walk's searcher, which goes on before the match.
     fn last_match_by(
         &self,
-        searcher: &Self::Searcher,
+        searcher: &mut Self::Searcher,
         text: &str,
         to: usize,
     ) -> Option<(usize, usize)>
         requires can { Self.can_search self.now }
-        requires prepared { Self.is_searcher self.now searcher.now }
+        requires ready { Self.is_ready_back self.now searcher.old text.now to }
         requires boundary { IsCharBoundary text.now to }
-        ensures { IsLastMatch (Self.ends self.now text.now) to result };
+        ensures found { IsLastMatch (Self.ends self.now text.now) to result }
+        ensures back { IfSome result (λ m. (k : ℕ) → GoesOnBefore m k
+            → Self.is_ready_back self.now searcher.new text.now k) }
+        ensures front { (from : ℕ) → Self.is_ready self.now searcher.old text.now from
+            → Self.is_ready self.now searcher.new text.now from };
 
     /// The start of the occurrence that ends at `to`.
     fn match_before(&self, text: &str, to: usize) -> Option<usize>

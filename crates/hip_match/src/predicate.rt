@@ -75,7 +75,7 @@ impl<F: Fn(char) -> bool> Pattern for CharPred<F> {
     ghost ends = { λ p. char_ends (λ c. answer_at p.chosen.answers c) };
 
     #[inline]
-    fn searcher(&self) {}
+    fn searcher(&self, _text: &str, _from: usize, _to: usize) {}
 
     #[inline]
     fn next_match(&self, text: &str, from: usize) -> Option<(usize, usize)> {
@@ -83,7 +83,7 @@ impl<F: Fn(char) -> bool> Pattern for CharPred<F> {
     }
 
     #[inline]
-    fn next_match_by(&self, _searcher: &(), text: &str, from: usize) -> Option<(usize, usize)> {
+    fn next_match_by(&self, _searcher: &mut (), text: &str, from: usize) -> Option<(usize, usize)> {
         first_of(self, text, from)
     }
 
@@ -97,7 +97,7 @@ impl<F: Fn(char) -> bool> Pattern for CharPred<F> {
 
 impl<F: Fn(char) -> bool> ReversePattern for CharPred<F> {
     #[inline]
-    fn reverse_searcher(&self) {}
+    fn reverse_searcher(&self, _text: &str, _from: usize, _to: usize) {}
 
     #[inline]
     fn last_match(&self, text: &str, to: usize) -> Option<(usize, usize)> {
@@ -105,7 +105,7 @@ impl<F: Fn(char) -> bool> ReversePattern for CharPred<F> {
     }
 
     #[inline]
-    fn last_match_by(&self, _searcher: &(), text: &str, to: usize) -> Option<(usize, usize)> {
+    fn last_match_by(&self, _searcher: &mut (), text: &str, to: usize) -> Option<(usize, usize)> {
         last_of(self, text, to)
     }
 

@@ -3,7 +3,7 @@ ghost use Rattle.std.specs.Prelude.{[], length, if◌then◌else◌};
 ghost use Rattle.hip_match.specs.Clones.{ClonesKeep};
 ghost use Rattle.hip_match.specs.Iterators.{Gives, GivesAlike};
 ghost use Rattle.hip_match.specs.Rightmost.{rightmost, rightmost_between};
-ghost use Rattle.hip_match.specs.Ready.{IsBackWindow, IsBetweenBack};
+ghost use Rattle.hip_match.specs.Ready.{IsBackWindow, IsBetweenBack, IsGoing};
 
 use crate::boundaries::boundary_before;
 use crate::pattern::{ClonePattern, OneChar, ReversePattern};
@@ -30,7 +30,7 @@ impl<'h, P: ReversePattern + Clone> Clone for RMatches<'h, P> {
 
     fn clone(&self) -> Result<Self, AllocError> {
         let pattern = self.pattern.clone()?;
-        let searcher = pattern.reverse_searcher();
+        let searcher = pattern.reverse_searcher(self.text, self.from, self.to);
         Ok(RMatches {
             text: self.text,
             pattern,
@@ -56,7 +56,7 @@ impl<'h, P: ReversePattern> RMatches<'h, P> {
         ensures between { IsBetweenBack text.now 0
             (rightmost (P.ends pattern text.now) (length text.now)) (length text.now) }
     {
-        let searcher = pattern.reverse_searcher();
+        let searcher = pattern.reverse_searcher(text, 0, text.len());
         RMatches {
             text,
             pattern,
@@ -69,7 +69,7 @@ impl<'h, P: ReversePattern> RMatches<'h, P> {
 }
 
 impl<'h, P: ReversePattern> Ranges for RMatches<'h, P> {
-    ghost ready = { λ s. IsBackWindow (P.can_search s.pattern × P.is_searcher s.pattern s.searcher) s.text.now (P.ends s.pattern s.text.now) s.from s.to };
+    ghost ready = { λ s. IsBackWindow (P.can_search s.pattern × IsGoing s.done (P.is_ready s.pattern s.searcher s.text.now s.from) (P.is_ready_back s.pattern s.searcher s.text.now s.to)) s.text.now (P.ends s.pattern s.text.now) s.from s.to };
 
     ghost text = { λ s. s.text.now };
 
@@ -82,7 +82,7 @@ impl<'h, P: ReversePattern> Ranges for RMatches<'h, P> {
         }
         match self
             .pattern
-            .last_match_by(&self.searcher, self.text, self.to)
+            .last_match_by(&mut self.searcher, self.text, self.to)
         {
             Some((start, end)) if self.from <= start => {
                 if start < end {
@@ -108,7 +108,10 @@ impl<'h, P: OneChar> RangesBack for RMatches<'h, P> {
         if self.done {
             return None;
         }
-        match self.pattern.next_match(self.text, self.from) {
+        match self
+            .pattern
+            .next_match_by(&mut self.searcher, self.text, self.from)
+        {
             Some((start, end)) if end <= self.to => {
                 self.from = end;
                 Some((start, end))

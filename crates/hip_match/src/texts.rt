@@ -326,10 +326,12 @@ impl<'p> Pattern for &'p str {
 
     ghost ends = { λ p. text_ends p.now };
 
-    ghost is_searcher = { λ p s. IfSome s.finder (λ f. f.finder ≡ p.now) × IfSome s.reverse_finder (λ f. f.finder ≡ p.now) };
+    ghost is_ready = { λ p s _ _. IfSome s.finder (λ f. f.finder ≡ p.now) };
+
+    ghost is_ready_back = { λ p s _ _. IfSome s.reverse_finder (λ f. f.finder ≡ p.now) };
 
     #[inline]
-    fn searcher(&self) -> TextSearcher<'p> {
+    fn searcher(&self, _text: &str, _from: usize, _to: usize) -> TextSearcher<'p> {
         TextSearcher {
             finder: finder_of(*self),
             reverse_finder: None,
@@ -344,7 +346,7 @@ impl<'p> Pattern for &'p str {
     #[inline(always)]
     fn next_match_by(
         &self,
-        searcher: &TextSearcher<'p>,
+        searcher: &mut TextSearcher<'p>,
         text: &str,
         from: usize,
     ) -> Option<(usize, usize)> {
@@ -367,7 +369,7 @@ impl<'p> ClonePattern for &'p str {
 
 impl<'p> ReversePattern for &'p str {
     #[inline]
-    fn reverse_searcher(&self) -> TextSearcher<'p> {
+    fn reverse_searcher(&self, _text: &str, _from: usize, _to: usize) -> TextSearcher<'p> {
         TextSearcher {
             finder: None,
             reverse_finder: reverse_finder_of(*self),
@@ -382,7 +384,7 @@ impl<'p> ReversePattern for &'p str {
     #[inline]
     fn last_match_by(
         &self,
-        searcher: &TextSearcher<'p>,
+        searcher: &mut TextSearcher<'p>,
         text: &str,
         to: usize,
     ) -> Option<(usize, usize)> {
@@ -402,10 +404,12 @@ impl<'p, 'q> Pattern for &'q &'p str {
 
     ghost ends = { λ p. text_ends p.now.now };
 
-    ghost is_searcher = { λ p s. IfSome s.finder (λ f. f.finder ≡ p.now.now) × IfSome s.reverse_finder (λ f. f.finder ≡ p.now.now) };
+    ghost is_ready = { λ p s _ _. IfSome s.finder (λ f. f.finder ≡ p.now.now) };
+
+    ghost is_ready_back = { λ p s _ _. IfSome s.reverse_finder (λ f. f.finder ≡ p.now.now) };
 
     #[inline]
-    fn searcher(&self) -> TextSearcher<'p> {
+    fn searcher(&self, _text: &str, _from: usize, _to: usize) -> TextSearcher<'p> {
         TextSearcher {
             finder: finder_of(**self),
             reverse_finder: None,
@@ -420,7 +424,7 @@ impl<'p, 'q> Pattern for &'q &'p str {
     #[inline(always)]
     fn next_match_by(
         &self,
-        searcher: &TextSearcher<'p>,
+        searcher: &mut TextSearcher<'p>,
         text: &str,
         from: usize,
     ) -> Option<(usize, usize)> {
@@ -443,7 +447,7 @@ impl<'p, 'q> ClonePattern for &'q &'p str {
 
 impl<'p, 'q> ReversePattern for &'q &'p str {
     #[inline]
-    fn reverse_searcher(&self) -> TextSearcher<'p> {
+    fn reverse_searcher(&self, _text: &str, _from: usize, _to: usize) -> TextSearcher<'p> {
         TextSearcher {
             finder: None,
             reverse_finder: reverse_finder_of(**self),
@@ -458,7 +462,7 @@ impl<'p, 'q> ReversePattern for &'q &'p str {
     #[inline]
     fn last_match_by(
         &self,
-        searcher: &TextSearcher<'p>,
+        searcher: &mut TextSearcher<'p>,
         text: &str,
         to: usize,
     ) -> Option<(usize, usize)> {
@@ -478,10 +482,12 @@ impl<'p> Pattern for &'p String {
 
     ghost ends = { λ p. text_ends (string_bytes p.now) };
 
-    ghost is_searcher = { λ p s. IfSome s.finder (λ f. f.finder ≡ string_bytes p.now) × IfSome s.reverse_finder (λ f. f.finder ≡ string_bytes p.now) };
+    ghost is_ready = { λ p s _ _. IfSome s.finder (λ f. f.finder ≡ string_bytes p.now) };
+
+    ghost is_ready_back = { λ p s _ _. IfSome s.reverse_finder (λ f. f.finder ≡ string_bytes p.now) };
 
     #[inline]
-    fn searcher(&self) -> TextSearcher<'p> {
+    fn searcher(&self, _text: &str, _from: usize, _to: usize) -> TextSearcher<'p> {
         TextSearcher {
             finder: finder_of(self.as_str()),
             reverse_finder: None,
@@ -496,7 +502,7 @@ impl<'p> Pattern for &'p String {
     #[inline(always)]
     fn next_match_by(
         &self,
-        searcher: &TextSearcher<'p>,
+        searcher: &mut TextSearcher<'p>,
         text: &str,
         from: usize,
     ) -> Option<(usize, usize)> {
@@ -519,7 +525,7 @@ impl<'p> ClonePattern for &'p String {
 
 impl<'p> ReversePattern for &'p String {
     #[inline]
-    fn reverse_searcher(&self) -> TextSearcher<'p> {
+    fn reverse_searcher(&self, _text: &str, _from: usize, _to: usize) -> TextSearcher<'p> {
         TextSearcher {
             finder: None,
             reverse_finder: reverse_finder_of(self.as_str()),
@@ -534,7 +540,7 @@ impl<'p> ReversePattern for &'p String {
     #[inline]
     fn last_match_by(
         &self,
-        searcher: &TextSearcher<'p>,
+        searcher: &mut TextSearcher<'p>,
         text: &str,
         to: usize,
     ) -> Option<(usize, usize)> {

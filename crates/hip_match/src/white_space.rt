@@ -1,15 +1,19 @@
 //! The runs of a text between white space.
 ghost use Rattle.std.specs.Prelude.{◌≡◌};
-ghost use Rattle.std.proofs.Common.{refl};
+ghost use Rattle.std.proofs.Common.{ap, refl};
 ghost use Rattle.std.specs.Char.{is_whitespace};
+ghost use Rattle.hip_match.specs.AsciiSets.{in_set};
 ghost use Rattle.hip_match.specs.Characters.{char_ends};
 ghost use Rattle.hip_match.specs.CharLaws.{char_ends-spans, char_ends-one_start, char_ends-one_char};
 ghost use Rattle.hip_match.specs.Clones.{gaps_kept, made_kept};
 ghost use Rattle.hip_match.specs.Iterators.{Gives};
-ghost use Rattle.hip_match.specs.Runs.{nonempty, split_whitespace};
+ghost use Rattle.hip_match.specs.Marks.{Ahead, Behind};
+ghost use Rattle.hip_match.specs.Runs.{nonempty, split_ascii_whitespace, split_whitespace};
 
-pub use crate::ascii_space::SplitAsciiWhitespace;
+use crate::ascii_set::AsciiSet;
+use crate::byte_test::{ByteTest, SpaceLeads};
 use crate::chars::{CharSet, end_of, first_of, last_of, start_before};
+use crate::marks::Marks;
 use crate::pattern::{ClonePattern, DoubleEndedPattern, OneChar, Pattern, ReversePattern};
 use crate::ranges::{CloneRanges, Ranges, RangesBack};
 use crate::split::Split;
@@ -33,21 +37,40 @@ impl CharSet for WhiteSpace {
 }
 
 impl Pattern for WhiteSpace {
-    type Searcher = ();
+    type Searcher = Marks<SpaceLeads>;
 
     ghost ends = { λ _. char_ends is_whitespace };
 
+    ghost is_ready = { λ _ m text from. Ahead (⟦<SpaceLeads as ByteTest>⟧.passes m.test) text from m.front.next m.front.bits };
+
+    ghost is_ready_back = { λ _ m text to. Behind (⟦<SpaceLeads as ByteTest>⟧.passes m.test) text to m.back.start m.back.bits };
+
     #[inline]
-    fn searcher(&self) {}
+    fn searcher(&self, _text: &str, from: usize, to: usize) -> Marks<SpaceLeads> {
+        Marks::new(SpaceLeads, from, to)
+    }
 
     #[inline]
     fn next_match(&self, text: &str, from: usize) -> Option<(usize, usize)> {
         first_of(self, text, from)
     }
 
-    #[inline]
-    fn next_match_by(&self, _searcher: &(), text: &str, from: usize) -> Option<(usize, usize)> {
-        first_of(self, text, from)
+    #[inline(always)]
+    fn next_match_by(
+        &self,
+        searcher: &mut Marks<SpaceLeads>,
+        text: &str,
+        from: usize,
+    ) -> Option<(usize, usize)> {
+        let bytes = text.as_bytes();
+        let mut past = from;
+        while let Some(at) = searcher.next(bytes, past) {
+            if let Some(end) = end_of(self, text, at) {
+                return Some((at, end));
+            }
+            past = at + 1;
+        }
+        None
     }
 
     #[inline]
@@ -66,16 +89,31 @@ impl ClonePattern for WhiteSpace {
 
 impl ReversePattern for WhiteSpace {
     #[inline]
-    fn reverse_searcher(&self) {}
+    fn reverse_searcher(&self, _text: &str, from: usize, to: usize) -> Marks<SpaceLeads> {
+        Marks::new(SpaceLeads, from, to)
+    }
 
     #[inline]
     fn last_match(&self, text: &str, to: usize) -> Option<(usize, usize)> {
         last_of(self, text, to)
     }
 
-    #[inline]
-    fn last_match_by(&self, _searcher: &(), text: &str, to: usize) -> Option<(usize, usize)> {
-        last_of(self, text, to)
+    #[inline(always)]
+    fn last_match_by(
+        &self,
+        searcher: &mut Marks<SpaceLeads>,
+        text: &str,
+        to: usize,
+    ) -> Option<(usize, usize)> {
+        let bytes = text.as_bytes();
+        let mut past = to;
+        while let Some(at) = searcher.last(bytes, past) {
+            if let Some(end) = end_of(self, text, at) {
+                return Some((at, end));
+            }
+            past = at;
+        }
+        None
     }
 
     #[inline]
@@ -184,6 +222,53 @@ impl<'h> CloneRanges for SplitWhitespace<'h> {
 }
 
 impl<'h> RangesBack for SplitWhitespace<'h> {
+    #[inline]
+    fn next_back(&mut self) -> Option<(usize, usize)> {
+        self.runs.next_back()
+    }
+}
+
+/// The longest runs of a text without ASCII white space, to which U+000B doesn't belong.
+#[derive(Clone, Drop)]
+pub struct SplitAsciiWhitespace<'h> {
+    runs: Runs<Split<'h, AsciiSet>>,
+}
+
+impl<'h> SplitAsciiWhitespace<'h> {
+    /// The runs of `text` between ASCII white space.
+    #[inline]
+    pub fn new(text: &'h str) -> Self
+        ensures ranges { Gives ⟦<SplitAsciiWhitespace<'h> as Ranges>⟧ result text.now
+            (split_ascii_whitespace text.now) }
+    {
+        SplitAsciiWhitespace {
+            runs: Runs {
+                ranges: Split::new(text, AsciiSet::whitespace()),
+            },
+        }
+    }
+}
+
+impl<'h> Ranges for SplitAsciiWhitespace<'h> {
+    ghost ready = { λ s. ⟦<Runs<Split<'h, AsciiSet>> as Ranges>⟧.ready s.runs };
+
+    ghost text = { λ s. s.runs.ranges.matches.text.now };
+
+    ghost rest = { λ s. ⟦<Runs<Split<'h, AsciiSet>> as Ranges>⟧.rest s.runs };
+
+    #[inline]
+    fn next(&mut self) -> Option<(usize, usize)> {
+        self.runs.next()
+    }
+}
+
+impl<'h> CloneRanges for SplitAsciiWhitespace<'h> {
+    ghost clone_keeps = { λ _ _ is. made_kept {f = nonempty} refl
+        (gaps_kept (is.0 (λ _ _ same. record { searchable = λ h. h; occurs = ap (λ s. char_ends (in_set s)) same }))
+        is.1.0 is.1.1.0 is.1.1.1) };
+}
+
+impl<'h> RangesBack for SplitAsciiWhitespace<'h> {
     #[inline]
     fn next_back(&mut self) -> Option<(usize, usize)> {
         self.runs.next_back()

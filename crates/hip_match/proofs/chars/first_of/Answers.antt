@@ -1,14 +1,29 @@
-use Rattle.std.specs.Prelude.{None, Some}
-use Rattle.hip_match.proofs.TextLemmas.{rest_slice}
-use Rattle.hip_match.proofs.AsciiSetLemmas.{first_of_pair}
+use Rattle.std.proofs.Common.{slice_index, ap, sym, ◌∙◌, arith}
+use Rattle.hip_match.specs.CharLaws.{char_at-end, char_at-ascii}
+use Rattle.hip_match.proofs.SetLemmas.{ends_here, first_step, first_done, moved}
 use Rattle.hip_match.proofs.chars.first_of.Goals as goal
 
-pub returns-in_err-at : goal.returns-in_err-at
-returns-in_err-at g c =
-    let found = rw (c.as_bytes.ensures.value, rest_slice) at c.in_err-at.ensures in
-    rw c.from_residual.ensures (first_of_pair _ _ c.in-Some.ensures c.args.text.now c.args.from None c.utf8.text c.requires.boundary.0 found)
+pub returns-then-has : goal.returns-then-has
+returns-then-has g c =
+    let same = c.as_bytes-bytes.ensures.value in
+    let here = char_at-ascii c.args.text.now c.loop-at.at c.utf8.text c.loop-at.invariant.0 (omega (arith, c.as_bytes-bytes.ensures.len)) (omega (arith, ap (λ l. slice_index l c.loop-at.at) same)) in
+    record { after = c.loop-at.invariant.1; occurs = ends_here _ c.args.text.now c.utf8.text _ _ _ here (rw same at (sym c.has.ensures ∙ c.if-has.true)); first = c.loop-at.invariant.2 }
+
+pub loop-at-preserved-then-first-lt128 : goal.loop-at-preserved-then-first-lt128
+loop-at-preserved-then-first-lt128 g c =
+    let same = c.as_bytes-bytes.ensures.value in
+    let here = char_at-ascii c.args.text.now c.loop-at.at c.utf8.text c.loop-at.invariant.0 (omega (arith, c.as_bytes-bytes.ensures.len)) (omega (arith, ap (λ l. slice_index l c.loop-at.at) same)) in
+    ((moved c.args.text.now _ _ _ c.utf8.text here).1, omega (arith, c.loop-at.invariant.1), first_step _ c.args.text.now c.utf8.text _ _ _ _ here (rw same at (sym c.has.ensures ∙ c.if-has.false)) c.loop-at.invariant.2)
+
+pub loop-at-smaller : goal.loop-at-smaller
+loop-at-smaller g c =
+    let found = moved c.args.text.now _ _ _ c.utf8.text c.wide_char_from-c.ensures in
+    omega (arith, found.0, found.1.0)
+
+pub loop-at-preserved : goal.loop-at-preserved
+loop-at-preserved g c =
+    let found = moved c.args.text.now _ _ _ c.utf8.text c.wide_char_from-c.ensures in
+    (found.1, omega (arith, found.0, c.loop-at.invariant.1), first_step _ c.args.text.now c.utf8.text _ _ _ _ c.wide_char_from-c.ensures (sym c.has-in-loop-at.ensures ∙ c.if-has-2.false) c.loop-at.invariant.2)
 
 pub returns : goal.returns
-returns g c =
-    let found = rw (c.as_bytes.ensures.value, rest_slice) at c.in_ok-at.ensures in
-    first_of_pair _ _ c.in-Some.ensures c.args.text.now c.args.from (Some c.in_ok-at.field-0) c.utf8.text c.requires.boundary.0 found
+returns g c = first_done _ c.args.text.now c.utf8.text _ _ c.loop-at.invariant.0 (char_at-end c.args.text.now _ (omega (arith, c.as_bytes-bytes.ensures.len, c.loop-at-test.false))) c.loop-at.invariant.2

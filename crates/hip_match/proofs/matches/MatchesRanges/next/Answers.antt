@@ -7,18 +7,24 @@ use Rattle.hip_match.proofs.matches.MatchesRanges.next.Goals.{in_default-via-in-
 pub returns-then-start-end-clause-first : goal.returns-then-start-end-clause-first
 returns-then-start-end-clause-first g c =
     let lt = c.if-start-end.true in
-    rw c.if-self.false (leftmost_between-some _ _ _ _ _ _ c.in-Some.ensures c.if-end-self.true lt (omega arith) (omega arith) (omega arith) (λ k lo mid hi. absurd (omega arith)))
+    rw c.if-self.false (leftmost_between-some _ _ _ _ _ _ c.in-Some.ensures.found c.if-end-self.true lt (omega arith) (omega arith) (omega arith) (λ k lo mid hi. absurd (omega arith)))
 
 pub returns-then-start-end-clause-cut : goal.returns-then-start-end-clause-cut
-returns-then-start-end-clause-cut g c = g.met.P.Pattern.spans _ _ _ _ c.requires.window.utf8 c.in-Some.ensures.occurs
+returns-then-start-end-clause-cut g c = g.met.P.Pattern.spans _ _ _ _ c.requires.window.utf8 c.in-Some.ensures.found.occurs
 
 pub returns-then-start-end-clause-ready : goal.returns-then-start-end-clause-ready
 returns-then-start-end-clause-ready g c =
     record {
-      searchable = c.requires.searchable;
+      searchable = (
+        c.requires.searchable.0,
+        λ going. (
+          c.in-Some.ensures.front _ (omega arith, λ some. refl),
+          c.in-Some.ensures.back _ (c.requires.searchable.1 c.if-self.false).1,
+        ),
+      );
       window = record {
         utf8 = c.requires.window.utf8;
-        start = (g.met.P.Pattern.spans _ _ _ _ c.requires.window.utf8 c.in-Some.ensures.occurs).end;
+        start = (g.met.P.Pattern.spans _ _ _ _ c.requires.window.utf8 c.in-Some.ensures.found.occurs).end;
         end = c.requires.window.end;
         ordered = c.if-end-self.true;
       };
@@ -28,26 +34,26 @@ returns-then-start-end-clause-ready g c =
 pub returns-then-end-self-2-clause-first : goal.returns-then-end-self-2-clause-first
 returns-then-end-self-2-clause-first g c =
     let spans = λ (a b : ℕ). g.met.P.Pattern.spans c.args.self.now.pattern c.args.self.now.text.now a b c.requires.window.utf8 in
-    let here = spans _ _ c.in-Some.ensures.occurs in
+    let here = spans _ _ c.in-Some.ensures.found.occurs in
     let next = c.boundary_after-self.ensures in
     let past = next.after in
-    rw c.if-self.false (leftmost_between-some _ _ _ _ _ _ c.in-Some.ensures c.if-end-self.true (omega (arith, here.ordered)) (omega arith) (not_past _ _ _ _ next c.if-end-self-2.true c.requires.window.end) (here.ordered)
+    rw c.if-self.false (leftmost_between-some _ _ _ _ _ _ c.in-Some.ensures.found c.if-end-self.true (omega (arith, here.ordered)) (omega arith) (not_past _ _ _ _ next c.if-end-self-2.true c.requires.window.end) (here.ordered)
     (λ k lo mid hi. none_off_boundary _ _ spans k (next.none k (omega (arith, here.ordered)) hi)))
 
 pub returns-then-end-self-2-clause-cut : goal.returns-then-end-self-2-clause-cut
-returns-then-end-self-2-clause-cut g c = g.met.P.Pattern.spans _ _ _ _ c.requires.window.utf8 c.in-Some.ensures.occurs
+returns-then-end-self-2-clause-cut g c = g.met.P.Pattern.spans _ _ _ _ c.requires.window.utf8 c.in-Some.ensures.found.occurs
 
 pub returns-else-end-self-2-clause-first : goal.returns-else-end-self-2-clause-first
 returns-else-end-self-2-clause-first g c =
-    let here = g.met.P.Pattern.spans _ _ _ _ c.requires.window.utf8 c.in-Some.ensures.occurs in
-    rw c.if-self.false (leftmost_between-last _ _ _ _ _ c.in-Some.ensures c.if-end-self.true (omega (arith, here.ordered)) (omega arith))
+    let here = g.met.P.Pattern.spans _ _ _ _ c.requires.window.utf8 c.in-Some.ensures.found.occurs in
+    rw c.if-self.false (leftmost_between-last _ _ _ _ _ c.in-Some.ensures.found c.if-end-self.true (omega (arith, here.ordered)) (omega arith))
 
 pub returns-else-end-self-2-clause-cut : goal.returns-else-end-self-2-clause-cut
-returns-else-end-self-2-clause-cut g c = g.met.P.Pattern.spans _ _ _ _ c.requires.window.utf8 c.in-Some.ensures.occurs
+returns-else-end-self-2-clause-cut g c = g.met.P.Pattern.spans _ _ _ _ c.requires.window.utf8 c.in-Some.ensures.found.occurs
 
 pub returns-in_default-clause-first : goal.returns-in_default-clause-first
 returns-in_default-clause-first g c =
     elim c.in_default.branch [
-      | in_default-via-in-Some+else-end-self w ↦ (rw c.if-self.false (leftmost_between-past _ _ _ _ _ w.in-Some.ensures w.if-end-self.false c.requires.whole (λ k m is. (g.met.P.Pattern.spans _ _ _ _ c.requires.window.utf8 is).ordered)), refl)
-      | in_default-via-in_default w ↦ (rw c.if-self.false (leftmost_between-none _ _ _ w.in_default.ensures), refl)
+      | in_default-via-in-Some+else-end-self w ↦ (rw c.if-self.false (leftmost_between-past _ _ _ _ _ w.in-Some.ensures.found w.if-end-self.false c.requires.whole (λ k m is. (g.met.P.Pattern.spans _ _ _ _ c.requires.window.utf8 is).ordered)), refl)
+      | in_default-via-in_default w ↦ (rw c.if-self.false (leftmost_between-none _ _ _ w.in_default.ensures.found), refl)
     ]

@@ -7,7 +7,7 @@ pub returns-clause-ranges : goal.returns-clause-ranges
 returns-clause-ranges g c =
     record {
       ready = record {
-        searchable = (c.requires, c.reverse_searcher-searcher.ensures);
+        searchable = (c.requires, λ going. (c.reverse_searcher-searcher.ensures.front (IsCharBoundary-start _ c.utf8.text), c.reverse_searcher-searcher.ensures.back (IsCharBoundary-end _)));
         window = record {
           utf8 = c.utf8.text;
           start = IsCharBoundary-start _ c.utf8.text;

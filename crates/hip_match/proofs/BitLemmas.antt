@@ -1,0 +1,150 @@
+-- The lowest and the highest bit of a number.
+use Rattle.std.proofs.Common.{◌≡◌, ◌≢◌, ◌∙◌, ℕ, zero, suc, ◌+◌, ◌-◌, ◌*◌, ◌/◌, ◌%◌, ◌^◌, ◌<◌, ◌≤◌, Bool, true, false, cond, bit_and, ap, sym, refl, arith, ⊎_elim, shr-shr}
+use Rattle.std.proofs.Math.Nat.{add-mul, mod-eq_of_lt, mul-le-mul_right, two-pow-succ}
+use Rattle.std.proofs.lemmas.Nat.{div-add-mod', pow-add, pow_pos}
+use Rattle.std.proofs.lemmas.Bool.{cases_lt}
+use Rattle.std.proofs.lemmas.Nat.Bits.{bit_at_lowest, bit_at-suc, bit_at-zero, bit_at_above, bit_at_and, bit_at_cat_high, bit_at_cat_low, bit_at-lt, bit_at_ones, bit_at_ones_above, bit_at_xor, bit_at-pow_same, bit_at-pow_other}
+use Rattle.std.proofs.Math.Pow.{pow-lt}
+use Rattle.std.specs.Int.{bit_at}
+use Rattle.std.specs.Int.Bits.{bit_xor}
+use Rattle.hip_match.specs.Marks.{IsHighest, IsLowest}
+
+pub set : (b : Bool) (n : ℕ) → n ≡ cond b 1 0 → n ≡ 1 → b ≡ true
+set true n is one = refl
+set false n is one = absurd (omega arith)
+
+pub unset : (b : Bool) (n : ℕ) → n ≡ cond b 1 0 → n ≡ 0 → b ≡ false
+unset true n is none = absurd (omega arith)
+unset false n is none = refl
+
+pub some : (m r : ℕ) → bit_at m r ≡ 1 → 0 < m
+some m r one = ⊎_elim (λ (lt : 0 < m). lt) (λ (ge : m ≤ 0). let none : m ≡ 0 = omega arith in absurd (omega (arith, one, ap (λ x. bit_at x r) none, bit_at-zero r))) (cases_lt 0 m)
+
+-- ---- one less
+
+odd : (m k : ℕ) → m % 2 ≡ 1 → 0 < k → bit_at (m - 1) k ≡ bit_at m k
+odd m zero is above = absurd (omega arith)
+odd m (suc k) is above = bit_at-suc (m - 1) k ∙ ap (λ x. bit_at x k) (omega arith) ∙ sym (bit_at-suc m k)
+
+even : (m k : ℕ) → m % 2 ≡ 0 → 0 < m → bit_at (m - 1) (suc k) ≡ bit_at (m / 2 - 1) k
+even m k is more = bit_at-suc (m - 1) k ∙ ap (λ x. bit_at x k) (omega arith)
+
+less_one : (r m : ℕ) → bit_at m r ≡ 1 → ((k : ℕ) → k < r → bit_at m k ≡ 0)
+    → (bit_at (m - 1) r ≡ 0) × ((k : ℕ) → r < k → bit_at (m - 1) k ≡ bit_at m k)
+less_one zero m one below =
+    let is : m % 2 ≡ 1 = sym (bit_at_lowest m) ∙ one in
+    (bit_at_lowest (m - 1) ∙ omega arith, λ k above. odd m k is above)
+less_one (suc r) m one below =
+    let is : m % 2 ≡ 0 = sym (bit_at_lowest m) ∙ below 0 (omega arith) in
+    let more = some m (suc r) one in
+    let half = less_one r (m / 2) (sym (bit_at-suc m r) ∙ one) (λ k low. sym (bit_at-suc m k) ∙ below (suc k) (omega arith)) in (
+      even m r is more ∙ half.0,
+      λ k above.
+          let j = k - 1 in
+          let next : k ≡ suc j = omega arith in
+          ap (bit_at (m - 1)) next ∙ even m j is more ∙ half.1 j (omega arith) ∙ sym (bit_at-suc m j) ∙ ap (bit_at m) (sym next),
+    )
+
+abbrev pub cut_low : ℕ → ℕ
+cut_low m = bit_and m ((m + 18446744073709551615) % 18446744073709551616)
+
+cut_is : (m : ℕ) → 0 < m → m < 2 ^ 64 → cut_low m ≡ bit_and m (m - 1)
+cut_is m more fits = ap (bit_and m) (omega arith)
+
+pub cut_lowest : (m r : ℕ) → m < 2 ^ 64 → IsLowest m r → bit_at (cut_low m) r ≡ 0
+cut_lowest m r fits low =
+    ap (λ x. bit_at x r) (cut_is m (some m r low.set) fits) ∙ bit_at_and m (m - 1) r ∙ omega (arith, (less_one r m low.set low.below).0)
+
+pub cut_others : (m r k : ℕ) → m < 2 ^ 64 → IsLowest m r → k ≢ r → bit_at (cut_low m) k ≡ bit_at m k
+cut_others m r k fits low apart =
+    ap (λ x. bit_at x k) (cut_is m (some m r low.set) fits) ∙ bit_at_and m (m - 1) k
+    ∙ ⊎_elim
+    (λ (lt : k < r). omega (arith, low.below k lt))
+    (λ (ge : r ≤ k). omega (arith, (less_one r m low.set low.below).1 k (omega arith)))
+    (cases_lt k r)
+
+-- ---- the highest
+
+pub top : (m r : ℕ) → r < 64 → 2 ^ r ≤ m → m < 2 * 2 ^ r → IsHighest m r
+top m r bound low high =
+    let is : m ≡ 1 * 2 ^ r + (m - 2 ^ r) = omega arith in
+    let under : m < 2 ^ suc r = omega (arith, two-pow-succ r) in
+    let none : r - r ≡ 0 = omega arith in
+    record {
+      bound = bound;
+      set = ap (λ x. bit_at x r) is ∙ bit_at_cat_high 1 r (m - 2 ^ r) r (omega arith) (omega arith) ∙ ap (λ i. bit_at 1 i) none;
+      above = λ k above. bit_at_above m (suc r) k under (omega arith);
+    }
+
+-- ---- those from one on
+
+module _ (m by : ℕ) (fits : m < 2 ^ 64) where
+  from_is : m / 2 ^ by * 2 ^ by % 2 ^ 64 ≡ m / 2 ^ by * 2 ^ by + 0
+  from_is = let whole : m / 2 ^ by * 2 ^ by + m % 2 ^ by ≡ m = div-add-mod' m (2 ^ by) in mod-eq_of_lt (omega (arith, whole)) ∙ omega arith
+
+  pub from_below : (k : ℕ) → k < by → bit_at (m / 2 ^ by * 2 ^ by % 2 ^ 64) k ≡ 0
+  from_below k low = ap (λ x. bit_at x k) from_is ∙ bit_at_cat_low (m / 2 ^ by) by 0 k low ∙ bit_at-zero k
+
+  pub from_kept : (k : ℕ) → by ≤ k → bit_at (m / 2 ^ by * 2 ^ by % 2 ^ 64) k ≡ bit_at m k
+  from_kept k le =
+      ap (λ x. bit_at x k) from_is ∙ bit_at_cat_high (m / 2 ^ by) by 0 k (pow_pos by) le
+      ∙ ap (λ x. x % 2) (shr-shr m by (k - by)) ∙ ap (bit_at m) (omega arith)
+
+-- ---- all but one
+
+one_bit : (r : ℕ) → r < 64 → 1 * 2 ^ r % 2 ^ 64 ≡ 2 ^ r
+one_bit r low = ap (λ x. x % 2 ^ 64) (omega arith) ∙ mod-eq_of_lt (pow-lt low)
+
+pub xor_same : (m r : ℕ) → r < 64 → bit_at m r ≡ 1 → bit_at (bit_xor m (1 * 2 ^ r % 2 ^ 64)) r ≡ 0
+xor_same m r low one = ap (λ x. bit_at (bit_xor m x) r) (one_bit r low) ∙ bit_at_xor m (2 ^ r) r ∙ omega (arith, one, bit_at-pow_same r)
+
+pub xor_other : (m r k : ℕ) → r < 64 → k ≢ r → bit_at (bit_xor m (1 * 2 ^ r % 2 ^ 64)) k ≡ bit_at m k
+xor_other m r k low apart = ap (λ x. bit_at (bit_xor m x) k) (one_bit r low) ∙ bit_at_xor m (2 ^ r) k ∙ omega (arith, bit_at-pow_other r k apart, bit_at-lt m k)
+
+-- ---- those below one
+
+less : (n : ℕ) → n < 64 → 1 * 2 ^ n % 2 ^ 64 - 1 ≡ 2 ^ n - 1
+less n low = ap (λ (x : ℕ). x - 1) (one_bit n low)
+
+pub one_some : (n : ℕ) → n < 64 → 0 < 1 * 2 ^ n % 2 ^ 64
+one_some n low = omega (arith, one_bit n low, pow_pos n)
+
+pub below_kept : (m n k : ℕ) → n < 64 → k < n → bit_at (bit_and m (1 * 2 ^ n % 2 ^ 64 - 1)) k ≡ bit_at m k
+below_kept m n k low lt = ap (λ x. bit_at (bit_and m x) k) (less n low) ∙ bit_at_and m (2 ^ n - 1) k ∙ omega (arith, bit_at_ones n k lt, bit_at-lt m k)
+
+pub below_none : (m n k : ℕ) → n < 64 → n ≤ k → bit_at (bit_and m (1 * 2 ^ n % 2 ^ 64 - 1)) k ≡ 0
+below_none m n k low ge = ap (λ x. bit_at (bit_and m x) k) (less n low) ∙ bit_at_and m (2 ^ n - 1) k ∙ omega (arith, bit_at_ones_above n k ge)
+
+-- ---- moved up
+
+bit-mod : (x k : ℕ) → k < 64 → bit_at (x % 2 ^ 64) k ≡ bit_at x k
+bit-mod x k low = sym (bit_at_cat_low (x / 2 ^ 64) 64 (x % 2 ^ 64) k low) ∙ ap (λ y. bit_at y k) (div-add-mod' x (2 ^ 64))
+
+pub up_below : (m by k : ℕ) → by < 64 → k < by → bit_at (m * 2 ^ by % 2 ^ 64) k ≡ 0
+up_below m by k small low = bit-mod (m * 2 ^ by) k (omega arith) ∙ ap (λ x. bit_at x k) (omega arith) ∙ bit_at_cat_low m by 0 k low ∙ bit_at-zero k
+
+pub up_moved : (m by k : ℕ) → by ≤ k → k < 64 → bit_at (m * 2 ^ by % 2 ^ 64) k ≡ bit_at m (k - by)
+up_moved m by k ge low = bit-mod (m * 2 ^ by) k low ∙ ap (λ x. bit_at x k) (omega arith) ∙ bit_at_cat_high m by 0 k (pow_pos by) ge
+
+-- ---- joined
+
+joined-room : (low high by n : ℕ) → by ≤ n → low < 2 ^ by → high < 2 ^ (n - by) → high * 2 ^ by + low < 2 ^ n
+joined-room low high by n le few many =
+    let room : (high + 1) * 2 ^ by ≤ 2 ^ (n - by) * 2 ^ by = mul-le-mul_right (2 ^ by) (omega arith) in
+    let more : (high + 1) * 2 ^ by ≡ high * 2 ^ by + 1 * 2 ^ by = add-mul high 1 (2 ^ by) in
+    let back : n - by + by ≡ n = omega arith in
+    let whole : 2 ^ (n - by) * 2 ^ by ≡ 2 ^ n = sym (pow-add 2 (n - by) by) ∙ ap (λ (k : ℕ). 2 ^ k) back in
+    omega (arith, room, more, whole)
+
+module _ (low high by : ℕ) (small : by < 64) (few : low < 2 ^ by) (many : high < 2 ^ (64 - by)) where
+  joined-is : high * 2 ^ by % 2 ^ 64 + low ≡ high * 2 ^ by + low
+  joined-is = let fits = joined-room low high by 64 (omega arith) few many in ap (λ (x : ℕ). x + low) (mod-eq_of_lt (omega (arith, fits)))
+
+  pub joined-fits : (n : ℕ) → by ≤ n → high < 2 ^ (n - by) → high * 2 ^ by % 2 ^ 64 + low < 2 ^ n
+  joined-fits n le lt = omega (arith, joined-is, joined-room low high by n le few lt)
+
+  pub joined-low : (k : ℕ) → k < by → bit_at (high * 2 ^ by % 2 ^ 64 + low) k ≡ bit_at low k
+  joined-low k lt = ap (λ (x : ℕ). bit_at x k) joined-is ∙ bit_at_cat_low high by low k lt
+
+  pub joined-high : (k : ℕ) → by ≤ k → bit_at (high * 2 ^ by % 2 ^ 64 + low) k ≡ bit_at high (k - by)
+  joined-high k ge = ap (λ (x : ℕ). bit_at x k) joined-is ∙ bit_at_cat_high high by low k few ge

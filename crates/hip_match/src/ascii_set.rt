@@ -1,0 +1,192 @@
+//! Sets of characters of ASCII.
+ghost use Rattle.std.specs.Prelude.{◌≡◌, ◌==◌, ◌<◌, ◌&&◌, ◌||◌, ℕ, false, not};
+ghost use Rattle.std.specs.Char.{is_ascii, is_ascii_alphanumeric, is_ascii_whitespace};
+ghost use Rattle.hip_match.specs.AsciiSets.{in_set};
+ghost use Rattle.hip_match.specs.Characters.{char_ends};
+ghost use Rattle.hip_match.specs.CharLaws.{char_ends-spans, char_ends-one_start, char_ends-one_char};
+ghost use Rattle.hip_match.specs.Marks.{Ahead, Behind, in_rows};
+
+use crate::byte_test::{AsciiTable, ByteSearch, ByteTest};
+use crate::chars::{CharSet, end_of, start_before};
+use crate::marks::Marks;
+use crate::pattern::{ClonePattern, DoubleEndedPattern, OneChar, Pattern, ReversePattern};
+use std::simd::prelude::*;
+
+/// A set of characters of ASCII. A walk finds them 64 bytes at a time.
+#[derive(Clone, Copy)]
+pub struct AsciiSet {
+    table: AsciiTable,
+}
+
+impl AsciiSet {
+    /// No character.
+    #[inline]
+    pub fn new() -> Self
+        ensures { (c : ℕ) → in_set result c ≡ false }
+    {
+        AsciiSet {
+            table: AsciiTable { rows: [0; 16] },
+        }
+    }
+
+    /// The letters and digits, as `char::is_ascii_alphanumeric` tells them.
+    #[inline]
+    pub fn alphanumeric() -> Self
+        ensures { in_set result ≡ is_ascii_alphanumeric }
+    {
+        AsciiSet {
+            table: AsciiTable {
+                rows: [
+                    168, 248, 248, 248, 248, 248, 248, 248, 248, 248, 240, 80, 80, 80, 80, 80,
+                ],
+            },
+        }
+    }
+
+    /// The white space, as `char::is_ascii_whitespace` tells it.
+    #[inline]
+    pub fn whitespace() -> Self
+        ensures { in_set result ≡ is_ascii_whitespace }
+    {
+        AsciiSet {
+            table: AsciiTable {
+                rows: [4, 0, 0, 0, 0, 0, 0, 0, 0, 1, 1, 0, 1, 1, 0, 0],
+            },
+        }
+    }
+
+    // The table by which the set is looked for.
+    #[inline]
+    pub(crate) fn table(self) -> AsciiTable
+        ensures { result ≡ self.table }
+    {
+        self.table
+    }
+
+    /// These characters and one more.
+    #[inline]
+    pub fn with(self, byte: u8) -> Self
+        requires { byte < 128 }
+        ensures { (c : ℕ) → in_set result c ≡ (c == byte || in_set self c) }
+    {
+        let mut rows = self.table.rows;
+        rows[(byte & 15) as usize] |= 1 << (byte >> 4);
+        AsciiSet {
+            table: AsciiTable { rows },
+        }
+    }
+
+    /// The other characters of ASCII.
+    #[inline]
+    pub fn complement(self) -> Self
+        ensures { (c : ℕ) → in_set result c ≡ (is_ascii c && not (in_set self c)) }
+    {
+        let rows = u8x16::from_array(self.table.rows) ^ u8x16::splat(0xFF);
+        AsciiSet {
+            table: AsciiTable {
+                rows: rows.to_array(),
+            },
+        }
+    }
+}
+
+impl CharSet for AsciiSet {
+    ghost belongs = { in_set };
+
+    #[inline]
+    fn has(&self, c: char) -> bool {
+        c.is_ascii() && self.table.has(c as u8)
+    }
+}
+
+impl Pattern for AsciiSet {
+    type Searcher = Marks<AsciiTable>;
+
+    ghost ends = { λ s. char_ends (in_set s) };
+
+    ghost is_ready = { λ s m text from. (m.test ≡ s.table) × Ahead (in_rows m.test.rows) text from m.front.next m.front.bits };
+
+    ghost is_ready_back = { λ s m text to. (m.test ≡ s.table) × Behind (in_rows m.test.rows) text to m.back.start m.back.bits };
+
+    #[inline]
+    fn searcher(&self, _text: &str, from: usize, to: usize) -> Marks<AsciiTable> {
+        Marks::new(self.table, from, to)
+    }
+
+    #[inline]
+    fn next_match(&self, text: &str, from: usize) -> Option<(usize, usize)> {
+        let at = self.table.find(text.as_bytes(), from)?;
+        Some((at, at + 1))
+    }
+
+    #[inline(always)]
+    fn next_match_by(
+        &self,
+        searcher: &mut Marks<AsciiTable>,
+        text: &str,
+        from: usize,
+    ) -> Option<(usize, usize)> {
+        let at = searcher.next(text.as_bytes(), from)?;
+        Some((at, at + 1))
+    }
+
+    #[inline]
+    fn match_at(&self, text: &str, at: usize) -> Option<usize> {
+        end_of(self, text, at)
+    }
+
+    ghost spans = { λ s. char_ends-spans (in_set s) };
+}
+
+impl ClonePattern for AsciiSet {
+    ghost use Rattle.std.proofs.Common.{rules};
+
+    ghost clones_keep = { Prim.search rules };
+}
+
+impl ReversePattern for AsciiSet {
+    #[inline]
+    fn reverse_searcher(&self, _text: &str, from: usize, to: usize) -> Marks<AsciiTable> {
+        Marks::new(self.table, from, to)
+    }
+
+    #[inline]
+    fn last_match(&self, text: &str, to: usize) -> Option<(usize, usize)> {
+        let at = self.table.rfind(text.as_bytes(), to)?;
+        Some((at, at + 1))
+    }
+
+    #[inline(always)]
+    fn last_match_by(
+        &self,
+        searcher: &mut Marks<AsciiTable>,
+        text: &str,
+        to: usize,
+    ) -> Option<(usize, usize)> {
+        let at = searcher.last(text.as_bytes(), to)?;
+        Some((at, at + 1))
+    }
+
+    #[inline]
+    fn match_before(&self, text: &str, to: usize) -> Option<usize> {
+        start_before(self, text, to)
+    }
+
+    ghost one_start = { λ s. char_ends-one_start (in_set s) };
+}
+
+impl DoubleEndedPattern for AsciiSet {
+    #[inline]
+    fn starts_at(&self, text: &str, at: usize) -> bool {
+        self.match_at(text, at).is_some()
+    }
+}
+
+impl OneChar for AsciiSet {
+    #[inline]
+    fn ends_at(&self, text: &str, to: usize) -> bool {
+        self.match_before(text, to).is_some()
+    }
+
+    ghost one_char = { λ s. char_ends-one_char (in_set s) };
+}

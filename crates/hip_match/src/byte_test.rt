@@ -1,0 +1,162 @@
+//! Tests of a byte, one by one and sixteen at a time.
+ghost use Rattle.std.specs.Prelude.{◌≡◌, ◌==◌, ◌+◌, ◌<◌, ◌≤◌, ℕ, Bool, length};
+ghost use Rattle.memchr.specs.Find.{IsFirst, IsLast, Passes};
+ghost use Rattle.hip_match.specs.Marks.{AreLanes, has_nibbles};
+ghost use Rattle.hip_match.specs.declared.byte_test.TheConstants.{SPACE_COLUMNS, SPACE_ROWS};
+ghost use Rattle.hip_match.specs.Marks.{in_rows};
+
+use crate::marks::{first_in_blocks, last_in_blocks};
+use memchr::{memchr, memrchr};
+use std::simd::prelude::*;
+
+/// A test of a byte.
+pub trait ByteTest: Copy {
+    /// The bytes that pass.
+    ghost passes: { Self → ℕ → Bool };
+
+    /// Whether a byte passes.
+    fn has(&self, byte: u8) -> bool
+        ensures { result ≡ passes self.now byte };
+
+    /// Which of the sixteen bytes from `at` on pass, the first by the lowest bit.
+    fn lanes(&self, bytes: &[u8], at: usize) -> u64
+        requires { at + 16 ≤ length bytes.now }
+        ensures few { result < 65536 }
+        ensures marks { AreLanes (passes self.now) bytes.now at result };
+}
+
+/// A test whose bytes are looked for by a search of its own where they are far.
+pub trait ByteSearch: ByteTest {
+    /// The first byte at or after `from` that passes.
+    fn find(&self, bytes: &[u8], from: usize) -> Option<usize>
+        requires { from ≤ length bytes.now }
+        ensures { IsFirst (Passes (Self.passes self.now) bytes.now) from (length bytes.now) result };
+
+    /// The last byte before `to` that passes.
+    fn rfind(&self, bytes: &[u8], to: usize) -> Option<usize>
+        requires { to ≤ length bytes.now }
+        ensures { IsLast (Passes (Self.passes self.now) bytes.now) 0 to result };
+}
+
+/// One byte.
+#[derive(Clone, Copy)]
+pub struct OneByte(pub u8);
+
+impl ByteTest for OneByte {
+    ghost passes = { λ s byte. byte == s.0 };
+
+    #[inline(always)]
+    fn has(&self, byte: u8) -> bool {
+        byte == self.0
+    }
+
+    #[inline(always)]
+    fn lanes(&self, bytes: &[u8], at: usize) -> u64 {
+        u8x16::from_slice(&bytes[at..])
+            .simd_eq(u8x16::splat(self.0))
+            .to_bitmask()
+    }
+}
+
+impl ByteSearch for OneByte {
+    #[inline]
+    fn find(&self, bytes: &[u8], from: usize) -> Option<usize> {
+        Some(from + memchr(self.0, &bytes[from..])?)
+    }
+
+    #[inline]
+    fn rfind(&self, bytes: &[u8], to: usize) -> Option<usize> {
+        memrchr(self.0, &bytes[..to])
+    }
+}
+
+// The columns of a table of ASCII: bit h of a row says whether the character `16 * h + low` belongs, for h below 8.
+const ASCII_COLUMNS: [u8; 16] = [1, 2, 4, 8, 16, 32, 64, 128, 0, 0, 0, 0, 0, 0, 0, 0];
+
+// Whether the row of a byte, told by its low four bits, has the column of its high four.
+#[inline(always)]
+fn has_nibbles(rows: &[u8; 16], columns: &[u8; 16], byte: u8) -> bool
+    ensures { result ≡ has_nibbles rows.now columns.now byte }
+{
+    rows[(byte & 15) as usize] & columns[(byte >> 4) as usize] != 0
+}
+
+// Which of the sixteen bytes from `at` on have their column in their row.
+#[inline(always)]
+fn nibble_lanes(rows: &[u8; 16], columns: &[u8; 16], bytes: &[u8], at: usize) -> u64
+    requires { at + 16 ≤ length bytes.now }
+    ensures few { result < 65536 }
+    ensures marks { AreLanes (has_nibbles rows.now columns.now) bytes.now at result }
+{
+    let lanes = u8x16::from_slice(&bytes[at..]);
+    let rows = u8x16::from_array(*rows).swizzle_dyn_within::<16>(lanes & u8x16::splat(15));
+    let columns = u8x16::from_array(*columns).swizzle_dyn_within::<16>(lanes >> u8x16::splat(4));
+    (rows & columns).simd_ne(u8x16::splat(0)).to_bitmask()
+}
+
+/// A set of bytes of ASCII, as a table.
+#[derive(Clone, Copy)]
+pub struct AsciiTable {
+    pub(crate) rows: [u8; 16],
+}
+
+impl ByteTest for AsciiTable {
+    ghost passes = { λ s. in_rows s.rows };
+
+    #[inline(always)]
+    fn has(&self, byte: u8) -> bool {
+        has_nibbles(&self.rows, &ASCII_COLUMNS, byte)
+    }
+
+    #[inline(always)]
+    fn lanes(&self, bytes: &[u8], at: usize) -> u64 {
+        nibble_lanes(&self.rows, &ASCII_COLUMNS, bytes, at)
+    }
+}
+
+impl ByteSearch for AsciiTable {
+    #[inline]
+    fn find(&self, bytes: &[u8], from: usize) -> Option<usize> {
+        first_in_blocks(self, bytes, from)
+    }
+
+    #[inline]
+    fn rfind(&self, bytes: &[u8], to: usize) -> Option<usize> {
+        last_in_blocks(self, bytes, to)
+    }
+}
+
+// Tables for the bytes with which a character of Unicode's `White_Space` begins: those of ASCII, 0xC2, and 0xE1 to 0xE3.
+const SPACE_ROWS: [u8; 16] = [2, 8, 12, 8, 0, 0, 0, 0, 0, 1, 1, 1, 1, 1, 0, 0];
+
+const SPACE_COLUMNS: [u8; 16] = [1, 0, 2, 0, 0, 0, 0, 0, 0, 0, 0, 0, 4, 0, 8, 0];
+
+/// The bytes with which a character of white space begins, and some others of which none is of ASCII.
+#[derive(Clone, Copy)]
+pub struct SpaceLeads;
+
+impl ByteTest for SpaceLeads {
+    ghost passes = { λ _. has_nibbles SPACE_ROWS SPACE_COLUMNS };
+
+    #[inline(always)]
+    fn has(&self, byte: u8) -> bool {
+        has_nibbles(&SPACE_ROWS, &SPACE_COLUMNS, byte)
+    }
+
+    #[inline(always)]
+    fn lanes(&self, bytes: &[u8], at: usize) -> u64 {
+        nibble_lanes(&SPACE_ROWS, &SPACE_COLUMNS, bytes, at)
+    }
+}
+
+impl ByteSearch for SpaceLeads {
+    #[inline]
+    fn find(&self, bytes: &[u8], from: usize) -> Option<usize> {
+        first_in_blocks(self, bytes, from)
+    }
+
+    #[inline]
+    fn rfind(&self, bytes: &[u8], to: usize) -> Option<usize> {
+        last_in_blocks(self, bytes, to)
+    }
+}

@@ -1,0 +1,363 @@
+//! The places of a text whose bytes pass a test, found 64 at a time from either end.
+ghost use Rattle.std.specs.Prelude.{◌≡◌, ◌+◌, ◌<◌, ◌≤◌, ℕ, Bool, List, length, IfSome};
+ghost use Rattle.memchr.specs.Find.{IsFirst, IsLast, Passes};
+ghost use Rattle.hip_match.specs.Marks.{Ahead, AreBefore, AreBlock, AreFew, AreUpTo, Behind};
+
+use crate::bits::{
+    bits_below, bits_from, highest, joined, lowest, shifted_up, without, without_lowest,
+};
+use crate::byte_test::{ByteSearch, ByteTest};
+
+const BLOCK: usize = 64;
+
+const LANES: usize = 16;
+
+// The marks of the 64 places from `at` on.
+#[inline(always)]
+fn block<T: ByteTest>(test: &T, bytes: &[u8], at: usize) -> u64
+    requires { at + 64 ≤ length bytes.now }
+    ensures { AreBlock (T.passes test.now) bytes.now at result }
+{
+    let front = joined(test.lanes(bytes, at), test.lanes(bytes, at + LANES), 16);
+    let back = joined(
+        test.lanes(bytes, at + 2 * LANES),
+        test.lanes(bytes, at + 3 * LANES),
+        16,
+    );
+    joined(front, back, 32)
+}
+
+// The marks of sixteen places from `at` on, at their places.
+#[inline(always)]
+fn lanes_at<T: ByteTest>(test: &T, bytes: &[u8], at: usize) -> u64
+    requires room { at + 16 ≤ length bytes.now }
+    requires few { at < 64 }
+    ensures { AreFew (T.passes test.now) bytes.now at (at + 16) result }
+{
+    shifted_up(test.lanes(bytes, at), at)
+}
+
+// The marks of a text of fewer than 64 bytes.
+#[inline(never)]
+fn few<T: ByteTest>(test: &T, bytes: &[u8]) -> u64
+    requires { length bytes.now < 64 }
+    ensures { AreFew (T.passes test.now) bytes.now 0 (length bytes.now) result }
+{
+    let len = bytes.len();
+    if len < LANES {
+        let mut padded = [0; LANES];
+        padded[..len].copy_from_slice(bytes);
+        return bits_below(test.lanes(&padded, 0), len);
+    }
+    let last = len - LANES;
+    lanes_at(test, bytes, 0)
+        | lanes_at(test, bytes, last.min(LANES))
+        | lanes_at(test, bytes, last.min(2 * LANES))
+        | lanes_at(test, bytes, last)
+}
+
+// The marks of the last 64 places of a text, the last by the highest bit.
+#[inline(always)]
+fn last_marks<T: ByteTest>(test: &T, bytes: &[u8]) -> u64
+    requires { 0 < length bytes.now }
+    ensures { AreBefore (T.passes test.now) bytes.now 0 (length bytes.now) result }
+{
+    let len = bytes.len();
+    if BLOCK <= len {
+        block(test, bytes, len - BLOCK)
+    } else {
+        shifted_up(few(test, bytes), BLOCK - len)
+    }
+}
+
+// The marks of the last 64 places of a text, those before `from` taken.
+#[inline(never)]
+fn last_block<T: ByteTest>(test: &T, bytes: &[u8], from: usize) -> u64
+    requires some { from < length bytes.now }
+    requires few { length bytes.now < from + 64 }
+    ensures { AreBefore (T.passes test.now) bytes.now from (length bytes.now) result }
+{
+    bits_from(last_marks(test, bytes), BLOCK - (bytes.len() - from))
+}
+
+// The marks of the first 64 places of a text, those from `to` on taken.
+#[inline(never)]
+fn first_block<T: ByteTest>(test: &T, bytes: &[u8], to: usize) -> u64
+    requires within { to ≤ length bytes.now }
+    requires few { to < 64 }
+    ensures { AreUpTo (T.passes test.now) bytes.now to 0 result }
+{
+    if BLOCK <= bytes.len() {
+        return bits_below(block(test, bytes, 0), to);
+    }
+    bits_below(few(test, bytes), to)
+}
+
+// The marks of at most 64 places from `from` on, and the first place behind them.
+#[inline(always)]
+fn block_from<T: ByteTest>(test: &T, bytes: &[u8], from: usize) -> (usize, u64)
+    requires { from < length bytes.now }
+    ensures goes_on { from < result.0 }
+    ensures near { result.0 ≤ from + 64 }
+    ensures within { result.0 ≤ length bytes.now }
+    ensures marks { AreBefore (T.passes test.now) bytes.now from result.0 result.1 }
+{
+    if BLOCK <= bytes.len() - from {
+        return (from + BLOCK, block(test, bytes, from));
+    }
+    (bytes.len(), last_block(test, bytes, from))
+}
+
+// The marks of at most 64 places before `to`, and the first of these places.
+#[inline(always)]
+fn block_before<T: ByteTest>(test: &T, bytes: &[u8], to: usize) -> (usize, u64)
+    requires some { 0 < to }
+    requires within { to ≤ length bytes.now }
+    ensures goes_on { result.0 < to }
+    ensures near { to ≤ result.0 + 64 }
+    ensures marks { AreUpTo (T.passes test.now) bytes.now to result.0 result.1 }
+{
+    if BLOCK <= to {
+        return (to - BLOCK, block(test, bytes, to - BLOCK));
+    }
+    (0, first_block(test, bytes, to))
+}
+
+/// What is left of a block of 64 places, from its front.
+#[derive(Clone, Copy)]
+pub(crate) struct FrontMarks {
+    // The first place behind the block.
+    next: usize,
+    // The marks that are left of the 64 places before that.
+    bits: u64,
+    // The last mark was more than a block ahead.
+    is_far: bool,
+}
+
+impl FrontMarks {
+    // No place is read yet, and `from` is the first to be.
+    #[inline]
+    pub(crate) fn new(from: usize) -> Self
+        ensures { (test : ℕ → Bool) (t : List ℕ) → from ≤ length t → Ahead test t from result.next result.bits }
+    {
+        FrontMarks {
+            next: from,
+            bits: 0,
+            is_far: false,
+        }
+    }
+
+    // Reads the next block.
+    #[inline(always)]
+    fn load<T: ByteTest>(&mut self, test: &T, bytes: &[u8], from: usize)
+        requires ahead { Ahead (T.passes test.now) bytes.now from self.old.next self.old.bits }
+        requires none { self.old.bits ≡ 0 }
+        requires more { self.old.next < length bytes.now }
+        ensures ahead { Ahead (T.passes test.now) bytes.now from self.new.next self.new.bits }
+        ensures goes_on { self.old.next < self.new.next }
+    {
+        let (next, bits) = block_from(test, bytes, self.next);
+        self.next = next;
+        self.bits = bits;
+        self.is_far = bits == 0;
+    }
+
+    // The first place that is left, by the test's own search.
+    #[inline(never)]
+    fn find<T: ByteSearch>(&mut self, test: &T, bytes: &[u8], from: usize) -> Option<usize>
+        requires ahead { Ahead (T.passes test.now) bytes.now from self.old.next self.old.bits }
+        requires none { self.old.bits ≡ 0 }
+        ensures found { IsFirst (Passes (T.passes test.now) bytes.now) from (length bytes.now) result }
+        ensures ahead { IfSome result (λ at. Ahead (T.passes test.now) bytes.now (at + 1) self.new.next self.new.bits) }
+    {
+        let at = test.find(bytes, self.next)?;
+        self.is_far = BLOCK <= at - self.next;
+        self.next = at + 1;
+        Some(at)
+    }
+
+    // The first place that is left, which is passed.
+    #[inline(always)]
+    pub(crate) fn next<T: ByteSearch>(
+        &mut self,
+        test: &T,
+        bytes: &[u8],
+        from: usize,
+    ) -> Option<usize>
+        requires { Ahead (T.passes test.now) bytes.now from self.old.next self.old.bits }
+        ensures found { IsFirst (Passes (T.passes test.now) bytes.now) from (length bytes.now) result }
+        ensures ahead { IfSome result (λ at. Ahead (T.passes test.now) bytes.now (at + 1) self.new.next self.new.bits) }
+    {
+        loop {
+            if let Some(k) = lowest(self.bits) {
+                self.bits = without_lowest(self.bits);
+                return Some(self.next + k as usize - BLOCK);
+            }
+            if self.next == bytes.len() {
+                return None;
+            }
+            if self.is_far {
+                return self.find(test, bytes, from);
+            }
+            self.load(test, bytes, from);
+        }
+    }
+}
+
+/// What is left of a block of 64 places, from its back.
+#[derive(Clone, Copy)]
+pub(crate) struct BackMarks {
+    // The first place of the block.
+    start: usize,
+    // The marks that are left of the 64 places from there on.
+    bits: u64,
+    // The last mark was more than a block behind.
+    is_far: bool,
+}
+
+impl BackMarks {
+    // No place is read yet, and the one before `to` is the first to be.
+    #[inline]
+    pub(crate) fn new(to: usize) -> Self
+        ensures { (test : ℕ → Bool) (t : List ℕ) → to ≤ length t → Behind test t to result.start result.bits }
+    {
+        BackMarks {
+            start: to,
+            bits: 0,
+            is_far: false,
+        }
+    }
+
+    // Reads the block before this one.
+    #[inline(always)]
+    fn load<T: ByteTest>(&mut self, test: &T, bytes: &[u8], to: usize)
+        requires behind { Behind (T.passes test.now) bytes.now to self.old.start self.old.bits }
+        requires none { self.old.bits ≡ 0 }
+        requires more { 0 < self.old.start }
+        ensures behind { Behind (T.passes test.now) bytes.now to self.new.start self.new.bits }
+        ensures goes_on { self.new.start < self.old.start }
+    {
+        let (start, bits) = block_before(test, bytes, self.start);
+        self.start = start;
+        self.bits = bits;
+        self.is_far = bits == 0;
+    }
+
+    // The last place that is left, by the test's own search.
+    #[inline(never)]
+    fn find<T: ByteSearch>(&mut self, test: &T, bytes: &[u8], to: usize) -> Option<usize>
+        requires behind { Behind (T.passes test.now) bytes.now to self.old.start self.old.bits }
+        requires none { self.old.bits ≡ 0 }
+        ensures found { IsLast (Passes (T.passes test.now) bytes.now) 0 to result }
+        ensures behind { IfSome result (λ at. Behind (T.passes test.now) bytes.now at self.new.start self.new.bits) }
+    {
+        let at = test.rfind(bytes, self.start)?;
+        self.is_far = BLOCK <= self.start - at;
+        self.start = at;
+        Some(at)
+    }
+
+    // The last place that is left, which is passed.
+    #[inline(always)]
+    pub(crate) fn last<T: ByteSearch>(&mut self, test: &T, bytes: &[u8], to: usize) -> Option<usize>
+        requires { Behind (T.passes test.now) bytes.now to self.old.start self.old.bits }
+        ensures found { IsLast (Passes (T.passes test.now) bytes.now) 0 to result }
+        ensures behind { IfSome result (λ at. Behind (T.passes test.now) bytes.now at self.new.start self.new.bits) }
+    {
+        loop {
+            if let Some(k) = highest(self.bits) {
+                self.bits = without(self.bits, k);
+                return Some(self.start + k as usize);
+            }
+            if self.start == 0 {
+                return None;
+            }
+            if self.is_far {
+                return self.find(test, bytes, to);
+            }
+            self.load(test, bytes, to);
+        }
+    }
+}
+
+// The first place at or after `from`, block by block.
+pub(crate) fn first_in_blocks<T: ByteTest>(test: &T, bytes: &[u8], from: usize) -> Option<usize>
+    requires { from ≤ length bytes.now }
+    ensures { IsFirst (Passes (T.passes test.now) bytes.now) from (length bytes.now) result }
+{
+    let mut marks = FrontMarks::new(from);
+    loop {
+        if let Some(k) = lowest(marks.bits) {
+            return Some(marks.next + k as usize - BLOCK);
+        }
+        if marks.next == bytes.len() {
+            return None;
+        }
+        marks.load(test, bytes, from);
+    }
+}
+
+// The last place before `to`, block by block.
+pub(crate) fn last_in_blocks<T: ByteTest>(test: &T, bytes: &[u8], to: usize) -> Option<usize>
+    requires { to ≤ length bytes.now }
+    ensures { IsLast (Passes (T.passes test.now) bytes.now) 0 to result }
+{
+    let mut marks = BackMarks::new(to);
+    loop {
+        if let Some(k) = highest(marks.bits) {
+            return Some(marks.start + k as usize);
+        }
+        if marks.start == 0 {
+            return None;
+        }
+        marks.load(test, bytes, to);
+    }
+}
+
+/// The places of a text whose bytes pass a test, from either end.
+#[derive(Clone, Copy)]
+pub struct Marks<T: ByteSearch> {
+    pub(crate) test: T,
+    pub(crate) front: FrontMarks,
+    pub(crate) back: BackMarks,
+}
+
+impl<T: ByteSearch> Marks<T> {
+    // The places of a text from `from` up to `to`.
+    #[inline]
+    pub(crate) fn new(test: T, from: usize, to: usize) -> Self
+        ensures test { result.test ≡ test }
+        ensures ahead { (t : List ℕ) → from ≤ length t → Ahead (T.passes test) t from result.front.next result.front.bits }
+        ensures behind { (t : List ℕ) → to ≤ length t → Behind (T.passes test) t to result.back.start result.back.bits }
+    {
+        Marks {
+            test,
+            front: FrontMarks::new(from),
+            back: BackMarks::new(to),
+        }
+    }
+
+    // The first place that is left, which is passed.
+    #[inline(always)]
+    pub(crate) fn next(&mut self, bytes: &[u8], from: usize) -> Option<usize>
+        requires { Ahead (T.passes self.old.test) bytes.now from self.old.front.next self.old.front.bits }
+        ensures found { IsFirst (Passes (T.passes self.old.test) bytes.now) from (length bytes.now) result }
+        ensures ahead { IfSome result (λ at. Ahead (T.passes self.old.test) bytes.now (at + 1) self.new.front.next self.new.front.bits) }
+        ensures test { self.new.test ≡ self.old.test }
+        ensures back { self.new.back ≡ self.old.back }
+    {
+        self.front.next(&self.test, bytes, from)
+    }
+
+    // The last place that is left, which is passed.
+    #[inline(always)]
+    pub(crate) fn last(&mut self, bytes: &[u8], to: usize) -> Option<usize>
+        requires { Behind (T.passes self.old.test) bytes.now to self.old.back.start self.old.back.bits }
+        ensures found { IsLast (Passes (T.passes self.old.test) bytes.now) 0 to result }
+        ensures behind { IfSome result (λ at. Behind (T.passes self.old.test) bytes.now at self.new.back.start self.new.back.bits) }
+        ensures test { self.new.test ≡ self.old.test }
+        ensures front { self.new.front ≡ self.old.front }
+    {
+        self.back.last(&self.test, bytes, to)
+    }
+}
