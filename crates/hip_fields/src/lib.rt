@@ -13,8 +13,6 @@
 
 mod all;
 mod line;
-mod parts;
 pub mod reader;
-mod separator;
 
 pub use all::{records, records_metered};

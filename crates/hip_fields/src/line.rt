@@ -5,8 +5,6 @@ ghost use Rattle.hip_match.specs.Joined.{parts};
 ghost use Rattle.hip_match.specs.Occurrence.{IsCut};
 ghost use Rattle.hip_fields.specs.Records.{AreFields, fields_cost, fields_of};
 
-use crate::parts::{BLOCK, Parts};
-use crate::separator::Separator;
 use hip_cuts::hip_match::ranges::Ranges;
 use hip_cuts::hip_match::split::Split;
 use hip_cuts::{Backend, HipStr, Meter};
@@ -56,36 +54,6 @@ pub(crate) fn fields_between<'b, B: Backend>(
         (fields_cost B.SHARES source.now.kind
         (fields_of separator (slice_range source.now.items start end))) }
 {
-    let line = &source.as_str()[start..end];
-    match Separator::of(separator) {
-        Some(near) if BLOCK <= line.len() => {
-            fields_at(
-                alloc,
-                source,
-                start,
-                end,
-                Parts::new(line, near),
-                room,
-                meter,
-            )
-        }
-        Some(near) => fields_at(
-            alloc,
-            source,
-            start,
-            end,
-            Split::new(line, near),
-            room,
-            meter,
-        ),
-        None => fields_at(
-            alloc,
-            source,
-            start,
-            end,
-            Split::new(line, separator),
-            room,
-            meter,
-        ),
-    }
+    let pieces = Split::new(&source.as_str()[start..end], separator);
+    fields_at(alloc, source, start, end, pieces, room, meter)
 }

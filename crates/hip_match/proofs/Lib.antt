@@ -20,5 +20,6 @@ pub mod BitLemmas
 pub mod LaneLemmas
 pub mod MarkLemmas
 pub mod SpaceLemmas
+pub mod GapLemmas
 pub mod OrderLemmas
 pub mod PartedLemmas

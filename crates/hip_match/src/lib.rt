@@ -25,6 +25,7 @@
 #![tactic(auto)]
 
 pub mod ascii_set;
+mod ascii_space;
 mod bits;
 mod boundaries;
 pub mod byte_test;

@@ -1,4 +1,6 @@
 //! The places of a text whose bytes pass a test, found 64 at a time from either end.
+//!
+//! Functions that aren't inlined take a test by value, so that a walk's own fields stay in registers.
 ghost use Rattle.std.specs.Prelude.{◌≡◌, ◌+◌, ◌<◌, ◌≤◌, ℕ, Bool, List, length, IfSome};
 ghost use Rattle.memchr.specs.Find.{IsFirst, IsLast, Passes};
 ghost use Rattle.hip_match.specs.Marks.{Ahead, AreBefore, AreBlock, AreFew, AreUpTo, Behind};
@@ -39,9 +41,9 @@ fn lanes_at<T: ByteTest>(test: &T, bytes: &[u8], at: usize) -> u64
 
 // The marks of a text of fewer than 64 bytes.
 #[inline(never)]
-fn few<T: ByteTest>(test: &T, bytes: &[u8]) -> u64
+fn few<T: ByteTest>(test: T, bytes: &[u8]) -> u64
     requires { length bytes.now < 64 }
-    ensures { AreFew (T.passes test.now) bytes.now 0 (length bytes.now) result }
+    ensures { AreFew (T.passes test) bytes.now 0 (length bytes.now) result }
 {
     let len = bytes.len();
     if len < LANES {
@@ -50,10 +52,10 @@ fn few<T: ByteTest>(test: &T, bytes: &[u8]) -> u64
         return bits_below(test.lanes(&padded, 0), len);
     }
     let last = len - LANES;
-    lanes_at(test, bytes, 0)
-        | lanes_at(test, bytes, last.min(LANES))
-        | lanes_at(test, bytes, last.min(2 * LANES))
-        | lanes_at(test, bytes, last)
+    lanes_at(&test, bytes, 0)
+        | lanes_at(&test, bytes, last.min(LANES))
+        | lanes_at(&test, bytes, last.min(2 * LANES))
+        | lanes_at(&test, bytes, last)
 }
 
 // The marks of the last 64 places of a text, the last by the highest bit.
@@ -66,29 +68,29 @@ fn last_marks<T: ByteTest>(test: &T, bytes: &[u8]) -> u64
     if BLOCK <= len {
         block(test, bytes, len - BLOCK)
     } else {
-        shifted_up(few(test, bytes), BLOCK - len)
+        shifted_up(few(*test, bytes), BLOCK - len)
     }
 }
 
 // The marks of the last 64 places of a text, those before `from` taken.
 #[inline(never)]
-fn last_block<T: ByteTest>(test: &T, bytes: &[u8], from: usize) -> u64
+fn last_block<T: ByteTest>(test: T, bytes: &[u8], from: usize) -> u64
     requires some { from < length bytes.now }
     requires few { length bytes.now < from + 64 }
-    ensures { AreBefore (T.passes test.now) bytes.now from (length bytes.now) result }
+    ensures { AreBefore (T.passes test) bytes.now from (length bytes.now) result }
 {
-    bits_from(last_marks(test, bytes), BLOCK - (bytes.len() - from))
+    bits_from(last_marks(&test, bytes), BLOCK - (bytes.len() - from))
 }
 
 // The marks of the first 64 places of a text, those from `to` on taken.
 #[inline(never)]
-fn first_block<T: ByteTest>(test: &T, bytes: &[u8], to: usize) -> u64
+fn first_block<T: ByteTest>(test: T, bytes: &[u8], to: usize) -> u64
     requires within { to ≤ length bytes.now }
     requires few { to < 64 }
-    ensures { AreUpTo (T.passes test.now) bytes.now to 0 result }
+    ensures { AreUpTo (T.passes test) bytes.now to 0 result }
 {
     if BLOCK <= bytes.len() {
-        return bits_below(block(test, bytes, 0), to);
+        return bits_below(block(&test, bytes, 0), to);
     }
     bits_below(few(test, bytes), to)
 }
@@ -105,7 +107,7 @@ fn block_from<T: ByteTest>(test: &T, bytes: &[u8], from: usize) -> (usize, u64)
     if BLOCK <= bytes.len() - from {
         return (from + BLOCK, block(test, bytes, from));
     }
-    (bytes.len(), last_block(test, bytes, from))
+    (bytes.len(), last_block(*test, bytes, from))
 }
 
 // The marks of at most 64 places before `to`, and the first of these places.
@@ -120,7 +122,25 @@ fn block_before<T: ByteTest>(test: &T, bytes: &[u8], to: usize) -> (usize, u64)
     if BLOCK <= to {
         return (to - BLOCK, block(test, bytes, to - BLOCK));
     }
-    (0, first_block(test, bytes, to))
+    (0, first_block(*test, bytes, to))
+}
+
+// The first place at or after `from`, by the test's own search.
+#[inline(never)]
+fn far_first<T: ByteSearch>(test: T, bytes: &[u8], from: usize) -> Option<usize>
+    requires { from ≤ length bytes.now }
+    ensures { IsFirst (Passes (T.passes test) bytes.now) from (length bytes.now) result }
+{
+    test.find(bytes, from)
+}
+
+// The last place before `to`, by the test's own search.
+#[inline(never)]
+fn far_last<T: ByteSearch>(test: T, bytes: &[u8], to: usize) -> Option<usize>
+    requires { to ≤ length bytes.now }
+    ensures { IsLast (Passes (T.passes test) bytes.now) 0 to result }
+{
+    test.rfind(bytes, to)
 }
 
 /// What is left of a block of 64 places, from its front.
@@ -163,14 +183,14 @@ impl FrontMarks {
     }
 
     // The first place that is left, by the test's own search.
-    #[inline(never)]
+    #[inline(always)]
     fn find<T: ByteSearch>(&mut self, test: &T, bytes: &[u8], from: usize) -> Option<usize>
         requires ahead { Ahead (T.passes test.now) bytes.now from self.old.next self.old.bits }
         requires none { self.old.bits ≡ 0 }
         ensures found { IsFirst (Passes (T.passes test.now) bytes.now) from (length bytes.now) result }
         ensures ahead { IfSome result (λ at. Ahead (T.passes test.now) bytes.now (at + 1) self.new.next self.new.bits) }
     {
-        let at = test.find(bytes, self.next)?;
+        let at = far_first(*test, bytes, self.next)?;
         self.is_far = BLOCK <= at - self.next;
         self.next = at + 1;
         Some(at)
@@ -244,14 +264,14 @@ impl BackMarks {
     }
 
     // The last place that is left, by the test's own search.
-    #[inline(never)]
+    #[inline(always)]
     fn find<T: ByteSearch>(&mut self, test: &T, bytes: &[u8], to: usize) -> Option<usize>
         requires behind { Behind (T.passes test.now) bytes.now to self.old.start self.old.bits }
         requires none { self.old.bits ≡ 0 }
         ensures found { IsLast (Passes (T.passes test.now) bytes.now) 0 to result }
         ensures behind { IfSome result (λ at. Behind (T.passes test.now) bytes.now at self.new.start self.new.bits) }
     {
-        let at = test.rfind(bytes, self.start)?;
+        let at = far_last(*test, bytes, self.start)?;
         self.is_far = BLOCK <= self.start - at;
         self.start = at;
         Some(at)

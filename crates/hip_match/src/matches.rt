@@ -104,7 +104,7 @@ impl<'h, P: Pattern> Ranges for Matches<'h, P> {
 
 impl<'h, P: OneChar> Matches<'h, P> {
     // What `next_back` does, and that no match is empty.
-    #[inline]
+    #[inline(always)]
     pub(crate) fn next_back_match(&mut self) -> Option<(usize, usize)>
         requires { ⟦<Matches<'h, P> as Ranges>⟧.ready self.old }
         ensures taken { Takes ⟦<Matches<'h, P> as Ranges>⟧ TakesLast self.old result self.new }
@@ -146,7 +146,7 @@ impl<'h, P: OneChar> Matches<'h, P> {
 }
 
 impl<'h, P: OneChar> RangesBack for Matches<'h, P> {
-    #[inline]
+    #[inline(always)]
     fn next_back(&mut self) -> Option<(usize, usize)> {
         self.next_back_match()
     }

@@ -68,7 +68,7 @@ impl<'h, P: Pattern> Ranges for Split<'h, P> {
 }
 
 impl<'h, P: OneChar> RangesBack for Split<'h, P> {
-    #[inline]
+    #[inline(always)]
     fn next_back(&mut self) -> Option<(usize, usize)> {
         if self.done {
             return None;

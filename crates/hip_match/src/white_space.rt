@@ -1,16 +1,15 @@
 //! The runs of a text between white space.
 ghost use Rattle.std.specs.Prelude.{◌≡◌};
-ghost use Rattle.std.proofs.Common.{ap, refl};
+ghost use Rattle.std.proofs.Common.{refl};
 ghost use Rattle.std.specs.Char.{is_whitespace};
-ghost use Rattle.hip_match.specs.AsciiSets.{in_set};
 ghost use Rattle.hip_match.specs.Characters.{char_ends};
 ghost use Rattle.hip_match.specs.CharLaws.{char_ends-spans, char_ends-one_start, char_ends-one_char};
 ghost use Rattle.hip_match.specs.Clones.{gaps_kept, made_kept};
 ghost use Rattle.hip_match.specs.Iterators.{Gives};
 ghost use Rattle.hip_match.specs.Marks.{Ahead, Behind};
-ghost use Rattle.hip_match.specs.Runs.{nonempty, split_ascii_whitespace, split_whitespace};
+ghost use Rattle.hip_match.specs.Runs.{nonempty, split_whitespace};
 
-use crate::ascii_set::AsciiSet;
+pub use crate::ascii_space::SplitAsciiWhitespace;
 use crate::byte_test::{ByteTest, SpaceLeads};
 use crate::chars::{CharSet, end_of, first_of, last_of, start_before};
 use crate::marks::Marks;
@@ -153,7 +152,7 @@ impl<R: Ranges> Ranges for Runs<R> {
 
     ghost rest = { λ s. nonempty (R.rest s.ranges) };
 
-    #[inline]
+    #[inline(always)]
     fn next(&mut self) -> Option<(usize, usize)> {
         while let Some((start, end)) = self.ranges.next() {
             if start < end {
@@ -170,7 +169,7 @@ impl<R: CloneRanges> CloneRanges for Runs<R> {
 }
 
 impl<R: RangesBack> RangesBack for Runs<R> {
-    #[inline]
+    #[inline(always)]
     fn next_back(&mut self) -> Option<(usize, usize)> {
         while let Some((start, end)) = self.ranges.next_back() {
             if start < end {
@@ -209,7 +208,7 @@ impl<'h> Ranges for SplitWhitespace<'h> {
 
     ghost rest = { λ s. ⟦<Runs<Split<'h, WhiteSpace>> as Ranges>⟧.rest s.runs };
 
-    #[inline]
+    #[inline(always)]
     fn next(&mut self) -> Option<(usize, usize)> {
         self.runs.next()
     }
@@ -222,54 +221,7 @@ impl<'h> CloneRanges for SplitWhitespace<'h> {
 }
 
 impl<'h> RangesBack for SplitWhitespace<'h> {
-    #[inline]
-    fn next_back(&mut self) -> Option<(usize, usize)> {
-        self.runs.next_back()
-    }
-}
-
-/// The longest runs of a text without ASCII white space, to which U+000B doesn't belong.
-#[derive(Clone, Drop)]
-pub struct SplitAsciiWhitespace<'h> {
-    runs: Runs<Split<'h, AsciiSet>>,
-}
-
-impl<'h> SplitAsciiWhitespace<'h> {
-    /// The runs of `text` between ASCII white space.
-    #[inline]
-    pub fn new(text: &'h str) -> Self
-        ensures ranges { Gives ⟦<SplitAsciiWhitespace<'h> as Ranges>⟧ result text.now
-            (split_ascii_whitespace text.now) }
-    {
-        SplitAsciiWhitespace {
-            runs: Runs {
-                ranges: Split::new(text, AsciiSet::whitespace()),
-            },
-        }
-    }
-}
-
-impl<'h> Ranges for SplitAsciiWhitespace<'h> {
-    ghost ready = { λ s. ⟦<Runs<Split<'h, AsciiSet>> as Ranges>⟧.ready s.runs };
-
-    ghost text = { λ s. s.runs.ranges.matches.text.now };
-
-    ghost rest = { λ s. ⟦<Runs<Split<'h, AsciiSet>> as Ranges>⟧.rest s.runs };
-
-    #[inline]
-    fn next(&mut self) -> Option<(usize, usize)> {
-        self.runs.next()
-    }
-}
-
-impl<'h> CloneRanges for SplitAsciiWhitespace<'h> {
-    ghost clone_keeps = { λ _ _ is. made_kept {f = nonempty} refl
-        (gaps_kept (is.0 (λ _ _ same. record { searchable = λ h. h; occurs = ap (λ s. char_ends (in_set s)) same }))
-        is.1.0 is.1.1.0 is.1.1.1) };
-}
-
-impl<'h> RangesBack for SplitAsciiWhitespace<'h> {
-    #[inline]
+    #[inline(always)]
     fn next_back(&mut self) -> Option<(usize, usize)> {
         self.runs.next_back()
     }

@@ -5,7 +5,7 @@ use Rattle.hip_match.proofs.marks.few.Goals as goal
 
 pub returns : goal.returns
 returns g c =
-    let test = g.T.ByteTest.passes c.args.test.now in
+    let test = g.T.ByteTest.passes c.args.test in
     let t = c.args.bytes.now in
     let n = length t in
     let long = c.if-len-lt-LANES.false in
