@@ -7,7 +7,8 @@ use Rattle.std.proofs.lemmas.Nat.Bits.{bit_at-zero, bit_at_above, bit_at_or}
 use Rattle.std.specs.Int.{bit_at}
 use Rattle.std.specs.Option.{option_map}
 use Rattle.memchr.specs.Find.{IsFirst, IsFirstByte, IsLast, NoneAfter, NoneBefore, Nowhere, Passes}
-use Rattle.hip_match.specs.Marks.{Ahead, AreBefore, AreBlock, AreFew, AreLanes, AreUpTo, Behind, IsHighest, IsLowest}
+use Rattle.hip_match.specs.Bits.{IsHighest, IsLowest}
+use Rattle.hip_match.specs.Marks.{Ahead, AreBefore, AreBlock, AreFew, AreLanes, AreUpTo, Behind}
 
 -- ---- a bit that tells a test
 

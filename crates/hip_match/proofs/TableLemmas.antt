@@ -7,7 +7,7 @@ use Rattle.std.proofs.lemmas.Bool.{agree_below, agree_below_at, cases_eq, cases_
 use Rattle.std.proofs.lemmas.Nat.{and_le_r, and_mask, pow_pos}
 use Rattle.std.proofs.lemmas.Nat.Bits.{and_pow, bit_at-lt, bit_at-pow_other, bit_at-pow_same, bit_at_ones, bit_at_or, bit_at_xor}
 use Rattle.std.specs.Int.Bits.{bit_xor}
-use Rattle.std.proofs.lemmas.Simd.{zip2_splat}
+use Rattle.std.proofs.lemmas.Simd.{get_or-zip2, zip2_splat}
 use lib.Lanes.{zip2}
 use Rattle.std.proofs.lemmas.List.{get_or-map, get_or-set_other}
 use Rattle.std.proofs.lemmas.Grind.{get_or-set_at}
@@ -133,4 +133,23 @@ others rows c long = ⊎_elim
     (λ (wide : 128 ≤ c).
     let out : nat_lt c 128 ≡ false = grind (arith, nat_tests) in
     in_rows-low _ c wide ∙ ap (λ b. b && not (in_rows rows c)) (sym out))
+    (cases_lt c 128)
+
+either : (b d : ℕ) → b < 2 → d < 2 → (max b d == 1) ≡ (b == 1 || d == 1)
+either b d one two = grind (arith, nat_tests)
+
+-- the bits of both
+pub joined : (rows others : List ℕ) (c : ℕ) → length rows ≡ 16 → length others ≡ 16 → in_rows (zip2 bit_or rows others) c ≡ (in_rows rows c || in_rows others c)
+joined rows others c long wide = ⊎_elim
+    (λ (low : c < 128).
+    let inside : nat_lt c 128 ≡ true = grind (arith, nat_tests) in
+    let i = c % 16 in
+    let k = c / 16 in
+    let n = get_or rows i 0 in
+    let m = get_or others i 0 in
+    ap (λ b. b && bit_at (get_or (zip2 bit_or rows others) i 0) k == 1) inside
+    ∙ ap (λ x. bit_at x k == 1) (get_or-zip2 bit_or rows others i 0 0 0 (omega (arith, long)) (omega (arith, wide)))
+    ∙ ap (λ x. x == 1) (bit_at_or n m k) ∙ either (bit_at n k) (bit_at m k) (bit_at-lt n k) (bit_at-lt m k)
+    ∙ ap (λ b. (b && bit_at n k == 1) || (b && bit_at m k == 1)) (sym inside))
+    (λ (high : 128 ≤ c). in_rows-low _ c high ∙ sym (in_rows-low others c high) ∙ ap (λ b. b || in_rows others c) (sym (in_rows-low rows c high)))
     (cases_lt c 128)

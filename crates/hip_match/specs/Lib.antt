@@ -11,6 +11,7 @@ pub mod Trims
 pub mod Draw
 pub mod Joined
 pub mod Answers
+pub mod Bits
 pub mod Marks
 pub mod AsciiSets
 pub mod Searchers

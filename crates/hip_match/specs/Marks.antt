@@ -7,18 +7,6 @@ use Rattle.hip_match.specs.Characters.{char_ends}
 use Rattle.hip_match.specs.Leftmost.{leftmost_between}
 use Rattle.hip_match.specs.Pieces.{gaps}
 
--- ---- bits
-
-pub record IsLowest (m r : ℕ) : Type 0 where
-  pub bound : r < 64
-  pub set : bit_at m r ≡ 1
-  pub below : (k : ℕ) → k < r → bit_at m k ≡ 0
-
-pub record IsHighest (m r : ℕ) : Type 0 where
-  pub bound : r < 64
-  pub set : bit_at m r ≡ 1
-  pub above : (k : ℕ) → r < k → bit_at m k ≡ 0
-
 -- ---- tests
 
 -- the row of a byte, told by its low four bits, has the column of its high four

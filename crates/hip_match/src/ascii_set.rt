@@ -1,6 +1,7 @@
 //! Sets of characters of ASCII.
-ghost use Rattle.std.specs.Prelude.{◌≡◌, ◌==◌, ◌<◌, ◌&&◌, ◌||◌, ℕ, false, not};
-ghost use Rattle.std.specs.Char.{is_ascii, is_ascii_alphanumeric, is_ascii_whitespace};
+ghost use Rattle.std.specs.Prelude.{◌≡◌, ◌==◌, ◌+◌, ◌<◌, ◌≤◌, ◌&&◌, ◌||◌, ℕ, false, not, length, slice_index, if◌then◌else◌};
+ghost use Rattle.std.specs.Int.{bit_at};
+ghost use Rattle.std.specs.Char.{is_ascii, is_ascii_alphabetic, is_ascii_alphanumeric, is_ascii_whitespace};
 ghost use Rattle.hip_match.specs.AsciiSets.{in_set};
 ghost use Rattle.hip_match.specs.Characters.{char_ends};
 ghost use Rattle.hip_match.specs.CharLaws.{char_ends-spans, char_ends-one_start, char_ends-one_char};
@@ -8,7 +9,7 @@ ghost use Rattle.hip_match.specs.Marks.{Ahead, Behind, in_rows};
 
 use crate::byte_test::{AsciiTable, ByteSearch, ByteTest};
 use crate::chars::{CharSet, end_of, start_before};
-use crate::marks::Marks;
+use crate::marks::{Marks, block};
 use crate::pattern::{ClonePattern, DoubleEndedPattern, OneChar, Pattern, ReversePattern};
 use std::simd::prelude::*;
 
@@ -26,6 +27,20 @@ impl AsciiSet {
     {
         AsciiSet {
             table: AsciiTable { rows: [0; 16] },
+        }
+    }
+
+    /// The letters, as `char::is_ascii_alphabetic` tells them.
+    #[inline]
+    pub fn alphabetic() -> Self
+        ensures { in_set result ≡ is_ascii_alphabetic }
+    {
+        AsciiSet {
+            table: AsciiTable {
+                rows: [
+                    160, 240, 240, 240, 240, 240, 240, 240, 240, 240, 240, 80, 80, 80, 80, 80,
+                ],
+            },
         }
     }
 
@@ -76,6 +91,19 @@ impl AsciiSet {
         }
     }
 
+    /// The characters of both.
+    #[inline]
+    pub fn union(self, other: Self) -> Self
+        ensures { (c : ℕ) → in_set result c ≡ (in_set self c || in_set other c) }
+    {
+        let rows = u8x16::from_array(self.table.rows) | u8x16::from_array(other.table.rows);
+        AsciiSet {
+            table: AsciiTable {
+                rows: rows.to_array(),
+            },
+        }
+    }
+
     /// The other characters of ASCII.
     #[inline]
     pub fn complement(self) -> Self
@@ -87,6 +115,18 @@ impl AsciiSet {
                 rows: rows.to_array(),
             },
         }
+    }
+}
+
+impl AsciiSet {
+    /// Which of the 64 bytes from `at` on are characters of the set, the first by the lowest bit: for a scanner of one's own.
+    #[inline(always)]
+    pub fn marks(self, bytes: &[u8], at: usize) -> u64
+        requires { at + 64 ≤ length bytes.now }
+        ensures { (k : ℕ) → k < 64
+            → bit_at result k ≡ (if in_set self (slice_index bytes.now (at + k)) then 1 else 0) }
+    {
+        block(&self.table, bytes, at)
     }
 }
 

@@ -1,11 +1,11 @@
 //! Numbers of 64 bits, bit by bit.
 ghost use Rattle.std.specs.Prelude.{◌≡◌, ◌≢◌, ◌-◌, ◌<◌, ◌≤◌, ◌^◌, ℕ, MatchOption};
 ghost use Rattle.std.specs.Int.{bit_at};
-ghost use Rattle.hip_match.specs.Marks.{IsHighest, IsLowest};
+ghost use Rattle.hip_match.specs.Bits.{IsHighest, IsLowest};
 
-// The lowest bit that is set.
+/// The lowest bit that is set.
 #[inline(always)]
-pub(crate) fn lowest(m: u64) -> Option<u32>
+pub fn lowest(m: u64) -> Option<u32>
     ensures { MatchOption result (m ≡ 0) (IsLowest m) }
 {
     if m == 0 {
@@ -23,9 +23,9 @@ pub(crate) fn highest(m: u64) -> Option<u32>
     if m == 0 { None } else { Some(m.ilog2()) }
 }
 
-// All bits but the lowest that is set.
+/// All bits but the lowest that is set.
 #[inline(always)]
-pub(crate) fn without_lowest(m: u64) -> u64
+pub fn without_lowest(m: u64) -> u64
     ensures lowest { (r : ℕ) → IsLowest m r → bit_at result r ≡ 0 }
     ensures others { (r k : ℕ) → IsLowest m r → k ≢ r → bit_at result k ≡ bit_at m k }
 {

@@ -1,10 +1,12 @@
 //! Finding text: **each walk is a list of ranges of one text, declared as Rust's `str` tells it, and whatever is drawn of it from
 //! either end is what that list has there.**
 //!
-//! - [`Pattern`] is what can be looked for: a `char`, `&str`, `&&str`, `&String`, `&[char]`, `&[char; N]`, and by a [`CharPred`] a
-//!   closure on characters, whose answers are a [`Chosen`] list, made by [`choose_by`] where types are open. [`ReversePattern`] is found
-//!   from the end too, [`DoubleEndedPattern`] may be trimmed from both ends, each match of a [`OneChar`] is one character, and the
-//!   clones of a [`ClonePattern`] are found where it is.
+//! - [`Pattern`] is what can be looked for: a `char`, `&str`, `&&str`, `&String`, `&[char]`, `&[char; N]`, an [`AsciiSet`], and by a
+//!   [`CharPred`] a closure on characters, whose answers are a [`Chosen`] list, made by [`choose_by`] where types are open.
+//!   [`ReversePattern`] is found from the end too, [`DoubleEndedPattern`] may be trimmed from both ends, each match of a [`OneChar`] is
+//!   one character, and the clones of a [`ClonePattern`] are found where it is.
+//! - [`marks`] finds the bytes that pass a test 64 at a time, from either end, for every walk by characters; [`byte_test`] has the
+//!   tests, and [`bits`] what is asked of the bits of a number.
 //! - [`Ranges`] is a walk from its front, [`RangesBack`] from both ends, and the clones of [`CloneRanges`] give what they do: [`Split`],
 //!   [`SplitInclusive`], [`SplitTerminator`], [`SplitN`], [`Matches`] and [`MatchIndices`] from a text's front, [`RSplit`],
 //!   [`RSplitTerminator`], [`RSplitN`], [`RMatches`] and [`RMatchIndices`] from its end, [`Lines`], [`SplitWhitespace`] and
@@ -19,14 +21,15 @@
 //! The words of the contracts stand in `specs/`: `Occurrence` (where a pattern occurs, and what a search gives), `Characters` and `Texts`
 //! (where sets of characters and texts occur), `Leftmost` and `Rightmost` (the lists of matches), `Pieces` (the parts between matches, and
 //! lists in order), `Runs` (lines, and runs between white space), `Trims` (what is removed from the ends), `Draw` (what a script draws),
-//! `Joined` (pieces put together again), `Answers` (what a closure answers), `Ready` and `Marks` (what a walk keeps of its places),
-//! `Clones` (what its clone keeps) and `Iterators` (what is said of a walk by its type's own words); what they give for texts as one writes them down stands in `Rows`, and `CharLaws` and `TextLaws` have
-//! what holds of the places where characters and texts occur.
+//! `Joined` (pieces put together again), `Answers` (what a closure answers), `AsciiSets` (the characters of a set), `Bits` (which bit is
+//! the lowest), `Ready`, `Marks` and `Searchers` (what a walk keeps of its places), `Clones` (what its clone keeps) and `Iterators` (what
+//! is said of a walk by its type's own words); what they give for texts as one writes them down stands in `Rows`, and `CharLaws` and
+//! `TextLaws` have what holds of the places where characters and texts occur.
 #![tactic(auto)]
 
 pub mod ascii_set;
 mod ascii_space;
-mod bits;
+pub mod bits;
 mod boundaries;
 pub mod byte_test;
 mod chars;

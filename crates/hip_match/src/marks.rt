@@ -16,7 +16,7 @@ const LANES: usize = 16;
 
 // The marks of the 64 places from `at` on.
 #[inline(always)]
-fn block<T: ByteTest>(test: &T, bytes: &[u8], at: usize) -> u64
+pub(crate) fn block<T: ByteTest>(test: &T, bytes: &[u8], at: usize) -> u64
     requires { at + 64 ≤ length bytes.now }
     ensures { AreBlock (T.passes test.now) bytes.now at result }
 {

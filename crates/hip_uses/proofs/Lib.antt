@@ -1,7 +1,5 @@
-pub mod Gaps
 pub mod Holes
 pub mod Interned
-pub mod LaneLemmas
 pub mod Little
 pub mod Published
 pub mod Pushed

@@ -1,33 +1,34 @@
 -- Bits that tell where runs of a class end.
-use Rattle.std.proofs.Common.{◌≡◌, ◌∙◌, ◌≢◌, ℕ, zero, suc, ◌+◌, ◌-◌, ◌*◌, ◌%◌, ◌/◌, ◌^◌, ◌<◌, ◌≤◌, min, max, Bool, true, false, cond, List, map, length, get_or, bit_and, bit_or, ap, sym, subst, refl, arith, ⊎_elim}
-use Rattle.std.proofs.Math.Nat.{mod-eq_of_lt}
-use Rattle.std.proofs.Math.Pow.{pow-lt}
+use Rattle.std.proofs.Common.{◌≡◌, ◌∙◌, ◌≢◌, ℕ, zero, suc, ◌+◌, ◌-◌, ◌*◌, ◌%◌, ◌/◌, ◌^◌, ◌<◌, ◌≤◌, min, max, Bool, true, false, not, cond, List, map, length, get_or, bit_and, bit_or, ap, sym, subst, refl, arith, ⊎_elim}
 use Rattle.std.proofs.lemmas.Bool.{cases_lt}
 use Rattle.std.proofs.lemmas.List.FromFn.{get_or-map-range_with_len}
-use Rattle.std.proofs.lemmas.Nat.Bits.{bit_at-lt, bit_at-suc, bit_at-zero, bit_at_and, bit_at_ones, bit_at_ones_above, bit_at_or, bit_at_xor, bit_at-pow_same, bit_at-pow_other, bit_at-trailing_zeros}
-use Rattle.std.specs.Int.{bit_at, trailing_zeros, w64}
+use Rattle.std.proofs.lemmas.Nat.Bits.{bit_at-suc, bit_at-zero, bit_at_and, bit_at_ones, bit_at_ones_above, bit_at_or, bit_at_xor}
+use Rattle.std.specs.Int.{bit_at}
 use Rattle.std.specs.Int.Bits.{bit_xor}
 use Rattle.std.specs.List.{range_with_len}
 use Rattle.hip_uses.specs.declared.tokens.Class.{Class}
 use Rattle.hip_uses.specs.declared.tokens.Class.TheVariants.{Word, Digits, Space, Mark}
 use Rattle.hip_uses.specs.Token.{IsRun, class_of, is_word_or_digit, is_word_or_space}
-use Rattle.hip_uses.specs.Turns.{Ahead, AreMarks, AreTurns, IsNextTurn, IsTail, NoTurn, Tells}
+use Rattle.hip_uses.specs.Turns.{Ahead, AreTurns, IsNextTurn, IsTail, NoTurn, Tells}
+use Rattle.hipstr.specs.AsciiSets.{in_set}
+use Rattle.hipstr.specs.Bits.{IsLowest}
+use Rattle.hip_match.specs.declared.ascii_set.AsciiSet.{AsciiSet}
 
--- the class by two tests
+-- the class by two sets: the white space and the marks, and the digits and the marks
 abbrev of_two : Bool → Bool → Class
-of_two true true = Word
-of_two true false = Digits
-of_two false true = Space
-of_two false false = Mark
+of_two false false = Word
+of_two false true = Digits
+of_two true false = Space
+of_two true true = Mark
 
 by_two : ℕ → Class
-by_two byte = of_two (is_word_or_digit byte) (is_word_or_space byte)
+by_two byte = of_two (not (is_word_or_digit byte)) (not (is_word_or_space byte))
 
 same_classes : map by_two (range_with_len 0 256) ≡ map class_of (range_with_len 0 256)
 unfolding by_two
 same_classes = refl
 
-class_by_two : (byte : ℕ) → byte < 256 → of_two (is_word_or_digit byte) (is_word_or_space byte) ≡ class_of byte
+class_by_two : (byte : ℕ) → byte < 256 → of_two (not (is_word_or_digit byte)) (not (is_word_or_space byte)) ≡ class_of byte
 unfolding by_two
 class_by_two byte low =
     sym (get_or-map-range_with_len by_two 0 256 byte byte Mark low (omega arith))
@@ -64,32 +65,30 @@ two_marks m n k low =
     one : (m : ℕ) → bit_at (bit_xor m (m / 2)) k ≡ (bit_at m k + bit_at m (suc k)) % 2
     one m = bit_at_xor m (m / 2) k ∙ ap (λ b. (bit_at m k + b) % 2) (sym (bit_at-suc m k))
 
-pub turns-told : (t : List ℕ) (at m n : ℕ) → ((k : ℕ) → get_or t k 0 < 256) → AreMarks is_word_or_digit t at m → AreMarks is_word_or_space t at n
+-- bit k says whether the byte at `at + k` belongs to a set
+abbrev AreMarks : AsciiSet → List ℕ → ℕ → ℕ → Type 0
+AreMarks set text at marks = (k : ℕ) → k < 64 → bit_at marks k ≡ cond (in_set set (get_or text (at + k) 0)) 1 0
+
+pub turns-told : (t : List ℕ) (at m n : ℕ) (spaces digits : AsciiSet) → ((k : ℕ) → get_or t k 0 < 256)
+    → ((byte : ℕ) → byte < 256 → in_set spaces byte ≡ not (is_word_or_digit byte)) → ((byte : ℕ) → byte < 256 → in_set digits byte ≡ not (is_word_or_space byte))
+    → AreMarks spaces t at m → AreMarks digits t at n
     → AreTurns t at (bit_and (bit_or (bit_xor m (m / 2)) (bit_xor n (n / 2))) (2 ^ 63 - 1))
-turns-told t at m n bytes digits spaces k low =
+turns-told t at m n spaces digits bytes one other ms ns k low =
     let here = get_or t (at + k) 0 in
     let next = get_or t (at + k + 1) 0 in
     let place : at + suc k ≡ at + k + 1 = omega arith in
-    let both = told (is_word_or_digit here) (is_word_or_space here) (is_word_or_digit next) (is_word_or_space next) _
+    let both = told (in_set spaces here) (in_set digits here) (in_set spaces next) (in_set digits next) _
     (two_marks m n k low
-    ∙ (λ i. min (max ((digits k (omega arith) i + (digits (suc k) (omega arith) ∙ ap (λ j. cond (is_word_or_digit (get_or t j 0)) 1 0) place) i) % 2)
-    ((spaces k (omega arith) i + (spaces (suc k) (omega arith) ∙ ap (λ j. cond (is_word_or_space (get_or t j 0)) 1 0) place) i) % 2)) 1)) in
-    let here_is = class_by_two here (bytes (at + k)) in
-    let next_is = class_by_two next (bytes (at + k + 1)) in
+    ∙ (λ i. min (max ((ms k (omega arith) i + (ms (suc k) (omega arith) ∙ ap (λ j. cond (in_set spaces (get_or t j 0)) 1 0) place) i) % 2)
+    ((ns k (omega arith) i + (ns (suc k) (omega arith) ∙ ap (λ j. cond (in_set digits (get_or t j 0)) 1 0) place) i) % 2)) 1)) in
+    let class : (byte : ℕ) → byte < 256 → of_two (in_set spaces byte) (in_set digits byte) ≡ class_of byte = λ byte fits.
+    ap (λ b. of_two b (in_set digits byte)) (one byte fits) ∙ ap (λ b. of_two (not (is_word_or_digit byte)) b) (other byte fits) ∙ class_by_two byte fits in
+    let here_is = class here (bytes (at + k)) in
+    let next_is = class next (bytes (at + k + 1)) in
     (λ zero. sym here_is ∙ both.0 zero ∙ next_is, λ one same. both.1 one (here_is ∙ same ∙ sym next_is))
 
 pub turns-few : (a k : ℕ) → 63 ≤ k → bit_at (bit_and a (2 ^ 63 - 1)) k ≡ 0
 turns-few a k high = bit_at_and a (2 ^ 63 - 1) k ∙ omega (arith, bit_at_ones_above 63 k high)
-
--- a bit by itself
-pub one_bit : (r : ℕ) → r < 64 → 1 * 2 ^ r % 2 ^ 64 ≡ 2 ^ r
-one_bit r low = ap (λ x. x % 2 ^ 64) (omega arith) ∙ mod-eq_of_lt (pow-lt low)
-
-xor_same : (m r : ℕ) → bit_at m r ≡ 1 → bit_at (bit_xor m (2 ^ r)) r ≡ 0
-xor_same m r one = bit_at_xor m (2 ^ r) r ∙ omega (arith, one, bit_at-pow_same r)
-
-xor_other : (m r k : ℕ) → k ≢ r → bit_at (bit_xor m (2 ^ r)) k ≡ bit_at m k
-xor_other m r k apart = bit_at_xor m (2 ^ r) k ∙ omega (arith, bit_at-pow_other r k apart, bit_at-lt m k)
 
 module _ (t : List ℕ) (from upto m : ℕ) (h : Ahead t from upto m) where
   pub none-ahead : m ≡ 0 → NoTurn t from upto
@@ -114,39 +113,62 @@ module _ (t : List ℕ) (from upto m : ℕ) (h : Ahead t from upto m) where
         subst (λ i. Tells t k (bit_at n i)) index (subst (λ i. Tells t i (bit_at n j)) place (turns j (omega arith)));
   }
 
-  pub turn-found : 0 < m → m < 2 ^ 64 → (trailing_zeros w64 m < 63) × (63 ≤ upto) × IsNextTurn t from (upto - 63 + trailing_zeros w64 m)
-      × Ahead t (upto - 63 + trailing_zeros w64 m + 1) upto (bit_xor m (2 ^ trailing_zeros w64 m))
-  turn-found some fits =
-      let r = trailing_zeros w64 m in
-      let first = bit_at-trailing_zeros w64 m some fits in
-      let low : r < 63 = ⊎_elim (λ (lt : r < 63). lt) (λ (ge : 63 ≤ r). absurd (omega (arith, first.1, h.few r ge))) (cases_lt r 63) in
-      let full = h.full some in
-      let inside = h.inside (omega (arith, full)) in
-      let at = upto - 63 + r in
-      let after : from ≤ at = ⊎_elim (λ (lt : r + upto < from + 63). absurd (omega (arith, first.1, h.taken r lt))) (λ (ge : from + 63 ≤ r + upto). omega (arith, ge, full)) (cases_lt (r + upto) (from + 63)) in
-      let index : at + 63 - upto ≡ r = omega (arith, full) in
-      let told_ : Tells t at (bit_at m r) = subst (λ i. Tells t at (bit_at m i)) index (h.left at after (omega (arith, full, low)) (omega (arith, full))) in
-      let before : NoTurn t from at = λ k lo hi. ⊎_elim (λ (gone : k + 63 < upto). h.between k lo gone)
-      (λ (ge : upto ≤ k + 63). (h.left k lo (omega (arith, full, low)) ge).0 (first.2 (k + 63 - upto) (omega (arith, full))))
-      (cases_lt (k + 63) upto) in (
-        low,
-        full,
-        record { after = after; within = omega (arith, full, low, inside); is = told_.1 first.1; first = before },
+  -- the first turn, which is passed
+  module _ (r n : ℕ) (first : IsLowest m r) (gone : bit_at n r ≡ 0) (others : (k : ℕ) → k ≢ r → bit_at n k ≡ bit_at m k) where
+    some : 0 < m
+    some = ⊎_elim (λ (lt : 0 < m). lt) (λ (le : m ≤ 0). let none : m ≡ 0 = omega arith in absurd (omega (arith, first.set, ap (λ x. bit_at x r) none, bit_at-zero r))) (cases_lt 0 m)
+
+    pub turn-low : r < 63
+    turn-low = ⊎_elim (λ (lt : r < 63). lt) (λ (ge : 63 ≤ r). absurd (omega (arith, first.set, h.few r ge))) (cases_lt r 63)
+
+    pub turn-full : 63 ≤ upto
+    turn-full = h.full some
+
+    at : ℕ
+    at = upto - 63 + r
+
+    after : from ≤ at
+    unfolding at
+    after = let full = turn-full in ⊎_elim (λ (lt : r + upto < from + 63). absurd (omega (arith, first.set, h.taken r lt))) (λ (ge : from + 63 ≤ r + upto). omega arith) (cases_lt (r + upto) (from + 63))
+
+    pub turn-found : IsNextTurn t from (upto - 63 + r)
+    unfolding at
+    turn-found =
+        let full = turn-full in
+        let low = turn-low in
+        let inside = h.inside (omega arith) in
+        let past = after in
+        let index : at + 63 - upto ≡ r = omega arith in
+        let told_ : Tells t at (bit_at m r) = subst (λ i. Tells t at (bit_at m i)) index (h.left at past (omega arith) (omega arith)) in
+        record {
+          after = past;
+          within = omega arith;
+          is = told_.1 first.set;
+          first = λ k lo hi. ⊎_elim (λ (far : k + 63 < upto). h.between k lo far)
+              (λ (ge : upto ≤ k + 63). (h.left k lo (omega arith) ge).0 (first.below (k + 63 - upto) (omega arith)))
+              (cases_lt (k + 63) upto);
+        }
+
+    pub turn-passed : Ahead t (upto - 63 + r + 1) upto n
+    unfolding at
+    turn-passed =
+        let full = turn-full in
+        let low = turn-low in
+        let past = after in
         record {
           within = h.within;
           inside = h.inside;
           full = λ more. full;
-          reached = λ more. omega (arith, full, low);
-          few = λ j high. xor_other m r j (λ e. omega (arith, e, low, high)) ∙ h.few j high;
-          between = λ k lo hi. absurd (omega (arith, full));
-          taken = λ j lo. ⊎_elim (λ (lt : j < r). xor_other m r j (λ e. omega (arith, e, lt)) ∙ first.2 j lt)
-              (λ (ge : r ≤ j). let same : j ≡ r = omega (arith, full) in ap (bit_at (bit_xor m (2 ^ r))) same ∙ xor_same m r first.1)
+          reached = λ more. omega arith;
+          few = λ j high. others j (λ e. omega arith) ∙ h.few j high;
+          between = λ k lo hi. absurd (omega arith);
+          taken = λ j lo. ⊎_elim (λ (lt : j < r). others j (λ e. omega arith) ∙ first.below j lt)
+              (λ (ge : r ≤ j). let same : j ≡ r = omega arith in ap (bit_at n) same ∙ gone)
               (cases_lt j r);
           left = λ k lo hi ge.
-              let apart : k + 63 - upto ≢ r = λ e. omega (arith, full, e) in
-              subst (Tells t k) (sym (xor_other m r (k + 63 - upto) apart)) (h.left k (omega (arith, after)) hi ge);
-        },
-      )
+              let apart : k + 63 - upto ≢ r = λ e. omega arith in
+              subst (Tells t k) (sym (others (k + 63 - upto) apart)) (h.left k (omega arith) hi ge);
+        }
 
 pub ahead-new : (t : List ℕ) → Ahead t 0 0 0
 ahead-new t = record {

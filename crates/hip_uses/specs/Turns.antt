@@ -1,11 +1,7 @@
 -- Where runs of a class end, as the bits of a number. Only private functions cite it.
-use Rattle.std.specs.Prelude.{◌≡◌, ◌≢◌, ℕ, ◌+◌, ◌-◌, ◌<◌, ◌≤◌, Bool, List, length, slice_index, if◌then◌else◌}
+use Rattle.std.specs.Prelude.{◌≡◌, ◌≢◌, ℕ, ◌+◌, ◌-◌, ◌<◌, ◌≤◌, List, length, slice_index}
 use Rattle.std.specs.Int.{bit_at}
 use Rattle.hip_uses.specs.Token.{class_of}
-
--- bit k says whether the byte at `at + k` passes the test
-abbrev pub AreMarks : (ℕ → Bool) → List ℕ → ℕ → ℕ → Type 0
-AreMarks test text at marks = (k : ℕ) → k < 64 → bit_at marks k ≡ (if test (slice_index text (at + k)) then 1 else 0)
 
 -- the byte at k is of another class than the next
 abbrev pub IsTurn : List ℕ → ℕ → Type 0

@@ -15,7 +15,6 @@ use std::hash::{BuildHasher, BuildHasherDefault, FoldHasher};
 use std::marker::Model;
 
 mod adding;
-mod gaps;
 pub mod words;
 
 /// The different texts, in the order in which they came.

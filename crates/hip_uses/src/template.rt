@@ -2,7 +2,6 @@
 ghost use Rattle.std.specs.Prelude.{◌≡◌, ◌++◌, IfErr, IfOk, IfSome, IsTrue, MatchOption};
 ghost use Rattle.std.specs.Str.{IsUtf8};
 ghost use Rattle.hipstr.specs.Parted.{IsParted, Lacks};
-ghost use Rattle.hip_uses.specs.Template.{opening as opening_sign, closing as closing_sign};
 ghost use Rattle.hip_uses.specs.Template.{FirstHole, IsEnd, IsParsed, LiesBefore, ParseFails, written};
 
 pub use crate::fault::TemplateFault;
@@ -54,34 +53,14 @@ impl<'b, B: Backend> Template<'b, B> {
     }
 }
 
-/// A sign of a hole, `{{` or `}}`, prepared once for all searches of a template.
-#[derive(Drop)]
-struct Sign {
-    text: &'static str,
-    searcher: <&'static str as Pattern>::Searcher,
-}
-
-impl Sign {
-    fn new(text: &'static str) -> Self
-        ensures text { result.text.now ≡ text.entry.now }
-        ensures prepared { ⟦<&'static str as Pattern>⟧.is_searcher result.text result.searcher }
-    {
-        Sign {
-            text,
-            searcher: text.searcher(),
-        }
-    }
-
-    /// What lies before the first occurrence and what lies behind it, if there is one.
-    fn part<'t>(&self, text: &'t str) -> Option<(&'t str, &'t str)>
-        requires { ⟦<&'static str as Pattern>⟧.is_searcher self.now.text self.now.searcher }
-        ensures parts { MatchOption result (Lacks self.now.text.now text.now)
-            (λ parts. IsParted self.now.text.now text.now parts.0.now parts.1.now) }
-        ensures utf8 { IfSome result (λ parts. IsUtf8 parts.1.now) }
-    {
-        let (start, end) = self.text.next_match_by(&self.searcher, text, 0)?;
-        Some((&text[..start], &text[end..]))
-    }
+/// What lies before the first occurrence of a sign and what lies behind it, if there is one.
+fn part<'t>(sign: &str, text: &'t str) -> Option<(&'t str, &'t str)>
+    ensures parts { MatchOption result (Lacks sign.now text.now)
+        (λ parts. IsParted sign.now text.now parts.0.now parts.1.now) }
+    ensures utf8 { IfSome result (λ parts. IsUtf8 parts.1.now) }
+{
+    let (start, end) = sign.next_match(text, 0)?;
+    Some((&text[..start], &text[end..]))
 }
 
 /// A part of a template, which lies before this place, as a part of it.
@@ -103,21 +82,15 @@ fn first_hole<'b, 't, B: Backend>(
     alloc: Global,
     template: &HipStr<'b, B>,
     rest: &'t str,
-    opening: &Sign,
-    closing: &Sign,
 ) -> Result<Option<(Hole<'b, B>, &'t str)>, TemplateFault<'b, B>>
-    requires end { IsEnd template.now.items rest.now }
-    requires opening { opening.now.text.now ≡ opening_sign }
-    requires closing { closing.now.text.now ≡ closing_sign }
-    requires opening_prepared { ⟦<&'static str as Pattern>⟧.is_searcher opening.now.text opening.now.searcher }
-    requires closing_prepared { ⟦<&'static str as Pattern>⟧.is_searcher closing.now.text closing.now.searcher }
+    requires { IsEnd template.now.items rest.now }
     ensures hole { FirstHole rest.now result }
     ensures utf8 { IfOk result (λ found. IfSome found (λ parts. IsUtf8 parts.1.now)) }
 {
-    let Some((before, behind)) = opening.part(rest) else {
+    let Some((before, behind)) = part("{{", rest) else {
         return Ok(None);
     };
-    let Some((name, after)) = closing.part(behind) else {
+    let Some((name, after)) = part("}}", behind) else {
         let behind = part_before(alloc, template, behind, template.len())?;
         return Err(TemplateFault::Unclosed(behind));
     };
@@ -158,10 +131,9 @@ pub fn parse<'b, B: Backend>(
         written parsed.holes.items ++ parsed.rest.items ≡ template.now.items) }
     ensures fault { IfErr result (ParseFails template.now.items) }
 {
-    let (opening, closing) = (Sign::new("{{"), Sign::new("}}"));
     let mut holes = Vec::new(alloc);
     let mut rest = template.as_str();
-    while let Some((hole, after)) = first_hole(alloc, template, rest, &opening, &closing)? {
+    while let Some((hole, after)) = first_hole(alloc, template, rest)? {
         holes.push(hole)?;
         rest = after;
     }

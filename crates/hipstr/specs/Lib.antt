@@ -35,6 +35,8 @@ pub use Rattle.hip_bytes.specs.Transfer
 pub use Rattle.hip_text.specs.BorshText
 pub use Rattle.hip_names.specs.JsonPath
 pub use Rattle.hip_match.specs.Answers
+pub use Rattle.hip_match.specs.AsciiSets
+pub use Rattle.hip_match.specs.Bits
 pub use Rattle.hip_match.specs.CharLaws
 pub use Rattle.hip_match.specs.Characters
 pub use Rattle.hip_match.specs.Clones

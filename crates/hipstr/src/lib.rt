@@ -18,6 +18,7 @@
 //! answer, what it leaves, its cost) and `Run` (many commands).
 #![tactic(auto)]
 
+pub mod bits;
 pub mod bytes;
 mod command;
 pub mod laws;

@@ -5,10 +5,9 @@ ghost use Rattle.hip_uses.specs.Number.{AreNumbers, all_interned};
 ghost use Rattle.hip_uses.specs.Words.{filled_parts, is_gap, parts_between};
 ghost use Rattle.hip_uses.specs.declared.fault.InternFault.TheVariants.{TooMany};
 
-use crate::intern::gaps::Gaps;
 use crate::intern::{InternFault, Interner};
 use hipstr::Backend;
-use hipstr::pattern::{Pattern, Ranges, Split};
+use hipstr::pattern::{AsciiSet, Pattern, Ranges, Split};
 use hipstr::string::HipStr;
 use std::alloc::Global;
 use std::hash::BuildHasher;
@@ -32,7 +31,7 @@ impl<'b, B: Backend, S: BuildHasher> Interner<'b, B, S> {
         self.intern_at(alloc, text, Split::new(text.as_str(), pattern))
     }
 
-    /// The same of the parts at ranges of the text. A part is cut only where it has no number yet.
+    /// The numbers of the parts at ranges of the text that aren't empty. A part is cut only where it has no number yet.
     fn intern_at<I: Ranges + Drop>(
         &mut self,
         alloc: Global,
@@ -70,6 +69,7 @@ impl<'b, B: Backend, S: BuildHasher> Interner<'b, B, S> {
         ensures kept { take (length self.old) self.new ≡ self.old }
         ensures too_many { IsErrOf result TooMany → 2 ^ 32 ≤ length self.new }
     {
-        self.intern_parts(alloc, text, Gaps)
+        let gaps = AsciiSet::alphanumeric().complement();
+        self.intern_parts(alloc, text, gaps)
     }
 }
