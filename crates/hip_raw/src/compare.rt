@@ -174,7 +174,7 @@ pub fn common_prefix(a: &[u8], b: &[u8]) -> usize
         0..=3 => common_bytes(a, b, both),
         4..=7 => alike_from::<4>(a, b, both, 0),
         8..=15 => alike_from::<8>(a, b, both, 0),
-        16..=128 => alike_by_blocks(a, b, both),
+        16..=128 => alike_from::<16>(a, b, both, 0),
         _ => alike_by_steps(a, b, both),
     }
 }
