@@ -1,16 +1,13 @@
 //! The order of paths.
-ghost use Rattle.std.specs.Prelude.{◌≡◌, ◌+◌, ◌≤◌, ◌↔◌, drop, length, IsTrue};
+ghost use Rattle.std.specs.Prelude.{◌≡◌, ◌≤◌, ◌↔◌, drop, length, IsTrue};
 ghost use Rattle.std.specs.Cmp.Lexicographic.{slice_cmp};
-ghost use Rattle.hip_raw.specs.Alike.{Alike, IsAlikeRun};
 ghost use Rattle.hip_names.specs.Components.{component_order, components, names, path_order};
 ghost use Rattle.hip_names.specs.Shared.{IsSharedFront};
 ghost use Rattle.hip_names.specs.Shown.{to_come};
 
 use crate::component::{Components, next_name};
+use hip_raw::common_prefix;
 use std::cmp::Ordering;
-use std::simd::prelude::*;
-
-const BLOCK: usize = 8;
 
 /// How a path stands to another, in the order of their components. Both are walked from the last slash before the first byte that
 /// differs, without memory; the same bytes aren't walked at all.
@@ -51,48 +48,11 @@ fn same_bytes(left: &[u8], right: &[u8]) -> bool
 fn shared_front(left: &[u8], right: &[u8]) -> usize
     ensures { IsSharedFront left.now right.now result }
 {
-    let mut front = shared_bytes(left, right);
+    let mut front = common_prefix(left, right);
     while front > 0 && left[front - 1] != b'/' {
         front -= 1;
     }
     front
-}
-
-/// How many bytes both begin with, eight at a time and then one by one.
-#[inline]
-fn shared_bytes(left: &[u8], right: &[u8]) -> usize
-    ensures within { (result ≤ length left.now) × (result ≤ length right.now) }
-    ensures same { Alike left.now right.now 0 result }
-{
-    let both = left.len().min(right.len());
-    let mut shared = 0;
-    while BLOCK <= both - shared {
-        let run = alike_run(left, right, shared);
-        shared += run;
-        if run < BLOCK {
-            return shared;
-        }
-    }
-    while shared < both && left[shared] == right[shared] {
-        shared += 1;
-    }
-    shared
-}
-
-/// How many of the eight bytes from a position on are the same, from the first.
-#[inline(always)]
-fn alike_run(left: &[u8], right: &[u8], at: usize) -> usize
-    requires within { (at + 8 ≤ length left.now) × (at + 8 ≤ length right.now) }
-    ensures { IsAlikeRun left.now right.now at 8 result }
-{
-    let unlike = u8x8::from_slice(&left[at..])
-        .simd_ne(u8x8::from_slice(&right[at..]))
-        .to_bitmask();
-    if unlike == 0 {
-        BLOCK
-    } else {
-        unlike.trailing_zeros() as usize
-    }
 }
 
 /// How the components that are to come on one side stand to those on the other.

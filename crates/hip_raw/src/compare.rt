@@ -1,13 +1,13 @@
 //! Comparisons of bytes, many at a time.
 //!
-//! Up to 128 bytes two blocks of the same width cover both byte strings, the second ending where they end; beyond that stretches of 256
-//! bytes and blocks of 64 are taken one after another. An order compares the first eight bytes as a number, and up to 16 as two; how
-//! these are read (`read_short`, `read_u64_be`, `read_u32_be`) is adapted from the kit's core, `src/cmp/bytes.rt`, with its proofs.
-ghost use Rattle.std.specs.Prelude.{◌≡◌, ◌↔◌, ◌+◌, ◌*◌, ◌<◌, ◌≤◌, nat_eq, length, IsTrue, min};
-ghost use Rattle.std.specs.Cmp.Lexicographic.{pointwise, slice_cmp};
+//! Up to 128 bytes are the same where two blocks of one width are, the second ending where they end; beyond that stretches of 256 and
+//! 128 bytes are taken one after another. An order compares up to 16 bytes by two numbers, the second of which may overlap the first,
+//! and more of them by the first eight and then by the byte at which both go apart.
+ghost use Rattle.std.specs.Prelude.{◌≡◌, ◌≢◌, ◌↔◌, ◌+◌, ◌*◌, ◌<◌, ◌≤◌, length, slice_index, IsTrue, min};
+ghost use Rattle.std.specs.Cmp.Lexicographic.{slice_cmp};
 ghost use Rattle.std.specs.Ordering.{nat_cmp};
 ghost use Rattle.std.specs.Simd.Lanes.{chunk};
-ghost use Rattle.std.specs.Slice.Scan.{big_endian, Settles};
+ghost use Rattle.std.specs.Slice.Scan.{big_endian};
 ghost use Rattle.hip_raw.specs.Alike.{Alike, IsAlikeRun};
 
 use std::cmp::Ordering;
@@ -52,30 +52,49 @@ pub fn equal(a: &[u8], b: &[u8]) -> bool
         16..=31 => equal_by_ends::<16>(a, b),
         32..=64 => equal_by_ends::<32>(a, b),
         65..=128 => equal_by_ends::<64>(a, b),
-        _ => equal_by_blocks(a, b),
+        _ => equal_by_steps(a, b),
     }
 }
 
-// The same for many bytes. It isn't inlined, so that short ones are compared with no register saved.
+// Like `equal`, but for many bytes. It isn't inlined, so that short ones are compared with no register saved.
 #[inline(never)]
-fn equal_by_blocks(a: &[u8], b: &[u8]) -> bool
+fn equal_by_steps(a: &[u8], b: &[u8]) -> bool
     requires level { length a.now ≡ length b.now }
-    requires covered { 64 ≤ length a.now }
+    requires covered { 128 ≤ length a.now }
     ensures { IsTrue result ↔ (a.now ≡ b.now) }
 {
-    alike_by_blocks(a, b, a.len()) == a.len()
+    alike_steps(a, b, a.len()) == a.len()
 }
 
-// Whether the 256 bytes from `i` on are the same, by one test of all of them.
+// Whether the 128 bytes from `i` on are the same, by one test of all of them.
 #[inline(always)]
 fn alike_stretch(a: &[u8], b: &[u8], i: usize) -> bool
-    requires within { (i + 256 ≤ length a.now) × (i + 256 ≤ length b.now) }
-    ensures { IsTrue result ↔ Alike a.now b.now i (i + 256) }
+    requires within { (i + 128 ≤ length a.now) × (i + 128 ≤ length b.now) }
+    ensures { IsTrue result ↔ Alike a.now b.now i (i + 128) }
 {
-    alike_at::<64>(a, b, i)
-        & alike_at::<64>(a, b, i + 64)
-        & alike_at::<64>(a, b, i + 128)
-        & alike_at::<64>(a, b, i + 192)
+    alike_at::<64>(a, b, i) & alike_at::<64>(a, b, i + 64)
+}
+
+// How many of the first `n` bytes are the same, by stretches: all of them, or those before a stretch that isn't.
+#[inline(always)]
+fn alike_steps(a: &[u8], b: &[u8], n: usize) -> usize
+    requires within { (n ≤ length a.now) × (n ≤ length b.now) }
+    requires covered { 128 ≤ n }
+    ensures front { (result ≤ n) × Alike a.now b.now 0 result }
+    ensures apart { result < n → Alike a.now b.now 0 n → ⊥ }
+{
+    let last = n - 128;
+    let mut at = 0;
+    while 256 < n - at {
+        if !(alike_stretch(a, b, at) & alike_stretch(a, b, at + 128)) {
+            return at;
+        }
+        at += 256;
+    }
+    if at < last && !alike_stretch(a, b, at) {
+        return at;
+    }
+    if alike_stretch(a, b, last) { n } else { last }
 }
 
 // How many of the N bytes from `i` on are the same, from the first. With two lanes `trailing_zeros` of a mask, compared with 2, was
@@ -96,59 +115,81 @@ fn alike_run<const N: usize>(a: &[u8], b: &[u8], i: usize) -> usize
     }
 }
 
-// How many of the first `n` bytes are the same, where two blocks of N cover them.
+// How many of the first `n` bytes are the same, of which those before `from` are, by blocks of N. The last ends where they end.
 #[inline(always)]
-fn alike_by_ends<const N: usize>(a: &[u8], b: &[u8], n: usize) -> usize
+fn alike_from<const N: usize>(a: &[u8], b: &[u8], n: usize, from: usize) -> usize
     requires lanes { (4 ≤ N) × (N ≤ 64) }
-    requires within { (n ≤ length a.now) × (n ≤ length b.now) }
-    requires covered { (N ≤ n) × (n ≤ 2 * N) }
+    requires within { (n ≤ length a.now) × (n ≤ length b.now) × (N ≤ n) }
+    requires front { (from ≤ n) × Alike a.now b.now 0 from }
     ensures { IsAlikeRun a.now b.now 0 n result }
 {
-    if !alike_at::<N>(a, b, 0) {
-        return alike_run::<N>(a, b, 0);
+    let last = n - N;
+    let mut at = from;
+    while at < last {
+        if !alike_at::<N>(a, b, at) {
+            return at + alike_run::<N>(a, b, at);
+        }
+        at += N;
     }
-    if !alike_at::<N>(a, b, n - N) {
-        return n - N + alike_run::<N>(a, b, n - N);
-    }
-    n
+    last + alike_run::<N>(a, b, last)
 }
 
-// The same, block by block, where there are at least 64 bytes.
+// Like `alike_from`, but from the first byte on, and for 16 to 128 of them.
 #[inline(always)]
 fn alike_by_blocks(a: &[u8], b: &[u8], n: usize) -> usize
-    requires within { (n ≤ length a.now) × (n ≤ length b.now) }
-    requires covered { 64 ≤ n }
-    ensures { IsAlikeRun a.now b.now 0 n result }
-{
-    let mut at = 0;
-    while 256 <= n - at && alike_stretch(a, b, at) {
-        at += 256;
-    }
-    if at == n {
-        return n;
-    }
-    let last = n - 64;
-    while at < last {
-        if !alike_at::<64>(a, b, at) {
-            return at + alike_run::<64>(a, b, at);
-        }
-        at += 64;
-    }
-    last + alike_run::<64>(a, b, last)
-}
-
-// How many of the first `n` bytes are the same, from 16 to 128.
-#[inline(always)]
-fn alike(a: &[u8], b: &[u8], n: usize) -> usize
     requires within { (n ≤ length a.now) × (n ≤ length b.now) }
     requires covered { (16 ≤ n) × (n ≤ 128) }
     ensures { IsAlikeRun a.now b.now 0 n result }
 {
     match n {
-        16..=32 => alike_by_ends::<16>(a, b, n),
-        33..=64 => alike_by_ends::<32>(a, b, n),
-        _ => alike_by_ends::<64>(a, b, n),
+        0..=32 => alike_from::<16>(a, b, n, 0),
+        33..=64 => alike_from::<32>(a, b, n, 0),
+        _ => alike_from::<64>(a, b, n, 0),
     }
+}
+
+// Like `alike_by_blocks`, but for 128 bytes and more.
+#[inline(always)]
+fn alike_by_steps(a: &[u8], b: &[u8], n: usize) -> usize
+    requires within { (n ≤ length a.now) × (n ≤ length b.now) × (128 ≤ n) }
+    ensures { IsAlikeRun a.now b.now 0 n result }
+{
+    let at = alike_steps(a, b, n);
+    if at == n {
+        return n;
+    }
+    alike_from::<16>(a, b, n, at)
+}
+
+/// How many bytes both begin with alike.
+#[inline]
+pub fn common_prefix(a: &[u8], b: &[u8]) -> usize
+    ensures within { (result ≤ length a.now) × (result ≤ length b.now) }
+    ensures same { Alike a.now b.now 0 result }
+    ensures apart { result < length a.now → result < length b.now
+        → slice_index a.now result ≢ slice_index b.now result }
+{
+    let both = a.len().min(b.len());
+    match both {
+        0..=3 => common_bytes(a, b, both),
+        4..=7 => alike_from::<4>(a, b, both, 0),
+        8..=15 => alike_from::<8>(a, b, both, 0),
+        16..=128 => alike_from::<16>(a, b, both, 0),
+        _ => alike_by_steps(a, b, both),
+    }
+}
+
+// How many of the first `n` bytes are the same, one by one.
+#[inline(always)]
+fn common_bytes(a: &[u8], b: &[u8], n: usize) -> usize
+    requires within { (n ≤ length a.now) × (n ≤ length b.now) }
+    ensures { IsAlikeRun a.now b.now 0 n result }
+{
+    let mut at = 0;
+    while at < n && a[at] == b[at] {
+        at += 1;
+    }
+    at
 }
 
 // How the bytes stand to each other, where the first `both` of the shorter one's were compared and `at` of them are the same.
@@ -172,71 +213,61 @@ fn order_by_blocks(a: &[u8], b: &[u8], both: usize) -> Ordering
     ensures { result ≡ slice_cmp nat_cmp a.now b.now }
 {
     if both > 128 {
-        return order_at(a, b, both, alike_by_blocks(a, b, both));
+        return order_by_steps(a, b, both);
     }
-    order_at(a, b, both, alike(a, b, both))
+    order_at(a, b, both, alike_by_blocks(a, b, both))
 }
 
-// The number that eight bytes spell, the greatest first.
-#[inline(always)]
-fn read_u64_be(bytes: &[u8], i: usize) -> u64
-    requires { i + 8 ≤ length bytes.now }
-    ensures { result ≡ big_endian 0 (chunk i 8 bytes.now) }
-{
-    u64::from_be_bytes([
-        bytes[i],
-        bytes[i + 1],
-        bytes[i + 2],
-        bytes[i + 3],
-        bytes[i + 4],
-        bytes[i + 5],
-        bytes[i + 6],
-        bytes[i + 7],
-    ])
-}
-
-// The number that four bytes spell.
-#[inline(always)]
-fn read_u32_be(bytes: &[u8], i: usize) -> u64
-    requires { i + 4 ≤ length bytes.now }
-    ensures value { result ≡ big_endian 0 (chunk i 4 bytes.now) }
-    ensures bound { result < 0x1_0000_0000 }
-{
-    u64::from(u32::from_be_bytes([bytes[i], bytes[i + 1], bytes[i + 2], bytes[i + 3]]))
-}
-
-// Up to seven bytes of each as a number. Bytes that are read twice change no order.
-#[inline(always)]
-fn read_short(a: &[u8], b: &[u8], n: usize) -> (u64, u64)
-    requires short { n < 8 }
-    requires within { (n ≤ length a.now) × (n ≤ length b.now) }
-    ensures { Settles a.now b.now n result.0 result.1 }
-{
-    if 4 <= n {
-        let x = read_u32_be(a, 0) * 0x1_0000_0000 + read_u32_be(a, n - 4);
-        let y = read_u32_be(b, 0) * 0x1_0000_0000 + read_u32_be(b, n - 4);
-        return (x, y);
-    }
-    if n == 0 {
-        return (0, 0);
-    }
-    let x = (u64::from(a[0]) * 0x100 + u64::from(a[n / 2])) * 0x100 + u64::from(a[n - 1]);
-    let y = (u64::from(b[0]) * 0x100 + u64::from(b[n / 2])) * 0x100 + u64::from(b[n - 1]);
-    (x, y)
-}
-
-// The order where up to seven bytes are in both.
-#[inline(always)]
-fn order_short(a: &[u8], b: &[u8], both: usize) -> Ordering
+// Like `order_by_blocks`, but for more than 128 bytes.
+#[inline(never)]
+fn order_by_steps(a: &[u8], b: &[u8], both: usize) -> Ordering
     requires shorter { both ≡ min (length a.now) (length b.now) }
-    requires short { both < 8 }
+    requires covered { 128 ≤ both }
     ensures { result ≡ slice_cmp nat_cmp a.now b.now }
 {
-    let (x, y) = read_short(a, b, both);
-    if x != y {
-        return x.cmp(&y);
+    order_at(a, b, both, alike_by_steps(a, b, both))
+}
+
+// The number that the N bytes from `i` on spell, the first as its highest digit.
+#[inline(always)]
+fn number_at<const N: usize>(bytes: &[u8], i: usize) -> u64
+    requires digits { N ≤ 8 }
+    requires within { i + N ≤ length bytes.now }
+    ensures { result ≡ big_endian 0 (chunk i N bytes.now) }
+{
+    let mut number = 0;
+    for k in 0..N {
+        number = number * 0x100 + u64::from(bytes[i + k]);
     }
-    a.len().cmp(&b.len())
+    number
+}
+
+// The order by N bytes from `i` on that aren't all the same, where those before them are.
+#[inline(always)]
+fn order_apart<const N: usize>(a: &[u8], b: &[u8], i: usize) -> Ordering
+    requires digits { N ≤ 8 }
+    requires within { (i + N ≤ length a.now) × (i + N ≤ length b.now) }
+    requires front { Alike a.now b.now 0 i }
+    requires apart { Alike a.now b.now i (i + N) → ⊥ }
+    ensures { result ≡ slice_cmp nat_cmp a.now b.now }
+{
+    number_at::<N>(a, i).cmp(&number_at::<N>(b, i))
+}
+
+// The order where two blocks of N cover the shorter one's bytes.
+#[inline(always)]
+fn order_by_ends<const N: usize>(a: &[u8], b: &[u8], both: usize) -> Ordering
+    requires shorter { both ≡ min (length a.now) (length b.now) }
+    requires covered { (0 < N) × (N ≤ 8) × (N ≤ both) × (both ≤ 2 * N) }
+    ensures { result ≡ slice_cmp nat_cmp a.now b.now }
+{
+    if !alike_at::<N>(a, b, 0) {
+        return order_apart::<N>(a, b, 0);
+    }
+    if !alike_at::<N>(a, b, both - N) {
+        return order_apart::<N>(a, b, both - N);
+    }
+    order_at(a, b, both, both)
 }
 
 /// How the bytes stand to each other, in the order of their numbers.
@@ -248,16 +279,26 @@ pub fn order(a: &[u8], b: &[u8]) -> Ordering
     if both < 8 {
         return order_short(a, b, both);
     }
-    let (x, y) = (read_u64_be(a, 0), read_u64_be(b, 0));
-    if x != y {
-        return x.cmp(&y);
+    if both <= 16 {
+        return order_by_ends::<8>(a, b, both);
     }
-    if both > 16 {
-        return order_by_blocks(a, b, both);
+    if !alike_at::<8>(a, b, 0) {
+        return order_apart::<8>(a, b, 0);
     }
-    let (z, w) = (read_u64_be(a, both - 8), read_u64_be(b, both - 8));
-    if z != w {
-        return z.cmp(&w);
+    order_by_blocks(a, b, both)
+}
+
+// The order where up to seven bytes are in both.
+#[inline(always)]
+fn order_short(a: &[u8], b: &[u8], both: usize) -> Ordering
+    requires shorter { both ≡ min (length a.now) (length b.now) }
+    requires short { both < 8 }
+    ensures { result ≡ slice_cmp nat_cmp a.now b.now }
+{
+    match both {
+        0 => order_at(a, b, both, 0),
+        1 => order_by_ends::<1>(a, b, both),
+        2..=3 => order_by_ends::<2>(a, b, both),
+        _ => order_by_ends::<4>(a, b, both),
     }
-    a.len().cmp(&b.len())
 }

@@ -9,8 +9,8 @@
 //!   it is always the [`Front`].
 //! - [`Inline`], [`Borrowed`] and [`Allocated`] are the three representations of a byte string: in the handle itself, with a
 //!   [`Length`] that may be one byte, lent by another value, or a range of an owner's list. A [`Sole`] holds one that no other shares.
-//! - [`equal`] and [`order`] are `==` and `cmp` of bytes, [`make_ascii_lowercase`] and [`make_ascii_uppercase`] move ASCII letters in
-//!   place: each by blocks of up to 64 bytes.
+//! - [`equal`] and [`order`] are `==` and `cmp` of bytes, [`common_prefix`] counts what two slices begin with alike, and
+//!   [`make_ascii_lowercase`] and [`make_ascii_uppercase`] move ASCII letters in place: each by blocks of up to 64 bytes.
 //! - [`ByteSource`] and [`ByteSink`] are what bytes are read from and written to, seen as the bytes still to come, or written, and a count of
 //!   failures: [`SliceSource`] and [`VecSink`] in memory, [`FromRead`] and [`ToWrite`] over readers and writers of the standard library. An
 //!   [`IoFault`] says that a call failed, and moved nothing. A [`Fuse`] around a reader or a writer fails at one call, for tests.
@@ -55,7 +55,7 @@ pub use block::Block;
 pub use borrowed::Borrowed;
 pub use byte_sink::{ByteSink, ToWrite, VecSink};
 pub use byte_source::{ByteSource, FromRead, SliceSource};
-pub use compare::{equal, order};
+pub use compare::{common_prefix, equal, order};
 pub use filling::Filling;
 pub use fuse::Fuse;
 pub use inline::Inline;

@@ -2,7 +2,7 @@
 //! comparisons of some longer ones too.
 ghost use Rattle.std.specs.Prelude.{◌≤◌};
 
-use hip_raw::{equal, make_ascii_lowercase, make_ascii_uppercase, order};
+use hip_raw::{common_prefix, equal, make_ascii_lowercase, make_ascii_uppercase, order};
 use std::cmp::Ordering;
 use std::process::Abort;
 
@@ -35,7 +35,19 @@ fn plainly_ordered(a: &[u8], b: &[u8]) -> Ordering {
     a.len().cmp(&b.len())
 }
 
-/// Asserts both, each way round.
+/// How many bytes both begin with alike, as a plain loop tells it.
+fn plainly_common(a: &[u8], b: &[u8]) -> usize {
+    let mut common = 0usize;
+    for (x, y) in a.iter().zip(b) {
+        if x != y {
+            return common;
+        }
+        common = common.saturating_add(1);
+    }
+    common
+}
+
+/// Asserts all three, each way round.
 fn compares(rt: &impl Abort, a: &[u8], b: &[u8]) {
     assert_eq!(rt;
         (equal(a, b), equal(b, a)),
@@ -44,6 +56,10 @@ fn compares(rt: &impl Abort, a: &[u8], b: &[u8]) {
     assert_eq!(rt;
         (order(a, b), order(b, a)),
         (plainly_ordered(a, b), plainly_ordered(b, a))
+    );
+    assert_eq!(rt;
+        (common_prefix(a, b), common_prefix(b, a)),
+        (plainly_common(a, b), plainly_common(b, a))
     );
 }
 

@@ -1,6 +1,6 @@
 use Rattle.std.proofs.Common.{◌-◌, ◌≤◌}
 use Rattle.hip_raw.specs.Alike.{Alike}
-use Rattle.hip_raw.proofs.compare.alike_by_blocks.Given as goal
+use Rattle.hip_raw.proofs.compare.common_bytes.Given as goal
 
 -- what lies before `at` is the same
 abbrev pub invariant-loop-at : goal.invariant-loop-at
@@ -11,12 +11,3 @@ invariant-loop-at l = record {
 
 abbrev pub decreases-loop-at : goal.decreases-loop-at
 decreases-loop-at l = l.n - l.at
-
-abbrev pub invariant-loop-at-2 : goal.invariant-loop-at-2
-invariant-loop-at-2 l = record {
-  within : l.at ≤ l.n;
-  alike : Alike l.a l.b 0 l.at;
-}
-
-abbrev pub decreases-loop-at-2 : goal.decreases-loop-at-2
-decreases-loop-at-2 l = l.last - l.at
