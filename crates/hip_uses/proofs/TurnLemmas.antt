@@ -10,9 +10,7 @@ use Rattle.hip_uses.specs.declared.tokens.Class.{Class}
 use Rattle.hip_uses.specs.declared.tokens.Class.TheVariants.{Word, Digits, Space, Mark}
 use Rattle.hip_uses.specs.Token.{IsRun, class_of, is_word_or_digit, is_word_or_space}
 use Rattle.hip_uses.specs.Turns.{Ahead, AreTurns, IsNextTurn, IsTail, NoTurn, Tells}
-use Rattle.hipstr.specs.AsciiSets.{in_set}
 use Rattle.hipstr.specs.Bits.{IsLowest}
-use Rattle.hip_match.specs.declared.ascii_set.AsciiSet.{AsciiSet}
 
 -- the class by two sets: the white space and the marks, and the digits and the marks
 abbrev of_two : Bool → Bool → Class
@@ -65,24 +63,24 @@ two_marks m n k low =
     one : (m : ℕ) → bit_at (bit_xor m (m / 2)) k ≡ (bit_at m k + bit_at m (suc k)) % 2
     one m = bit_at_xor m (m / 2) k ∙ ap (λ b. (bit_at m k + b) % 2) (sym (bit_at-suc m k))
 
--- bit k says whether the byte at `at + k` belongs to a set
-abbrev AreMarks : AsciiSet → List ℕ → ℕ → ℕ → Type 0
-AreMarks set text at marks = (k : ℕ) → k < 64 → bit_at marks k ≡ cond (in_set set (get_or text (at + k) 0)) 1 0
+-- bit k says whether the byte at `at + k` passes the test
+abbrev AreMarks : (ℕ → Bool) → List ℕ → ℕ → ℕ → Type 0
+AreMarks test text at marks = (k : ℕ) → k < 64 → bit_at marks k ≡ cond (test (get_or text (at + k) 0)) 1 0
 
-pub turns-told : (t : List ℕ) (at m n : ℕ) (spaces digits : AsciiSet) → ((k : ℕ) → get_or t k 0 < 256)
-    → ((byte : ℕ) → byte < 256 → in_set spaces byte ≡ not (is_word_or_digit byte)) → ((byte : ℕ) → byte < 256 → in_set digits byte ≡ not (is_word_or_space byte))
+pub turns-told : (t : List ℕ) (at m n : ℕ) (spaces digits : ℕ → Bool) → ((k : ℕ) → get_or t k 0 < 256)
+    → ((byte : ℕ) → byte < 256 → spaces byte ≡ not (is_word_or_digit byte)) → ((byte : ℕ) → byte < 256 → digits byte ≡ not (is_word_or_space byte))
     → AreMarks spaces t at m → AreMarks digits t at n
     → AreTurns t at (bit_and (bit_or (bit_xor m (m / 2)) (bit_xor n (n / 2))) (2 ^ 63 - 1))
 turns-told t at m n spaces digits bytes one other ms ns k low =
     let here = get_or t (at + k) 0 in
     let next = get_or t (at + k + 1) 0 in
     let place : at + suc k ≡ at + k + 1 = omega arith in
-    let both = told (in_set spaces here) (in_set digits here) (in_set spaces next) (in_set digits next) _
+    let both = told (spaces here) (digits here) (spaces next) (digits next) _
     (two_marks m n k low
-    ∙ (λ i. min (max ((ms k (omega arith) i + (ms (suc k) (omega arith) ∙ ap (λ j. cond (in_set spaces (get_or t j 0)) 1 0) place) i) % 2)
-    ((ns k (omega arith) i + (ns (suc k) (omega arith) ∙ ap (λ j. cond (in_set digits (get_or t j 0)) 1 0) place) i) % 2)) 1)) in
-    let class : (byte : ℕ) → byte < 256 → of_two (in_set spaces byte) (in_set digits byte) ≡ class_of byte = λ byte fits.
-    ap (λ b. of_two b (in_set digits byte)) (one byte fits) ∙ ap (λ b. of_two (not (is_word_or_digit byte)) b) (other byte fits) ∙ class_by_two byte fits in
+    ∙ (λ i. min (max ((ms k (omega arith) i + (ms (suc k) (omega arith) ∙ ap (λ j. cond (spaces (get_or t j 0)) 1 0) place) i) % 2)
+    ((ns k (omega arith) i + (ns (suc k) (omega arith) ∙ ap (λ j. cond (digits (get_or t j 0)) 1 0) place) i) % 2)) 1)) in
+    let class : (byte : ℕ) → byte < 256 → of_two (spaces byte) (digits byte) ≡ class_of byte = λ byte fits.
+    ap (λ b. of_two b (digits byte)) (one byte fits) ∙ ap (λ b. of_two (not (is_word_or_digit byte)) b) (other byte fits) ∙ class_by_two byte fits in
     let here_is = class here (bytes (at + k)) in
     let next_is = class next (bytes (at + k + 1)) in
     (λ zero. sym here_is ∙ both.0 zero ∙ next_is, λ one same. both.1 one (here_is ∙ same ∙ sym next_is))
