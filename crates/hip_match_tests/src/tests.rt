@@ -8,5 +8,6 @@ mod each_way;
 mod lanes;
 mod laws;
 mod scripts;
+mod sets;
 mod walks;
 mod white_space;
