@@ -23,9 +23,6 @@ use std::io::{BufWriter, ErrorKind, Read, Write};
 /// How many slots a script works on.
 const SLOTS: usize = 16;
 
-/// How many bytes most answers have at most, with their line feeds.
-const SHORT_ANSWER: usize = 8;
-
 /// How many commands are run at once at most, so that they and their answers stay near.
 const AT_ONCE: usize = 256;
 
@@ -163,24 +160,20 @@ fn perform<'b, B: Backend, W: Write>(
     ensures memory { IsErrOf result Stop.Memory → W.contents out.new ≡ W.contents out.old }
 {
     let answers = run(alloc, pool, commands, meter)?;
-    print_answers(alloc, out, answers.as_slice())
+    print_answers(out, answers.as_slice())
 }
 
-/// Prints answers, one a line. They are gathered first, since a write costs more than to add a few bytes to a vector.
-fn print_answers<W: Write>(alloc: Global, out: &mut W, answers: &[Answer]) -> Result<(), Stop>
+/// Prints answers, one a line.
+fn print_answers<W: Write>(out: &mut W, answers: &[Answer]) -> Result<(), Stop>
     ensures ok { OnOk result (Appends (W.contents out.old) (W.contents out.new) (printed_answers answers.now)) }
-    ensures memory { IsErrOf result Stop.Memory → W.contents out.new ≡ W.contents out.old }
+    ensures memory { IsErrOf result Stop.Memory → ⊥ }
 {
-    let mut text = Vec::with_capacity(alloc, answers.len().saturating_mul(SHORT_ANSWER))?;
     for answer in answers {
-        if print_answer(&mut text, *answer).is_err() {
-            return Err(Stop::Memory);
+        if print_answer(out, *answer).is_err() {
+            return Err(Stop::WriteFailed);
         }
     }
-    match out.write_all(text.as_slice()) {
-        Ok(()) => Ok(()),
-        Err(_) => Err(Stop::WriteFailed),
-    }
+    Ok(())
 }
 
 /// Tells what a line asks for that is no command.

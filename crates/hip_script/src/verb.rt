@@ -121,8 +121,6 @@ pub(crate) type Row = (&'static str, (Verb, &'static [Word]));
 
 const LITERAL: Word = Word::Quoted(Quote::Bytes);
 
-const SEPARATOR: Word = Word::Quoted(Quote::Char);
-
 /// Every line that there is, by the first letter of its name.
 static ROWS: [Row; 34] = [
     ("borrow", (Verb::Borrow, &[Target, LITERAL])),
@@ -134,7 +132,10 @@ static ROWS: [Row; 34] = [
     ("comparepath", (Verb::ComparePath, &[Source, Other])),
     ("capacity", (Verb::Capacity, &[Source])),
     ("copied", (Verb::Copied, &[])),
-    ("fields", (Verb::Fields, &[Source, SEPARATOR])),
+    (
+        "fields",
+        (Verb::Fields, &[Source, Word::Quoted(Quote::Char)]),
+    ),
     ("inline", (Verb::Inline, &[Target, LITERAL])),
     ("join", (Verb::Join, &[Source, Number, LITERAL, Target])),
     ("kind", (Verb::Kind, &[Source])),
