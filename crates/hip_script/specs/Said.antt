@@ -87,7 +87,6 @@ abbrev pub fields_in : Held → Said → Fields
 fields_in held said = record {
   source = said.source;
   target = said.target;
-  other = said.other;
   number = said.number;
   byte = said.byte;
   low = (rare_in held.rares said.rare).low;

@@ -86,7 +86,6 @@ impl Buffers {
         match word {
             Word::Source => put(words.number(), &mut said.source),
             Word::Target => put(words.number(), &mut said.target),
-            Word::Other => put(words.number(), &mut said.other),
             Word::Number => put(words.number(), &mut said.number),
             Word::Byte => put(words.byte(), &mut said.byte),
             Word::Range => self.read_range(words, said),

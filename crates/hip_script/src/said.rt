@@ -98,7 +98,6 @@ pub(crate) struct Said<'l> {
     pub(crate) way: Way,
     pub(crate) source: usize,
     pub(crate) target: usize,
-    pub(crate) other: usize,
     pub(crate) number: usize,
     pub(crate) quoted: Quoted<'l>,
     /// Which of the rare things are its own, counted from 1, or 0 where it has none.
@@ -124,7 +123,6 @@ impl Said<'_> {
             way: Way::Lines,
             source: 0,
             target: 0,
-            other: 0,
             number: 0,
             quoted: Quoted::Bytes(Literal::Plain(&[])),
             rare: 0,

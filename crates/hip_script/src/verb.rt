@@ -3,7 +3,7 @@ ghost use Rattle.std.specs.Prelude.{◌≡◌, ℕ, List, ◌∷◌, None, Some,
 ghost use Rattle.hip_script.specs.Grammar.{rows};
 ghost use Rattle.hip_script.specs.Words.{look_up};
 
-use self::Word::{Byte, Ends, Number, Other, Pattern, Range, Source, Target};
+use self::Word::{Byte, Ends, Number, Pattern, Range, Source, Target};
 use hipstr::{End, Side};
 
 /// What a line tells to do.
@@ -53,9 +53,7 @@ pub(crate) enum Word {
     Source,
     /// The slot that becomes something.
     Target,
-    /// A further slot.
-    Other,
-    /// A number.
+    /// A number, or a further slot.
     Number,
     /// A number that is at most 255.
     Byte,
@@ -121,6 +119,8 @@ pub(crate) type Row = (&'static str, (Verb, &'static [Word]));
 
 const LITERAL: Word = Word::Quoted(Quote::Bytes);
 
+const SEPARATOR: Word = Word::Quoted(Quote::Char);
+
 /// Every line that there is, by the first letter of its name.
 static ROWS: [Row; 34] = [
     ("borrow", (Verb::Borrow, &[Target, LITERAL])),
@@ -128,14 +128,11 @@ static ROWS: [Row; 34] = [
     ("copy", (Verb::Copy, &[Target, LITERAL])),
     ("clone", (Verb::Clone, &[Source, Target])),
     ("clear", (Verb::Clear, &[Target])),
-    ("compare", (Verb::Compare, &[Source, Other])),
-    ("comparepath", (Verb::ComparePath, &[Source, Other])),
+    ("compare", (Verb::Compare, &[Source, Number])),
+    ("comparepath", (Verb::ComparePath, &[Source, Number])),
     ("capacity", (Verb::Capacity, &[Source])),
     ("copied", (Verb::Copied, &[])),
-    (
-        "fields",
-        (Verb::Fields, &[Source, Word::Quoted(Quote::Char)]),
-    ),
+    ("fields", (Verb::Fields, &[Source, SEPARATOR])),
     ("inline", (Verb::Inline, &[Target, LITERAL])),
     ("join", (Verb::Join, &[Source, Number, LITERAL, Target])),
     ("kind", (Verb::Kind, &[Source])),
@@ -146,7 +143,7 @@ static ROWS: [Row; 34] = [
     ("owned", (Verb::Owned, &[Target])),
     (
         "once",
-        (Verb::Once, &[Source, Target, Other, Word::End, Pattern]),
+        (Verb::Once, &[Source, Target, Number, Word::End, Pattern]),
     ),
     ("push", (Verb::Push, &[Target, LITERAL])),
     ("pop", (Verb::Pop, &[Target])),
