@@ -22,7 +22,7 @@ use Rattle.hip_script.specs.declared.verb.Verb.TheVariants.{New, Inline, Borrow,
 use Rattle.hip_script.specs.declared.verb.Way.{Way}
 use Rattle.hip_script.specs.declared.verb.Way.TheVariants.{Split, Inclusive, Terminator, SplitN, Matches, RSplit, RTerminator, RSplitN, RMatches, Lines, Words, AsciiWords}
 use Rattle.hip_script.specs.declared.verb.Word.{Word}
-use Rattle.hip_script.specs.declared.verb.Word.TheVariants.{Source, Target, Other, Number, Byte, Range, Side as SideWord, End as EndWord, Quoted as Literal, Pattern as PatternWord, Way as WayWord, Ends}
+use Rattle.hip_script.specs.declared.verb.Word.TheVariants.{Source, Target, Number, Byte, Range, Side as SideWord, End as EndWord, Quoted as Literal, Pattern as PatternWord, Way as WayWord, Ends}
 
 -- a name, what it tells to do, and the words that follow it
 abbrev pub row : List ℕ → Verb → List Word → List ℕ × (Verb × List Word)
@@ -62,9 +62,9 @@ rows =
     ∷ row (codes "trimm") TrimMatches (Source ∷ Target ∷ SideWord ∷ PatternWord ∷ [])
     ∷ row (codes "strip") Strip (Source ∷ Target ∷ EndWord ∷ PatternWord ∷ [])
     ∷ row (codes "pieces") Pieces (Source ∷ WayWord ∷ Ends ∷ Target ∷ [])
-    ∷ row (codes "once") Once (Source ∷ Target ∷ Other ∷ EndWord ∷ PatternWord ∷ [])
-    ∷ row (codes "compare") Compare (Source ∷ Other ∷ [])
-    ∷ row (codes "comparepath") ComparePath (Source ∷ Other ∷ [])
+    ∷ row (codes "once") Once (Source ∷ Target ∷ Number ∷ EndWord ∷ PatternWord ∷ [])
+    ∷ row (codes "compare") Compare (Source ∷ Number ∷ [])
+    ∷ row (codes "comparepath") ComparePath (Source ∷ Number ∷ [])
     ∷ row (codes "len") Len (Source ∷ [])
     ∷ row (codes "kind") Kind (Source ∷ [])
     ∷ row (codes "capacity") Capacity (Source ∷ [])
@@ -142,7 +142,6 @@ way_said fields left = said_at (λ word. look_up word ways) left >>= λ found. f
 abbrev pub word_said : Word → Fields → Left → Option (Fields × Left)
 word_said Source fields left = option_map (λ found. (record fields { source = found.0 }, found.1)) (said_at number_of left)
 word_said Target fields left = option_map (λ found. (record fields { target = found.0 }, found.1)) (said_at number_of left)
-word_said Other fields left = option_map (λ found. (record fields { other = found.0 }, found.1)) (said_at number_of left)
 word_said Number fields left = number_said fields left
 word_said Byte fields left = option_map (λ found. (record fields { byte = found.0 }, found.1)) (said_at byte_of left)
 word_said Range fields left = option_map (λ found. (record fields { low = found.0.0; high = found.0.1 }, found.1)) (said_at range_of left)
@@ -158,7 +157,7 @@ words_said [] fields left = Some (fields, left)
 words_said (word ∷ words) fields left = word_said word fields left >>= λ said. words_said words said.0 said.1
 
 abbrev pub no_fields : Fields
-no_fields = record { source = 0; target = 0; other = 0; number = 0; byte = 0; low = Unbounded; high = Unbounded; side = both_sides; end = Front; quoted = Plainly []; way = Lines; ends = [] }
+no_fields = record { source = 0; target = 0; number = 0; byte = 0; low = Unbounded; high = Unbounded; side = both_sides; end = Front; quoted = Plainly []; way = Lines; ends = [] }
 
 -- what a verb says with its words
 abbrev pub spoken : Verb → Fields → Spoken
@@ -187,9 +186,9 @@ spoken Trim f = SayTrim f.source f.target f.side
 spoken TrimMatches f = SayTrimMatches f.source f.target f.side (pattern_in f.quoted)
 spoken Strip f = SayStrip f.source f.target f.end (pattern_in f.quoted)
 spoken Pieces f = SayPieces f.source (parting f.way f.number (pattern_in f.quoted)) f.ends f.target
-spoken Once f = SayOnce f.source f.target f.other f.end (pattern_in f.quoted)
-spoken Compare f = SayCompare f.source f.other
-spoken ComparePath f = SayComparePath f.source f.other
+spoken Once f = SayOnce f.source f.target f.number f.end (pattern_in f.quoted)
+spoken Compare f = SayCompare f.source f.number
+spoken ComparePath f = SayComparePath f.source f.number
 spoken Len f = SayLen f.source
 spoken Kind f = SayKind f.source
 spoken Capacity f = SayCapacity f.source

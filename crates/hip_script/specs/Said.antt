@@ -1,6 +1,7 @@
 -- What the records of lines say, whose literals stand in the script or in buffers. Only private functions cite these.
-use Rattle.std.specs.Prelude.{◌≡◌, ℕ, ◌≤◌, ◌==◌, ◌||◌, not, Bool, true, List, ◌++◌, length, map, Option, Some, Result, Ok, Err, slice_range, Vec}
+use Rattle.std.specs.Prelude.{◌≡◌, ℕ, zero, suc, ◌≤◌, ◌==◌, ◌||◌, not, Bool, true, List, ◌++◌, length, map, Option, Some, Result, Ok, Err, slice_range, slice_index_or, Vec}
 use Rattle.std.specs.declared.alloc.Global.{Global}
+use Rattle.std.specs.declared.ops.Bound.TheVariants.{Unbounded}
 use Rattle.hipstr.specs.Handle.{Handle}
 use Rattle.std.specs.List.{AllByRecursion}
 use Rattle.std.specs.Str.{is_utf8}
@@ -24,18 +25,28 @@ use Rattle.hip_script.specs.declared.said.Literal.{Literal}
 use Rattle.hip_script.specs.declared.said.Literal.TheVariants.{Plain, Decoded}
 use Rattle.hip_script.specs.declared.said.Quoted.{Quoted as Said_quoted}
 use Rattle.hip_script.specs.declared.said.Quoted.TheVariants.{Bytes, Text, Char, Any}
+use Rattle.hip_script.specs.declared.said.Rare.{Rare}
 use Rattle.hip_script.specs.declared.said.Said.{Said}
 use Rattle.hip_script.specs.declared.said.Span.{Span}
 use Rattle.hip_script.specs.declared.script.Script.{Script}
 
--- what the buffers hold: the bytes of literals, the characters of sets, and the ends that pieces are drawn from
+-- what the buffers hold: the bytes of literals, the characters of sets, the ends that pieces are drawn from, and what few lines say
 pub record Held : Type 0 where
   pub bytes : List ℕ
   pub chars : List ℕ
   pub ends : List End
+  pub rares : List Rare
 
 abbrev pub held : Buffers → Held
-held buffers = record { bytes = buffers.bytes.items; chars = buffers.chars.items; ends = buffers.ends.items }
+held buffers = record { bytes = buffers.bytes.items; chars = buffers.chars.items; ends = buffers.ends.items; rares = buffers.rares.items }
+
+-- the rare things that have a number, counted from 1: the whole of a value and no ends where it is 0
+abbrev pub no_rare : Rare
+no_rare = record { low = Unbounded; high = Unbounded; ends = record { start = 0; end = 0 } }
+
+abbrev pub rare_in : List Rare → ℕ → Rare
+rare_in rares zero = no_rare
+rare_in rares (suc i) = slice_index_or rares i no_rare
 
 -- a span lies in a list, and what stands there
 pub record IsSpan (len : ℕ) (span : Span) : Type 0 where
@@ -68,23 +79,23 @@ QuotedWithin held (Any span) = IsSpan (length held.chars) span
 -- what a line's record names stands in the buffers
 pub record IsWithin (held : Held) (said : Said) : Type 0 where
   pub quoted : QuotedWithin held said.quoted
-  pub ends : IsSpan (length held.ends) said.ends
+  pub rare : said.rare ≤ length held.rares
+  pub ends : IsSpan (length held.ends) (rare_in held.rares said.rare).ends
 
 -- what the record of a line says
 abbrev pub fields_in : Held → Said → Fields
 fields_in held said = record {
   source = said.source;
   target = said.target;
-  other = said.other;
   number = said.number;
   byte = said.byte;
-  low = said.low;
-  high = said.high;
+  low = (rare_in held.rares said.rare).low;
+  high = (rare_in held.rares said.rare).high;
   side = said.side;
   end = said.end;
   quoted = quoted_in held said.quoted;
   way = said.way;
-  ends = in_span held.ends said.ends;
+  ends = in_span held.ends (rare_in held.rares said.rare).ends;
 }
 
 abbrev pub says_in : Held → Said → Spoken
@@ -119,6 +130,8 @@ pub record Grows (old new : Held) : Type 0 where
   pub chars : new.chars ≡ old.chars ++ more_chars
   pub more_ends : List End
   pub ends : new.ends ≡ old.ends ++ more_ends
+  pub more_rares : List Rare
+  pub rares : new.rares ≡ old.rares ++ more_rares
 
 -- what a literal says was told
 pub record QuotesAs (said : Option Quoted) (old new : Held) (quoted : Said_quoted) : Type 0 where

@@ -62,10 +62,10 @@ pub data Spoken : Type 0 where
 
 -- what the words of a line say; what none of them says is as in `no_fields`
 pub record Fields : Type 0 where
-  -- the slot that is asked or taken from, that which becomes something, and a further one
+  -- the slot that is asked or taken from, and that which becomes something
   pub source : ℕ
   pub target : ℕ
-  pub other : ℕ
+  -- a number, or a further slot
   pub number : ℕ
   pub byte : ℕ
   pub low : Bound ℕ

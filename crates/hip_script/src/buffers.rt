@@ -1,19 +1,19 @@
 //! The words of a line are read into its record, and into the buffers of what has no place of its own in the script.
-ghost use Rattle.std.specs.Prelude.{◌≡◌, ◌++◌, ℕ, List, false, map, true, None, Some, IfOk, OnOk, OnErr, IsErrOf, length};
+ghost use Rattle.std.specs.Prelude.{◌≡◌, ◌≤◌, ◌++◌, ℕ, List, false, map, true, None, Some, IfOk, OnOk, OnErr, IsErrOf, length};
 ghost use Rattle.std.specs.Option.{option_map};
 ghost use Rattle.std.specs.Str.{chars, is_utf8};
 ghost use Rattle.hip_script.specs.Grammar.{follows_said, number_said, only, pattern_said, quoted_as, quoted_said, way_said, word_said, words_said};
-ghost use Rattle.hip_script.specs.Said.{AddsSpan, IsWithin, LiteralWithin, QuotesAs, ReadsFields, fields_in, held, literal_in};
+ghost use Rattle.hip_script.specs.Said.{AddsSpan, IsWithin, LiteralWithin, QuotesAs, ReadsFields, fields_in, held, literal_in, rare_in};
 ghost use Rattle.hip_script.specs.Spoken.Quoted.{Sought};
 ghost use Rattle.hip_script.specs.Spoken.Pattern.{CharOf};
 ghost use Rattle.hip_script.specs.Words.{ends_of, letters_of, said_at};
 
 use crate::fault::LineFault;
-use crate::said::{Literal, Quoted, Said, Span};
+use crate::said::{Literal, Quoted, Rare, Said, Span};
 use crate::verb::{ENDS, Follows, PATTERNS, Quote, SIDES, WAYS, Word};
 use crate::words::{Words, end};
 use hipstr::End;
-use std::alloc::{AllocError, Global};
+use std::alloc::Global;
 use std::str;
 
 /// What the lines of a script name by its place.
@@ -25,6 +25,8 @@ pub(crate) struct Buffers {
     pub(crate) chars: Vec<char>,
     /// The ends of all walks.
     pub(crate) ends: Vec<End>,
+    /// What few lines say, one after another.
+    pub(crate) rares: Vec<Rare>,
 }
 
 impl Buffers {
@@ -34,7 +36,19 @@ impl Buffers {
             bytes: Vec::new(alloc),
             chars: Vec::new(alloc),
             ends: Vec::new(alloc),
+            rares: Vec::new(alloc),
         }
+    }
+
+    /// The rare things that have a number.
+    pub(crate) fn rare(&self, number: usize) -> Rare
+        requires { number ≤ length self.now.rares.items }
+        ensures { result ≡ rare_in self.now.rares.items number }
+    {
+        if number == 0 {
+            return Rare::new();
+        }
+        self.rares.as_slice()[number - 1]
     }
 
     /// Reads the words of a line, one after another.
@@ -72,10 +86,9 @@ impl Buffers {
         match word {
             Word::Source => put(words.number(), &mut said.source),
             Word::Target => put(words.number(), &mut said.target),
-            Word::Other => put(words.number(), &mut said.other),
             Word::Number => put(words.number(), &mut said.number),
             Word::Byte => put(words.byte(), &mut said.byte),
-            Word::Range => read_range(words, said),
+            Word::Range => self.read_range(words, said),
             Word::Side => put(words.one_of(SIDES), &mut said.side),
             Word::End => put(words.one_of(ENDS), &mut said.end),
             Word::Quoted(quote) => self.read_quoted(quote, words, said),
@@ -194,7 +207,31 @@ impl Buffers {
         let Some(word) = words.next() else {
             return Err(LineFault::NotACommand);
         };
-        said.ends = add_ends(&mut self.ends, word)?;
+        let ends = add_ends(&mut self.ends, word)?;
+        let rare = self.rare(said.rare);
+        self.rares.push(Rare { ends, ..rare })?;
+        said.rare = self.rares.len();
+        Ok(())
+    }
+
+    /// Reads a range.
+    fn read_range<'l>(
+        &mut self,
+        words: &mut Words<'l>,
+        said: &mut Said<'l>,
+    ) -> Result<(), LineFault>
+        requires { IsWithin (held self.old) said.old }
+        ensures ok { OnOk result (ReadsFields (word_said Word.Range (fields_in (held self.old) said.old) words.old)
+            words.new (held self.old) (held self.new) said.old said.new) }
+        ensures bad { IsErrOf result LineFault.NotACommand
+            → word_said Word.Range (fields_in (held self.old) said.old) words.old ≡ None }
+    {
+        let Some((low, high)) = words.range() else {
+            return Err(LineFault::NotACommand);
+        };
+        let rare = self.rare(said.rare);
+        self.rares.push(Rare { low, high, ..rare })?;
+        said.rare = self.rares.len();
         Ok(())
     }
 }
@@ -211,20 +248,6 @@ fn put<T: Copy>(found: Option<T>, place: &mut T) -> Result<(), LineFault>
         }
         None => Err(LineFault::NotACommand),
     }
-}
-
-/// Reads a range.
-fn read_range<'l>(words: &mut Words<'l>, said: &mut Said<'l>) -> Result<(), LineFault>
-    ensures ok { OnOk result ((held : _) → IsWithin held said.old
-        → ReadsFields (word_said Word.Range (fields_in held said.old) words.old) words.new held held said.old said.new) }
-    ensures bad { OnErr result ((held : _) → word_said Word.Range (fields_in held said.old) words.old ≡ None) }
-{
-    let Some((low, high)) = words.range() else {
-        return Err(LineFault::NotACommand);
-    };
-    said.low = low;
-    said.high = high;
-    Ok(())
 }
 
 /// The text that the bytes of a literal are.
@@ -255,8 +278,9 @@ fn only_char(text: &str) -> Option<char>
 }
 
 /// Adds the characters of a text, and says where they stand.
-fn add_chars(buffer: &mut Vec<char>, text: &str) -> Result<Span, AllocError>
-    ensures { IfOk result (λ span. AddsSpan (chars text.now) buffer.old.items buffer.new.items span) }
+fn add_chars(buffer: &mut Vec<char>, text: &str) -> Result<Span, LineFault>
+    ensures ok { IfOk result (λ span. AddsSpan (chars text.now) buffer.old.items buffer.new.items span) }
+    ensures bad { IsErrOf result LineFault.NotACommand → ⊥ }
 {
     let start = buffer.len();
     for c in text.chars() {

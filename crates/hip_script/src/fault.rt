@@ -12,17 +12,6 @@ pub(crate) enum LineFault {
     Memory,
 }
 
-impl From<AllocError> for LineFault {
-    ghost use Rattle.std.specs.Prelude.{◌≡◌};
-    ghost use Rattle.hip_script.specs.declared.fault.LineFault.TheVariants.{Memory};
-
-    ghost from_gives = { λ _ fault. fault ≡ Memory };
-
-    fn from(_refused: AllocError) -> LineFault {
-        LineFault::Memory
-    }
-}
-
 impl<T: Drop> From<AllocFailed<T>> for LineFault {
     ghost use Rattle.std.specs.Prelude.{◌≡◌};
     ghost use Rattle.hip_script.specs.declared.fault.LineFault.TheVariants.{Memory};
@@ -121,18 +110,5 @@ impl<T: Drop> From<AllocFailed<T>> for PlayFault {
 
     fn from(_refused: AllocFailed<T>) -> PlayFault {
         PlayFault::Memory
-    }
-}
-
-impl From<Stop> for PlayFault {
-    ghost use Rattle.hip_script.specs.declared.fault.PlayFault.TheVariants.{NotACommand};
-
-    ghost from_gives = { λ _ fault. (line : ℕ) → fault ≡ NotACommand line → ⊥ };
-
-    fn from(stop: Stop) -> PlayFault {
-        match stop {
-            Stop::WriteFailed => PlayFault::WriteFailed,
-            Stop::Memory => PlayFault::Memory,
-        }
     }
 }

@@ -7,7 +7,7 @@ ghost use Rattle.hip_script.specs.Told.{how_says, pattern_says};
 use crate::said::{Quoted, Said};
 use crate::script::Script;
 use crate::verb::{Verb, Way};
-use hipstr::{Command, How, Pat};
+use hipstr::{Command, End, How, Pat};
 use std::str;
 
 /// A line that is no command.
@@ -43,7 +43,10 @@ impl<'l> Script<'l> {
             Verb::Copy => Command::Copy(said.target, self.bytes(said)),
             Verb::Room => Command::Room(said.target, said.number),
             Verb::Clone => Command::Clone(said.source, said.target),
-            Verb::Slice => Command::Slice(said.source, said.target, said.low, said.high),
+            Verb::Slice => {
+                let range = self.buffers.rare(said.rare);
+                Command::Slice(said.source, said.target, range.low, range.high)
+            }
             Verb::Push => Command::Push(said.target, self.bytes(said)),
             Verb::Pop => Command::Pop(said.target),
             Verb::Truncate => Command::Truncate(said.target, said.number),
@@ -69,18 +72,18 @@ impl<'l> Script<'l> {
             Verb::Pieces => Command::Pieces(
                 said.source,
                 self.how(said),
-                said.ends.of(&self.buffers.ends),
+                self.ends(said),
                 said.target,
             ),
             Verb::Once => Command::Once(
                 said.source,
                 said.target,
-                said.other,
+                said.number,
                 said.end,
                 self.pattern(said),
             ),
-            Verb::Compare => Command::Compare(said.source, said.other),
-            Verb::ComparePath => Command::ComparePath(said.source, said.other),
+            Verb::Compare => Command::Compare(said.source, said.number),
+            Verb::ComparePath => Command::ComparePath(said.source, said.number),
             Verb::Len => Command::Len(said.source),
             Verb::Kind => Command::Kind(said.source),
             Verb::Capacity => Command::Capacity(said.source),
@@ -115,6 +118,14 @@ impl<'l> Script<'l> {
             Quoted::Char(c) => Pat::Char(c),
             Quoted::Any(span) => Pat::Set(span.of(&self.buffers.chars)),
         }
+    }
+
+    /// The ends that a line draws pieces from.
+    fn ends(&self, said: &Said<'_>) -> &[End]
+        requires { IsWithin (held self.now.buffers) said.now }
+        ensures { result.now ≡ (fields_in (held self.now.buffers) said.now).ends }
+    {
+        self.buffers.rare(said.rare).ends.of(&self.buffers.ends)
     }
 
     /// How a line takes a text apart.

@@ -62,7 +62,33 @@ pub(crate) enum Quoted<'l> {
     Any(Span),
 }
 
+/// What few lines say: a range, and where the ends stand that pieces are drawn from.
+#[derive(Clone, Copy)]
+pub(crate) struct Rare {
+    pub(crate) low: Bound<usize>,
+    pub(crate) high: Bound<usize>,
+    pub(crate) ends: Span,
+}
+
+impl Rare {
+    ghost use Rattle.std.specs.Prelude.{◌≡◌};
+    ghost use Rattle.hip_script.specs.Said.{no_rare};
+
+    /// The whole of a value, and no ends.
+    pub(crate) fn new() -> Self
+        ensures { result ≡ no_rare }
+    {
+        Rare {
+            low: Bound::Unbounded,
+            high: Bound::Unbounded,
+            ends: Span { start: 0, end: 0 },
+        }
+    }
+}
+
 /// What a line says. What its verb doesn't ask for is as in [`Said::new`].
+///
+/// There is one for each line of a script, so what few lines say is kept apart: each page of these is one more for the system to find.
 #[derive(Clone, Copy)]
 pub(crate) struct Said<'l> {
     pub(crate) verb: Verb,
@@ -72,13 +98,10 @@ pub(crate) struct Said<'l> {
     pub(crate) way: Way,
     pub(crate) source: usize,
     pub(crate) target: usize,
-    pub(crate) other: usize,
     pub(crate) number: usize,
-    pub(crate) low: Bound<usize>,
-    pub(crate) high: Bound<usize>,
     pub(crate) quoted: Quoted<'l>,
-    /// Where the ends stand that pieces are drawn from.
-    pub(crate) ends: Span,
+    /// Which of the rare things are its own, counted from 1, or 0 where it has none.
+    pub(crate) rare: usize,
 }
 
 impl Said<'_> {
@@ -100,12 +123,9 @@ impl Said<'_> {
             way: Way::Lines,
             source: 0,
             target: 0,
-            other: 0,
             number: 0,
-            low: Bound::Unbounded,
-            high: Bound::Unbounded,
             quoted: Quoted::Bytes(Literal::Plain(&[])),
-            ends: Span { start: 0, end: 0 },
+            rare: 0,
         }
     }
 }

@@ -1,8 +1,9 @@
 //! A whole script: its lines, and what each says.
-ghost use Rattle.std.specs.Prelude.{◌≡◌, ◌<◌, ℕ, Err, IfOk, IsErrOf, None};
+ghost use Rattle.std.specs.Prelude.{◌≡◌, ◌<◌, ◌++◌, ◌∷◌, [], ℕ, Err, OnOk, IsErrOf, None};
 ghost use Rattle.hip_script.specs.Grammar.{line_said, script_of};
 ghost use Rattle.hip_script.specs.Said.{GivesScript, ReadsLine, held};
 ghost use Rattle.hip_script.specs.declared.fault.PlayFault.TheVariants.{NotACommand};
+ghost use Rattle.hip_script.specs.declared.said.Said.{Said};
 
 use crate::buffers::Buffers;
 use crate::fault::{LineFault, PlayFault};
@@ -10,12 +11,12 @@ use crate::lines::first_line;
 use crate::said::Said;
 use crate::words::Words;
 use std::alloc::Global;
-use std::simd::prelude::*;
-
-const LANES: usize = 16;
 
 /// How many bytes a line has at least that says something, as `pop 0`, with its line feed.
 const SHORTEST_LINE: usize = 6;
+
+/// For how many lines there is room at first at most.
+const AT_FIRST: usize = 65_536;
 
 /// A script that was read: what its lines say, and the buffers of what has no place of its own in it.
 #[derive(Drop)]
@@ -27,14 +28,17 @@ pub(crate) struct Script<'l> {
 impl<'l> Script<'l> {
     /// Reads a script. The first line that is no command is told by its number.
     ///
-    /// Room is taken first for one line more than there are line feeds, but for no more than have place in the script.
+    /// Room is taken first for as many lines as have place in the script, but for no more than are told above. What isn't used of it costs
+    /// no page, and more room is had without a copy where there is so much.
     pub(crate) fn read(alloc: Global, input: &'l [u8]) -> Result<Self, PlayFault>
         ensures script { GivesScript result (script_of input.now) }
         ensures bad_line { (line : ℕ) → result ≡ Err (NotACommand line) → 0 < line }
     {
-        let most = count_feeds(input).min(input.len() / SHORTEST_LINE);
-        let mut lines = Vec::with_capacity(alloc, most.saturating_add(1))?;
-        let mut buffers = Buffers::new(alloc);
+        let most = (input.len() / SHORTEST_LINE).min(AT_FIRST);
+        let mut script = Script {
+            lines: Vec::with_capacity(alloc, most + 1)?,
+            buffers: Buffers::new(alloc),
+        };
         let mut number = 0usize;
         let mut rest = input;
         while let Some((line, after)) = first_line(rest) {
@@ -43,43 +47,31 @@ impl<'l> Script<'l> {
             if line.is_empty() {
                 continue;
             }
-            match read_line(&mut buffers, line) {
-                Ok(said) => lines.push(said)?,
+            match script.read_line(line) {
+                Ok(()) => {}
                 Err(LineFault::NotACommand) => return Err(PlayFault::NotACommand(number)),
                 Err(LineFault::Memory) => return Err(PlayFault::Memory),
             }
         }
-        Ok(Script { lines, buffers })
+        Ok(script)
     }
-}
 
-/// How many line feeds there are, sixteen bytes at a time.
-fn count_feeds(input: &[u8]) -> usize {
-    let mut count = 0usize;
-    let mut rest = input;
-    while LANES <= rest.len() {
-        let feeds = u8x16::from_slice(rest).simd_eq(u8x16::splat(b'\n'));
-        count = count.saturating_add(feeds.to_bitmask().count_ones() as usize);
-        rest = &rest[LANES..];
-    }
-    let last = rest.iter().filter(|byte| **byte == b'\n').count();
-    count.saturating_add(last)
-}
-
-/// Reads a line that is not empty.
-fn read_line<'l>(buffers: &mut Buffers, line: &'l [u8]) -> Result<Said<'l>, LineFault>
-    ensures ok { IfOk result (λ said. ReadsLine (line_said line.now) (held buffers.old) (held buffers.new) said) }
-    ensures bad { IsErrOf result LineFault.NotACommand → line_said line.now ≡ None }
-{
-    let mut words = Words::new(line);
-    let Some((verb, list)) = words.row() else {
-        return Err(LineFault::NotACommand);
-    };
-    let mut said = Said::new(verb);
-    buffers.read_words(list, &mut words, &mut said)?;
-    if words.is_empty() {
-        Ok(said)
-    } else {
-        Err(LineFault::NotACommand)
+    /// Reads a line that is not empty.
+    fn read_line(&mut self, line: &'l [u8]) -> Result<(), LineFault>
+        ensures ok { OnOk result ((said : Said) × ReadsLine (line_said line.now) (held self.old.buffers) (held self.new.buffers) said
+            × (self.new.lines.items ≡ self.old.lines.items ++ said ∷ [])) }
+        ensures bad { IsErrOf result LineFault.NotACommand → line_said line.now ≡ None }
+    {
+        let mut words = Words::new(line);
+        let Some((verb, list)) = words.row() else {
+            return Err(LineFault::NotACommand);
+        };
+        let mut said = Said::new(verb);
+        self.buffers.read_words(list, &mut words, &mut said)?;
+        if !words.is_empty() {
+            return Err(LineFault::NotACommand);
+        }
+        self.lines.push(said)?;
+        Ok(())
     }
 }

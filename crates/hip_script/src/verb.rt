@@ -3,6 +3,7 @@ ghost use Rattle.std.specs.Prelude.{◌≡◌, ℕ, List, ◌∷◌, None, Some,
 ghost use Rattle.hip_script.specs.Grammar.{rows};
 ghost use Rattle.hip_script.specs.Words.{look_up};
 
+use self::Word::{Byte, Ends, Number, Pattern, Range, Source, Target};
 use hipstr::{End, Side};
 
 /// What a line tells to do.
@@ -52,9 +53,7 @@ pub(crate) enum Word {
     Source,
     /// The slot that becomes something.
     Target,
-    /// A further slot.
-    Other,
-    /// A number.
+    /// A number, or a further slot.
     Number,
     /// A number that is at most 255.
     Byte,
@@ -118,116 +117,55 @@ pub(crate) enum Follows {
 /// A name, what it tells to do, and the words that follow it.
 pub(crate) type Row = (&'static str, (Verb, &'static [Word]));
 
+const LITERAL: Word = Word::Quoted(Quote::Bytes);
+
+const SEPARATOR: Word = Word::Quoted(Quote::Char);
+
 /// Every line that there is, by the first letter of its name.
 static ROWS: [Row; 34] = [
-    (
-        "borrow",
-        (Verb::Borrow, &[Word::Target, Word::Quoted(Quote::Bytes)]),
-    ),
-    ("bytes", (Verb::Bytes, &[Word::Target])),
-    (
-        "copy",
-        (Verb::Copy, &[Word::Target, Word::Quoted(Quote::Bytes)]),
-    ),
-    ("clone", (Verb::Clone, &[Word::Source, Word::Target])),
-    ("clear", (Verb::Clear, &[Word::Target])),
-    ("compare", (Verb::Compare, &[Word::Source, Word::Other])),
-    (
-        "comparepath",
-        (Verb::ComparePath, &[Word::Source, Word::Other]),
-    ),
-    ("capacity", (Verb::Capacity, &[Word::Source])),
+    ("borrow", (Verb::Borrow, &[Target, LITERAL])),
+    ("bytes", (Verb::Bytes, &[Target])),
+    ("copy", (Verb::Copy, &[Target, LITERAL])),
+    ("clone", (Verb::Clone, &[Source, Target])),
+    ("clear", (Verb::Clear, &[Target])),
+    ("compare", (Verb::Compare, &[Source, Number])),
+    ("comparepath", (Verb::ComparePath, &[Source, Number])),
+    ("capacity", (Verb::Capacity, &[Source])),
     ("copied", (Verb::Copied, &[])),
-    (
-        "fields",
-        (Verb::Fields, &[Word::Source, Word::Quoted(Quote::Char)]),
-    ),
-    (
-        "inline",
-        (Verb::Inline, &[Word::Target, Word::Quoted(Quote::Bytes)]),
-    ),
-    (
-        "join",
-        (
-            Verb::Join,
-            &[
-                Word::Source,
-                Word::Number,
-                Word::Quoted(Quote::Bytes),
-                Word::Target,
-            ],
-        ),
-    ),
-    ("kind", (Verb::Kind, &[Word::Source])),
-    ("lower", (Verb::Lower, &[Word::Target])),
-    ("len", (Verb::Len, &[Word::Source])),
-    (
-        "mutate",
-        (Verb::Mutate, &[Word::Target, Word::Quoted(Quote::Bytes)]),
-    ),
-    ("new", (Verb::New, &[Word::Target])),
-    ("owned", (Verb::Owned, &[Word::Target])),
+    ("fields", (Verb::Fields, &[Source, SEPARATOR])),
+    ("inline", (Verb::Inline, &[Target, LITERAL])),
+    ("join", (Verb::Join, &[Source, Number, LITERAL, Target])),
+    ("kind", (Verb::Kind, &[Source])),
+    ("lower", (Verb::Lower, &[Target])),
+    ("len", (Verb::Len, &[Source])),
+    ("mutate", (Verb::Mutate, &[Target, LITERAL])),
+    ("new", (Verb::New, &[Target])),
+    ("owned", (Verb::Owned, &[Target])),
     (
         "once",
-        (
-            Verb::Once,
-            &[
-                Word::Source,
-                Word::Target,
-                Word::Other,
-                Word::End,
-                Word::Pattern,
-            ],
-        ),
+        (Verb::Once, &[Source, Target, Number, Word::End, Pattern]),
     ),
-    (
-        "push",
-        (Verb::Push, &[Word::Target, Word::Quoted(Quote::Bytes)]),
-    ),
-    ("pop", (Verb::Pop, &[Word::Target])),
-    (
-        "pieces",
-        (
-            Verb::Pieces,
-            &[Word::Source, Word::Way, Word::Ends, Word::Target],
-        ),
-    ),
-    ("room", (Verb::Room, &[Word::Target, Word::Number])),
-    (
-        "repeat",
-        (Verb::Repeat, &[Word::Source, Word::Target, Word::Number]),
-    ),
-    (
-        "slice",
-        (Verb::Slice, &[Word::Source, Word::Target, Word::Range]),
-    ),
-    ("shrink", (Verb::Shrink, &[Word::Target, Word::Number])),
-    (
-        "set",
-        (Verb::Set, &[Word::Target, Word::Number, Word::Byte]),
-    ),
+    ("push", (Verb::Push, &[Target, LITERAL])),
+    ("pop", (Verb::Pop, &[Target])),
+    ("pieces", (Verb::Pieces, &[Source, Word::Way, Ends, Target])),
+    ("room", (Verb::Room, &[Target, Number])),
+    ("repeat", (Verb::Repeat, &[Source, Target, Number])),
+    ("slice", (Verb::Slice, &[Source, Target, Range])),
+    ("shrink", (Verb::Shrink, &[Target, Number])),
+    ("set", (Verb::Set, &[Target, Number, Byte])),
     (
         "strip",
-        (
-            Verb::Strip,
-            &[Word::Source, Word::Target, Word::End, Word::Pattern],
-        ),
+        (Verb::Strip, &[Source, Target, Word::End, Pattern]),
     ),
-    ("show", (Verb::Show, &[Word::Source])),
-    ("truncate", (Verb::Truncate, &[Word::Target, Word::Number])),
-    ("text", (Verb::Text, &[Word::Target])),
-    (
-        "trim",
-        (Verb::Trim, &[Word::Source, Word::Target, Word::Side]),
-    ),
+    ("show", (Verb::Show, &[Source])),
+    ("truncate", (Verb::Truncate, &[Target, Number])),
+    ("text", (Verb::Text, &[Target])),
+    ("trim", (Verb::Trim, &[Source, Target, Word::Side])),
     (
         "trimm",
-        (
-            Verb::TrimMatches,
-            &[Word::Source, Word::Target, Word::Side, Word::Pattern],
-        ),
+        (Verb::TrimMatches, &[Source, Target, Word::Side, Pattern]),
     ),
-    ("upper", (Verb::Upper, &[Word::Target])),
+    ("upper", (Verb::Upper, &[Target])),
 ];
 
 /// The lines whose names begin with a letter.

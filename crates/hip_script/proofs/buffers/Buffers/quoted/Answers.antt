@@ -1,5 +1,5 @@
 use Rattle.hip_script.specs.Said.{held}
-use Rattle.hip_script.proofs.Quotes.{lent-text, quotes-bytes, quotes-text, quotes-char}
+use Rattle.hip_script.proofs.Quotes.{lent-text, quotes-any, quotes-bytes, quotes-text, quotes-char}
 use Rattle.hip_script.proofs.buffers.Buffers.quoted.Goals as goal
 
 pub returns-in-Bytes-clause-ok : goal.returns-in-Bytes-clause-ok
@@ -12,3 +12,7 @@ returns-in_ok-text_of-in-Text-clause-ok c =
 pub returns-in-Some-clause-ok : goal.returns-in-Some-clause-ok
 returns-in-Some-clause-ok c =
     quotes-char _ _ _ _ (held c.args.self.now) c.in-Char.is (lent-text c.args.self.now.bytes.items _ _ c.args.literal c.deref-in-Char.ensures.value c.in_ok-text_of-in-Char.ensures.text) c.in-Some.ensures
+
+pub returns-in_ok-add_chars-in-Any-clause-ok : goal.returns-in_ok-add_chars-in-Any-clause-ok
+returns-in_ok-add_chars-in-Any-clause-ok c =
+    quotes-any _ _ _ _ (held c.args.self.now) _ c.in-Any.is (lent-text c.args.self.now.bytes.items _ _ c.args.literal c.deref-in-Any.ensures.value c.in_ok-text-in-Any.ensures.text) c.in_ok-add_chars-in-Any.ensures.ok

@@ -1,8 +1,9 @@
+use Rattle.std.proofs.Common.{rules}
 use Rattle.hip_script.specs.Said.{held}
 use Rattle.hip_script.proofs.Quotes.{reads-ends}
 use Rattle.hip_script.proofs.buffers.Buffers.read_ends.Goals as goal
 
 pub returns-clause-ok : goal.returns-clause-ok
 returns-clause-ok c =
-    let read = c.in_ok-said.ensures.ok in
-    reads-ends (held c.args.self.now) _ _ _ _ _ _ _ c.requires c.in-Some.ensures read.1 read.2
+    let read = c.in_ok-ends.ensures.ok in
+    reads-ends (held c.args.self.now) _ _ _ _ _ _ _ _ _ _ c.requires c.in-Some.ensures read.1 read.2 c.rare-rare.ensures c.in_ok-push.ensures.items (search rules)

@@ -16,11 +16,6 @@ returns-in-Target-clause-ok c =
     let set = λ (n : ℕ). record (fields_in (held c.args.self.now) c.args.said.now) { target = n } in
     rw c.in-Target.is (on_ok_weaker c.put-in-Target.result (λ is. puts set _ _ _ _ _ _ _ c.requires c.number-in-Target.ensures is refl refl refl refl) c.put-in-Target.ensures.ok)
 
-pub returns-in-Other-clause-ok : goal.returns-in-Other-clause-ok
-returns-in-Other-clause-ok c =
-    let set = λ (n : ℕ). record (fields_in (held c.args.self.now) c.args.said.now) { other = n } in
-    rw c.in-Other.is (on_ok_weaker c.put-in-Other.result (λ is. puts set _ _ _ _ _ _ _ c.requires c.number-in-Other.ensures is refl refl refl refl) c.put-in-Other.ensures.ok)
-
 pub returns-in-Number-clause-ok : goal.returns-in-Number-clause-ok
 returns-in-Number-clause-ok c =
     let set = λ (n : ℕ). record (fields_in (held c.args.self.now) c.args.said.now) { number = n } in

@@ -9,8 +9,8 @@ use Rattle.hip_script.proofs.script.Script.read.Given as goal
 -- what was read, and then what the lines say that are left
 abbrev pub invariant-loop-line : goal.invariant-loop-line
 invariant-loop-line l = record {
-  within : AllByRecursion (IsWithin (held l.buffers)) l.lines.items;
-  said : put_before (map (says_in (held l.buffers)) l.lines.items) (lines_said (l.number + 1) (lines l.rest)) ≡ lines_said 1 (lines l.input);
+  within : AllByRecursion (IsWithin (held l.script.buffers)) l.script.lines.items;
+  said : put_before (map (says_in (held l.script.buffers)) l.script.lines.items) (lines_said (l.number + 1) (lines l.rest)) ≡ lines_said 1 (lines l.input);
   counted : l.number + length l.rest ≤ length l.input;
 }
 
