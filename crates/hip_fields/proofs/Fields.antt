@@ -1,5 +1,5 @@
 -- One field more, and one record more, of those that are to be made.
-use Rattle.std.proofs.Common.{◌≡◌, ◌∙◌, ℕ, ◌+◌, ◌-◌, ◌≤◌, Bool, List, [], ◌∷◌, ◌++◌, length, drop, slice_range, Some, Result, Ok, ap, subst, sym, arith}
+use Rattle.std.proofs.Common.{◌≡◌, ◌∙◌, ℕ, ◌+◌, ◌-◌, ◌≤◌, ◌==◌, Bool, List, [], ◌∷◌, ◌++◌, length, drop, slice_range, Some, Result, Ok, ap, subst, sym, arith}
 use Rattle.std.proofs.lemmas.List.{append_assoc, length-drop, length-take-le}
 use Rattle.std.specs.Prelude.{IfOk}
 use Rattle.std.specs.declared.alloc.Global.{Global}
@@ -9,10 +9,24 @@ use Rattle.hip_text.specs.Handle.{Handle}
 use Rattle.hip_text.specs.Made.{IsPart}
 use Rattle.hip_text.specs.Meter.{RisesAtMost}
 use Rattle.hip_bytes.specs.declared.kind.Kind.{Kind}
-use Rattle.hip_fields.specs.Records.{AreFields, AreRecords, FirstRecord, FirstRecordCosts, RecordsLeft, fields_cost, records_cost}
+use Rattle.hip_match.specs.Characters.{char_ends}
+use Rattle.hip_match.specs.Joined.{parts}
+use Rattle.hip_match.specs.Pieces.{split}
+use Rattle.hip_fields.specs.Records.{AreFields, AreRecords, FirstRecord, FirstRecordCosts, RecordsLeft, fields_cost, fields_of, records_cost}
 
 pub length-part : (text : List ℕ) (start end : ℕ) → start ≤ end → end ≤ length text → length (slice_range text start end) ≡ end - start
 length-part text start end ordered within = length-take-le (end - start) (drop start text) (omega (arith, length-drop start text))
+
+pieces-of : (separator : ℕ) (text line : List ℕ) (pieces : List (ℕ × ℕ)) → pieces ≡ split (char_ends (λ c. c == separator) text) (length text)
+    → text ≡ line → pieces ≡ split (char_ends (λ c. c == separator) line) (length line)
+pieces-of separator text line pieces are same = subst (λ (xs : List ℕ). pieces ≡ split (char_ends (λ c. c == separator) xs) (length xs)) same are
+
+-- the fields at the pieces of a line
+pub fields-at : {E : Type 0} (source : Handle) (drawn : Result (Vec Handle Global) E) (separator : ℕ) (text line : List ℕ) (pieces : List (ℕ × ℕ))
+    → text ≡ line → pieces ≡ split (char_ends (λ c. c == separator) text) (length text)
+    → IfOk drawn (λ fields. AreFields source (parts line pieces) fields.items) → IfOk drawn (λ fields. AreFields source (fields_of separator line) fields.items)
+fields-at {E} source drawn separator text line pieces same are fields =
+    subst (λ (ranges : List (ℕ × ℕ)). IfOk drawn (λ fields. AreFields source (parts line ranges) fields.items)) (pieces-of separator text line pieces are same) fields
 
 pub field-next : (source : Handle) (all old new : List (List ℕ)) (text : List ℕ) (done items : List Handle) (field : Handle)
     → old ≡ text ∷ new → IsPart source field text → items ≡ done ++ field ∷ []

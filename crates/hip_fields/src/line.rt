@@ -7,6 +7,7 @@ ghost use Rattle.hip_fields.specs.Records.{AreFields, fields_cost, fields_of};
 
 use hip_cuts::hip_match::ranges::Ranges;
 use hip_cuts::hip_match::split::Split;
+use hip_cuts::hip_match::split_byte::SplitByte;
 use hip_cuts::{Backend, HipStr, Meter};
 use hip_text::laws::slice_of_slice;
 use std::alloc::{AllocError, Global};
@@ -54,6 +55,11 @@ pub(crate) fn fields_between<'b, B: Backend>(
         (fields_cost B.SHARES source.now.kind
         (fields_of separator (slice_range source.now.items start end))) }
 {
-    let pieces = Split::new(&source.as_str()[start..end], separator);
+    let line = &source.as_str()[start..end];
+    if separator.is_ascii() {
+        let pieces = SplitByte::new(line, separator as u8);
+        return fields_at(alloc, source, start, end, pieces, room, meter);
+    }
+    let pieces = Split::new(line, separator);
     fields_at(alloc, source, start, end, pieces, room, meter)
 }

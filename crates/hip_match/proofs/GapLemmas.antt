@@ -1,4 +1,4 @@
--- The parts of a text between its ASCII white space, from either end.
+-- The parts of a text between the characters of a set, from either end.
 use Rattle.std.proofs.Common.{◌≡◌, ℕ, ◌+◌, ◌-◌, ◌<◌, ◌≤◌, Bool, List, [], ◌∷◌, ◌++◌, Option, None, Some, length, refl, ap, sym, subst, ◌∙◌, arith, ⊎_elim}
 use Rattle.std.specs.Char.{is_ascii_whitespace}
 use Rattle.std.proofs.lemmas.Bool.{cases_lt}
@@ -21,12 +21,12 @@ use Rattle.hip_match.proofs.PiecesLemmas.{gaps-append, nonempty-kept, nonempty-d
 abbrev pub IsQuiet : (ℕ → Option ℕ) → ℕ → ℕ → Type 0
 IsQuiet ends from to = (a b : ℕ) → ends a ≡ Some b → from ≤ a → to < b
 
-module _ (t : List ℕ) (from to : ℕ) (w : IsWindow t from to) where
+module _ (belongs : ℕ → Bool) (t : List ℕ) (from to : ℕ) (w : IsWindow t from to) where
   abbrev e : ℕ → Option ℕ
-  e = char_ends is_ascii_whitespace t
+  e = char_ends belongs t
 
   chars : HasCharOccurrences t e
-  chars = record { spans = λ a b. char_ends-spans is_ascii_whitespace t a b w.utf8; one = λ a b. char_ends-one_char is_ascii_whitespace t a b w.utf8 }
+  chars = record { spans = λ a b. char_ends-spans belongs t a b w.utf8; one = λ a b. char_ends-one_char belongs t a b w.utf8 }
 
   pub next_cut : (at : ℕ) → StartsFirst e from (at, at + 1) → IsCut t (at, at + 1)
   next_cut at next = chars.spans at (at + 1) next.occurs
@@ -34,7 +34,7 @@ module _ (t : List ℕ) (from to : ℕ) (w : IsWindow t from to) where
   pub last_cut : (at : ℕ) → EndsLast e to (at, at + 1) → IsCut t (at, at + 1)
   last_cut at last = chars.spans at (at + 1) last.occurs
 
-  -- no white space before the first that is found
+  -- no such character before the first that is found
   pub quiet_before : NoneStarts e from to → IsQuiet e from to
   quiet_before none a b is le =
       let holds : a < b = (chars.one a b is).holds in
@@ -44,13 +44,13 @@ module _ (t : List ℕ) (from to : ℕ) (w : IsWindow t from to) where
   pub quiet_behind : (at : ℕ) → EndsLast e to (at, at + 1) → at < from → IsQuiet e from to
   quiet_behind at last lt a b is le = let holds : a < b = (chars.one a b is).holds in last.last a b is (omega arith)
 
-  first_part : (at : ℕ) → StartsFirst e from (at, at + 1) → at < to → parts t from to ≡ (from, at) ∷ parts t (at + 1) to
+  pub first_part : (at : ℕ) → StartsFirst e from (at, at + 1) → at < to → parts belongs t from to ≡ (from, at) ∷ parts belongs t (at + 1) to
   first_part at next lt =
       let after = next.after in
       ap (λ l. gaps from l to)
       (leftmost_between-some e from to at (at + 1) (at + 1) next (omega arith) (omega arith) (omega arith) (omega arith) (omega arith) (λ k lo mid hi. absurd (omega arith)))
 
-  last_part : (at : ℕ) → EndsLast e to (at, at + 1) → from ≤ at → parts t from to ≡ parts t from at ++ (at + 1, to) ∷ []
+  last_part : (at : ℕ) → EndsLast e to (at, at + 1) → from ≤ at → parts belongs t from to ≡ parts belongs t from at ++ (at + 1, to) ∷ []
   last_part at last le =
       ap (λ l. gaps from l to) (back_match t e chars from to w at (at + 1) last le)
       ∙ gaps-append (leftmost_between e from at) from to (at, at + 1)
@@ -59,25 +59,25 @@ module _ (t : List ℕ) (from to : ℕ) (w : IsWindow t from to) where
   quiet none k lo None is = end_within-none to (e k) is
   quiet none k lo (Some m) is = end_within-past to m (e k) is (none k m is lo)
 
-  only_part : IsQuiet e from to → parts t from to ≡ (from, to) ∷ []
+  pub only_part : IsQuiet e from to → parts belongs t from to ≡ (from, to) ∷ []
   only_part none = ap (λ l. gaps from l to) (leftmost_from-none (λ k. end_within to (e k)) from (to + 1 - from) (λ k lo hi. quiet none k lo (e k) refl))
 
-  pub first_run : (at : ℕ) → StartsFirst e from (at, at + 1) → at < to → from < at → nonempty (parts t from to) ≡ (from, at) ∷ nonempty (parts t (at + 1) to)
-  first_run at next lt full = ap nonempty (first_part at next lt) ∙ nonempty-kept (from, at) (parts t (at + 1) to) full
+  pub first_run : (at : ℕ) → StartsFirst e from (at, at + 1) → at < to → from < at → nonempty (parts belongs t from to) ≡ (from, at) ∷ nonempty (parts belongs t (at + 1) to)
+  first_run at next lt full = ap nonempty (first_part at next lt) ∙ nonempty-kept (from, at) (parts belongs t (at + 1) to) full
 
-  pub first_empty : (at : ℕ) → StartsFirst e from (at, at + 1) → at < to → at ≤ from → nonempty (parts t from to) ≡ nonempty (parts t (at + 1) to)
-  first_empty at next lt empty = ap nonempty (first_part at next lt) ∙ nonempty-dropped (from, at) (parts t (at + 1) to) empty
+  pub first_empty : (at : ℕ) → StartsFirst e from (at, at + 1) → at < to → at ≤ from → nonempty (parts belongs t from to) ≡ nonempty (parts belongs t (at + 1) to)
+  first_empty at next lt empty = ap nonempty (first_part at next lt) ∙ nonempty-dropped (from, at) (parts belongs t (at + 1) to) empty
 
-  pub last_run : (at : ℕ) → EndsLast e to (at, at + 1) → from ≤ at → at + 1 < to → nonempty (parts t from to) ≡ nonempty (parts t from at) ++ (at + 1, to) ∷ []
-  last_run at last le full = nonempty-append_kept (parts t from to) (parts t from at) (at + 1, to) (last_part at last le) full
+  pub last_run : (at : ℕ) → EndsLast e to (at, at + 1) → from ≤ at → at + 1 < to → nonempty (parts belongs t from to) ≡ nonempty (parts belongs t from at) ++ (at + 1, to) ∷ []
+  last_run at last le full = nonempty-append_kept (parts belongs t from to) (parts belongs t from at) (at + 1, to) (last_part at last le) full
 
-  pub last_empty : (at : ℕ) → EndsLast e to (at, at + 1) → from ≤ at → to ≤ at + 1 → nonempty (parts t from to) ≡ nonempty (parts t from at)
-  last_empty at last le empty = nonempty-append_dropped (parts t from to) (parts t from at) (at + 1, to) (last_part at last le) empty
+  pub last_empty : (at : ℕ) → EndsLast e to (at, at + 1) → from ≤ at → to ≤ at + 1 → nonempty (parts belongs t from to) ≡ nonempty (parts belongs t from at)
+  last_empty at last le empty = nonempty-append_dropped (parts belongs t from to) (parts belongs t from at) (at + 1, to) (last_part at last le) empty
 
-  pub only_run : IsQuiet e from to → from < to → nonempty (parts t from to) ≡ (from, to) ∷ []
+  pub only_run : IsQuiet e from to → from < to → nonempty (parts belongs t from to) ≡ (from, to) ∷ []
   only_run none full = ap nonempty (only_part none) ∙ nonempty-kept (from, to) [] full
 
-  pub no_run : to ≤ from → nonempty (parts t from to) ≡ []
+  pub no_run : to ≤ from → nonempty (parts belongs t from to) ≡ []
   no_run empty = ap nonempty (only_part (λ a b is le. let holds : a < b = (chars.one a b is).holds in omega arith)) ∙ nonempty-dropped (from, to) [] empty
 
 -- what is found by the table of white space
@@ -89,10 +89,10 @@ module _ (rows : List ℕ) (same : in_rows rows ≡ is_ascii_whitespace) (t byte
   space_ahead at found = next-match (in_rows rows) is_ascii_whitespace test (in_rows-low rows) t bytes w.utf8 value from (Some at) found
 
   pub quiet_ahead : IsFirst (Passes (in_rows rows) bytes) from (length bytes) None → IsQuiet (char_ends is_ascii_whitespace t) from to
-  quiet_ahead found = quiet_before t from to w (λ k lo hi. next-match (in_rows rows) is_ascii_whitespace test (in_rows-low rows) t bytes w.utf8 value from None found k lo)
+  quiet_ahead found = quiet_before is_ascii_whitespace t from to w (λ k lo hi. next-match (in_rows rows) is_ascii_whitespace test (in_rows-low rows) t bytes w.utf8 value from None found k lo)
 
   pub quiet_up_to : (at : ℕ) → IsFirst (Passes (in_rows rows) bytes) from (length bytes) (Some at) → to ≤ at → IsQuiet (char_ends is_ascii_whitespace t) from to
-  quiet_up_to at found le = quiet_before t from to w (λ k lo hi. (space_ahead at found).first k lo (omega arith))
+  quiet_up_to at found le = quiet_before is_ascii_whitespace t from to w (λ k lo hi. (space_ahead at found).first k lo (omega arith))
 
   pub space_behind : (at : ℕ) → IsLast (Passes (in_rows rows) bytes) 0 to (Some at) → EndsLast (char_ends is_ascii_whitespace t) to (at, at + 1)
   space_behind at found = last-match (in_rows rows) is_ascii_whitespace test (in_rows-low rows) t bytes w.utf8 value to (Some at) w.end.0 found

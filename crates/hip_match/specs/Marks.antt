@@ -1,6 +1,5 @@
 -- Where the bytes of a text pass a test, as the bits of a number. Only private functions cite it.
 use Rattle.std.specs.Prelude.{◌≡◌, ℕ, ◌+◌, ◌-◌, ◌/◌, ◌%◌, ◌<◌, ◌≤◌, ◌==◌, ◌&&◌, nat_lt, nat_le, Bool, not, List, length, slice_index, bit_and, if◌then◌else◌}
-use Rattle.std.specs.Char.{is_ascii_whitespace}
 use Rattle.std.specs.Int.{bit_at}
 use Rattle.memchr.specs.Find.{Nowhere, Passes}
 use Rattle.hip_match.specs.Characters.{char_ends}
@@ -54,6 +53,6 @@ pub record Behind (test : ℕ → Bool) (text : List ℕ) (to start bits : ℕ) 
   pub beyond : Nowhere (Passes test text) to start
   pub left : AreUpTo test text to start bits
 
--- the parts from `from` up to `to` between ASCII white space
-abbrev pub parts : List ℕ → ℕ → ℕ → List (ℕ × ℕ)
-parts text from to = gaps from (leftmost_between (char_ends is_ascii_whitespace text) from to) to
+-- the parts from `from` up to `to` between the characters of a set
+abbrev pub parts : (ℕ → Bool) → List ℕ → ℕ → ℕ → List (ℕ × ℕ)
+parts belongs text from to = gaps from (leftmost_between (char_ends belongs text) from to) to

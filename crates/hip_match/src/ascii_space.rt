@@ -45,7 +45,7 @@ impl<'h> Ranges for SplitAsciiWhitespace<'h> {
 
     ghost text = { λ s. s.text.now };
 
-    ghost rest = { λ s. nonempty (parts s.text.now s.from s.to) };
+    ghost rest = { λ s. nonempty (parts is_ascii_whitespace s.text.now s.from s.to) };
 
     #[inline(always)]
     fn next(&mut self) -> Option<(usize, usize)> {

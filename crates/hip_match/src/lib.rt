@@ -10,7 +10,7 @@
 //! - [`Ranges`] is a walk from its front, [`RangesBack`] from both ends, and the clones of [`CloneRanges`] give what they do: [`Split`],
 //!   [`SplitInclusive`], [`SplitTerminator`], [`SplitN`], [`Matches`] and [`MatchIndices`] from a text's front, [`RSplit`],
 //!   [`RSplitTerminator`], [`RSplitN`], [`RMatches`] and [`RMatchIndices`] from its end, [`Lines`], [`SplitWhitespace`] and
-//!   [`SplitAsciiWhitespace`].
+//!   [`SplitAsciiWhitespace`]. [`SplitByte`] is a walk from the front alone.
 //! - [`trim_start`], [`trim_end`], [`trim::trim`] and [`trim_matches`] with its kin, [`strip_prefix`], [`strip_suffix`], [`split_once`]
 //!   and [`rsplit_once`] give one range or two.
 //! - [`draw_into`] draws a walk by a script of [`End`]s.
@@ -46,6 +46,7 @@ pub mod rmatches;
 pub mod rsplit;
 pub mod sets;
 pub mod split;
+pub mod split_byte;
 pub mod texts;
 pub mod trim;
 pub mod white_space;
@@ -61,6 +62,7 @@ pub use ranges::{CloneRanges, Ranges, RangesBack};
 pub use rmatches::{RMatchIndices, RMatches};
 pub use rsplit::{RSplit, RSplitN, RSplitTerminator};
 pub use split::{Split, SplitInclusive, SplitN, SplitTerminator};
+pub use split_byte::SplitByte;
 pub use texts::TextSearcher;
 pub use trim::{
     rsplit_once, split_once, strip_prefix, strip_suffix, trim_end, trim_end_matches, trim_matches,

@@ -16,4 +16,5 @@ pub use hip_match::ranges::{CloneRanges, Ranges, RangesBack};
 pub use hip_match::rmatches::{RMatchIndices, RMatches};
 pub use hip_match::rsplit::{RSplit, RSplitN, RSplitTerminator};
 pub use hip_match::split::{Split, SplitInclusive, SplitN, SplitTerminator};
+pub use hip_match::split_byte::SplitByte;
 pub use hip_match::white_space::{SplitAsciiWhitespace, SplitWhitespace};

@@ -9,7 +9,7 @@ const BLOCK: usize = 64;
 
 /// Asserts that a set has these of the 64 bytes from `at` on.
 fn marks(rt: &impl Abort, set: AsciiSet, bytes: &[u8; 256], at: usize, want: u64) {
-    if at + BLOCK <= bytes.len() {
+    if at <= bytes.len() - BLOCK {
         assert_eq!(rt; set.marks(bytes, at), want);
     }
 }

@@ -14,7 +14,7 @@ invariant-loop-self l =
     × (l.self.from < l.self.to → Ahead (in_rows l.self.marks.test.rows) text l.self.from l.self.marks.front.next l.self.marks.front.bits
     × Behind (in_rows l.self.marks.test.rows) text l.self.to l.self.marks.back.start l.self.marks.back.bits)
     × (text ≡ l.initial.self.text.now)
-    × (nonempty (parts l.initial.self.text.now l.initial.self.from l.initial.self.to) ≡ nonempty (parts text l.self.from l.self.to))
+    × (nonempty (parts is_ascii_whitespace l.initial.self.text.now l.initial.self.from l.initial.self.to) ≡ nonempty (parts is_ascii_whitespace text l.self.from l.self.to))
 
 abbrev pub decreases-loop-self : goal.decreases-loop-self
 decreases-loop-self l = l.self.to - l.self.from
