@@ -1,0 +1,5 @@
+use Rattle.own_pattern.proofs.Bytes.{empty_table}
+use Rattle.own_pattern.proofs.table.TruthTable.new.Goals as goal
+
+pub returns : goal.returns
+returns c = empty_table
