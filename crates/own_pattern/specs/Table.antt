@@ -1,6 +1,8 @@
--- Tables of truths, one for each character of ASCII.
-use Rattle.std.specs.Prelude.{ℕ, Bool, false, ◌&&◌, List, get_or, nat_lt}
+-- Sets of characters of ASCII, as tables of truths.
+use Rattle.std.specs.Prelude.{ℕ, Bool, false, ◌&&◌, get_or}
+use Rattle.std.specs.Char.{is_ascii}
+use Rattle.own_pattern.specs.declared.table.TruthTable.{TruthTable}
 
--- whether a table has the character c
-abbrev pub in_table : List Bool → ℕ → Bool
-in_table has c = nat_lt c 128 && get_or has c false
+-- whether the character c is one of the table's
+abbrev pub in_table : TruthTable → ℕ → Bool
+in_table table c = is_ascii c && get_or table.has c false

@@ -11,12 +11,12 @@ impl ReversePattern for TruthTable {
 
     #[inline]
     fn last_match(&self, text: &str, to: usize) -> Option<(usize, usize)> {
-        let mut end = to;
-        while end > 0 {
-            if self.has_at(text, end - 1) {
-                return Some((end - 1, end));
+        let mut at = to;
+        while at > 0 {
+            at -= 1;
+            if let Some(end) = self.end_at(text, at) {
+                return Some((at, end));
             }
-            end -= 1;
         }
         None
     }
@@ -28,23 +28,18 @@ impl ReversePattern for TruthTable {
 
     #[inline]
     fn match_before(&self, text: &str, to: usize) -> Option<usize> {
-        if to == 0 {
-            return None;
-        }
-        if self.has_at(text, to - 1) {
-            Some(to - 1)
-        } else {
-            None
-        }
+        let at = to.checked_sub(1)?;
+        self.end_at(text, at)?;
+        Some(at)
     }
 
-    ghost one_start = { λ set. char_ends-one_start (in_table set.has) };
+    ghost one_start = { λ table. char_ends-one_start (in_table table) };
 }
 
 impl DoubleEndedPattern for TruthTable {
     #[inline]
     fn starts_at(&self, text: &str, at: usize) -> bool {
-        self.match_at(text, at).is_some()
+        self.end_at(text, at).is_some()
     }
 }
 
@@ -54,5 +49,5 @@ impl OneChar for TruthTable {
         self.match_before(text, to).is_some()
     }
 
-    ghost one_char = { λ set. char_ends-one_char (in_table set.has) };
+    ghost one_char = { λ table. char_ends-one_char (in_table table) };
 }

@@ -9,16 +9,17 @@ use hipstr::pattern::{ClonePattern, Pattern};
 impl Pattern for TruthTable {
     type Searcher = ();
 
-    ghost ends = { λ set. char_ends (in_table set.has) };
+    ghost ends = { λ table. char_ends (in_table table) };
 
     #[inline]
     fn searcher(&self, _text: &str, _from: usize, _to: usize) {}
 
     #[inline]
+    #[tactic(auto, using(crate::proofs::Starts::none_past))]
     fn next_match(&self, text: &str, from: usize) -> Option<(usize, usize)> {
         for at in from..text.len() {
-            if self.has_at(text, at) {
-                return Some((at, at + 1));
+            if let Some(end) = self.end_at(text, at) {
+                return Some((at, end));
             }
         }
         None
@@ -30,19 +31,11 @@ impl Pattern for TruthTable {
     }
 
     #[inline]
-    #[tactic(auto, using(crate::proofs::Bytes::ends_past))]
     fn match_at(&self, text: &str, at: usize) -> Option<usize> {
-        if at == text.len() {
-            return None;
-        }
-        if self.has_at(text, at) {
-            Some(at + 1)
-        } else {
-            None
-        }
+        self.end_at(text, at)
     }
 
-    ghost spans = { λ set. char_ends-spans (in_table set.has) };
+    ghost spans = { λ table. char_ends-spans (in_table table) };
 }
 
 impl ClonePattern for TruthTable {

@@ -1,5 +1,5 @@
 //! Sets of characters of ASCII.
-ghost use Rattle.std.specs.Prelude.{◌≡◌, ◌==◌, ◌+◌, ◌<◌, ◌||◌, ℕ, None, Some, false, length, if◌then◌else◌};
+ghost use Rattle.std.specs.Prelude.{◌≡◌, ◌==◌, ◌<◌, ◌||◌, ℕ, false};
 ghost use Rattle.hipstr.specs.Characters.{char_ends};
 ghost use Rattle.own_pattern.specs.Table.{in_table};
 
@@ -12,7 +12,7 @@ pub struct TruthTable {
 impl TruthTable {
     /// No character.
     pub fn new() -> Self
-        ensures { (c : ℕ) → in_table result.has c ≡ false }
+        ensures { (c : ℕ) → in_table result c ≡ false }
     {
         TruthTable { has: [false; 128] }
     }
@@ -20,21 +20,31 @@ impl TruthTable {
     /// These characters and one more.
     pub fn with(self, byte: u8) -> Self
         requires { byte < 128 }
-        ensures { (c : ℕ) → in_table result.has c ≡ (c == byte || in_table self.has c) }
+        ensures { (c : ℕ) → in_table result c ≡ (c == byte || in_table self c) }
     {
         let mut has = self.has;
         has[byte as usize] = true;
         TruthTable { has }
     }
 
-    // Whether the byte at `at` is a character of the set.
+    // Whether a byte is a character of the set.
     #[inline]
-    pub(crate) fn has_at(&self, text: &str, at: usize) -> bool
-        requires { at < length text.now }
-        ensures { char_ends (in_table self.now.has) text.now at
-            ≡ (if result then Some (at + 1) else None) }
+    fn has(&self, byte: u8) -> bool
+        ensures { result ≡ in_table self.now byte }
     {
-        let byte = text.as_bytes()[at];
         byte < 128 && self.has[byte as usize]
+    }
+
+    // Where the character at `at` ends, if it is one of the set.
+    #[inline]
+    pub(crate) fn end_at(&self, text: &str, at: usize) -> Option<usize>
+        ensures { result ≡ char_ends (in_table self.now) text.now at }
+    {
+        let bytes = text.as_bytes();
+        if at < bytes.len() && self.has(bytes[at]) {
+            Some(at + 1)
+        } else {
+            None
+        }
     }
 }

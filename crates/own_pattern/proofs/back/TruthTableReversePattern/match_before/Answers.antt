@@ -1,16 +1,15 @@
-use Rattle.std.proofs.Common.{arith, sym}
-use Rattle.own_pattern.proofs.Bytes.{starts_before, none_starts}
+use Rattle.std.proofs.Common.{◌≡◌, ◌∙◌, ◌+◌, ◌-◌, arith, sym}
+use Rattle.own_pattern.proofs.Ends.{start_of-none, start_of-one, start_of-zero}
 use Rattle.own_pattern.proofs.back.TruthTableReversePattern.match_before.Goals as goal
 
-pub returns-then-to-eq0 : goal.returns-then-to-eq0
-returns-then-to-eq0 c =
-    let zero = c.if-to-eq0.true in
-    sym (none_starts c.args.self.now.has c.args.text.now c.utf8.text c.args.to (λ some. absurd (omega (arith, zero))))
+pub returns-in_err-at : goal.returns-in_err-at
+returns-in_err-at c = c.from_residual.ensures ∙ sym (start_of-zero c.args.self.now c.args.text.now c.utf8.text c.args.to c.in_err-at.ensures)
 
-pub returns-then-has_at : goal.returns-then-has_at
-returns-then-has_at c =
-    sym (starts_before c.args.self.now.has c.args.text.now c.utf8.text c.args.to (omega (arith, c.if-to-eq0.false)) c.if-has_at.ensures)
+pub returns-in_err-end_at : goal.returns-in_err-end_at
+returns-in_err-end_at c =
+    c.from_residual-in_err-end_at.ensures
+    ∙ sym (start_of-none c.args.self.now c.args.text.now c.utf8.text c.in_ok-at.at c.args.to (omega (arith, c.in_ok-at.ensures)) (sym c.in_err-end_at.ensures))
 
-pub returns-else-has_at : goal.returns-else-has_at
-returns-else-has_at c =
-    sym (none_starts c.args.self.now.has c.args.text.now c.utf8.text c.args.to (λ some. c.if-has_at.ensures))
+pub returns : goal.returns
+returns c =
+    sym (start_of-one c.args.self.now c.args.text.now c.utf8.text c.in_ok-at.at c.in_ok-end_at.field-0 c.args.to (omega (arith, c.in_ok-at.ensures)) (sym c.in_ok-end_at.ensures))

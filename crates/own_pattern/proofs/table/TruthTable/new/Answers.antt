@@ -1,4 +1,4 @@
-use Rattle.own_pattern.proofs.Bytes.{empty_table}
+use Rattle.own_pattern.proofs.Starts.{empty_table}
 use Rattle.own_pattern.proofs.table.TruthTable.new.Goals as goal
 
 pub returns : goal.returns
