@@ -1,5 +1,5 @@
 -- The occurrences that end at a place: each is the byte before it.
-use Rattle.std.proofs.Common.{◌≡◌, ◌∙◌, ℕ, zero, suc, ◌+◌, ◌-◌, ◌<◌, ◌≤◌, Bool, true, false, List, Option, Some, None, length, refl, ap, sym, arith, ⊎_elim}
+use Rattle.std.proofs.Common.{◌≡◌, ◌∙◌, ℕ, zero, suc, ◌+◌, ◌-◌, ◌<◌, ◌≤◌, true, List, Option, Some, None, length, refl, ap, sym, arith, ⊎_elim}
 use Rattle.std.specs.Prelude.{slice_index}
 use Rattle.std.specs.Str.{IsUtf8}
 use Rattle.std.proofs.lemmas.Bool.{cases_lt, cases_Bool, cond-true, cond-false, eq-eqb, eqb-true, false≢true}
@@ -71,16 +71,16 @@ module _ (table : TruthTable) (t : List ℕ) (utf8 : IsUtf8 t) where
   none_before to at first last a b is = let one = one_byte a b is in last a b is (omega (arith, one))
 
   -- the start of what ends at a place: the place before it, if one starts there
-  pub start_of-one : (at b to : ℕ) → to ≡ at + 1 → ends at ≡ Some b → start_of ends to ≡ Some at
-  start_of-one at b to next is =
+  pub start_of_one : (at b to : ℕ) → to ≡ at + 1 → ends at ≡ Some b → start_of ends to ≡ Some at
+  start_of_one at b to next is =
       let one = one_byte at b is in
       let same : b ≡ to = omega (arith, one) in
       start_among-found ends 0 to (to + 1) at (λ a last. let other = one_byte a to last in omega (arith, other)) (omega arith) (omega arith) (is ∙ ap (λ k. Some k) same)
 
-  pub start_of-none : (at to : ℕ) → to ≡ at + 1 → ends at ≡ None → start_of ends to ≡ None
-  start_of-none at to next none =
+  pub start_of_none : (at to : ℕ) → to ≡ at + 1 → ends at ≡ None → start_of ends to ≡ None
+  start_of_none at to next none =
       start_among-none ends 0 to (to + 1)
       (λ a is. let one = one_byte a to is in let here : at ≡ a = omega (arith, one) in none-some to (sym none ∙ ap ends here ∙ is))
 
-  pub start_of-zero : (to : ℕ) → ¬ (0 < to) → start_of ends to ≡ None
-  start_of-zero to first = start_among-none ends 0 to (to + 1) (λ a is. let one = one_byte a to is in first (omega (arith, one)))
+  pub start_of_zero : (to : ℕ) → ¬ (0 < to) → start_of ends to ≡ None
+  start_of_zero to first = start_among-none ends 0 to (to + 1) (λ a is. let one = one_byte a to is in first (omega (arith, one)))

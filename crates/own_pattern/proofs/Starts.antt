@@ -1,5 +1,5 @@
 -- Where a set of characters of ASCII occurs, byte by byte: no byte of another character is one of ASCII.
-use Rattle.std.proofs.Common.{◌≡◌, ◌∙◌, ℕ, ◌+◌, ◌<◌, ◌≤◌, ◌&&◌, Bool, true, false, List, Option, Some, None, length, drop, replicate, get_or, ap, sym, arith, ⊎_elim, add-zero, get_or-drop}
+use Rattle.std.proofs.Common.{◌≡◌, ◌∙◌, ℕ, ◌+◌, ◌<◌, ◌≤◌, ◌&&◌, Bool, true, false, List, Some, None, length, drop, replicate, get_or, ap, sym, arith, ⊎_elim, add-zero, get_or-drop}
 use Rattle.std.specs.Prelude.{slice_index}
 use Rattle.std.specs.Char.{is_ascii, len_utf8}
 use Rattle.std.specs.Str.{IsUtf8}

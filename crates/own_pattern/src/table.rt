@@ -11,6 +11,7 @@ pub struct TruthTable {
 
 impl TruthTable {
     /// No character.
+    #[tactic(auto, using(crate::proofs::Starts::empty_table))]
     pub fn new() -> Self
         ensures { (c : ℕ) → in_table result c ≡ false }
     {
@@ -37,11 +38,11 @@ impl TruthTable {
 
     // Where the character at `at` ends, if it is one of the set.
     #[inline]
+    #[tactic(auto, using(crate::proofs::Starts::byte_no, crate::proofs::Starts::byte_yes, crate::proofs::Starts::ends_past))]
     pub(crate) fn end_at(&self, text: &str, at: usize) -> Option<usize>
         ensures { result ≡ char_ends (in_table self.now) text.now at }
     {
-        let bytes = text.as_bytes();
-        if at < bytes.len() && self.has(bytes[at]) {
+        if at < text.len() && self.has(text.as_bytes()[at]) {
             Some(at + 1)
         } else {
             None
