@@ -84,3 +84,9 @@ module _ (table : TruthTable) (t : List ℕ) (utf8 : IsUtf8 t) where
 
   pub start_of_zero : (to : ℕ) → ¬ (0 < to) → start_of ends to ≡ None
   start_of_zero to first = start_among-none ends 0 to (to + 1) (λ a is. let one = one_byte a to is in first (omega (arith, one)))
+
+-- a step of a walk from the end
+pub ruleset steps = (one_byte, step_back, none_before)
+
+-- what ends at a place
+pub ruleset ends_there = (start_of_one, start_of_none, start_of_zero)

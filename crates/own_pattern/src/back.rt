@@ -10,7 +10,7 @@ impl ReversePattern for TruthTable {
     fn reverse_searcher(&self, _text: &str, _from: usize, _to: usize) {}
 
     #[inline]
-    #[tactic(auto, using(crate::proofs::Ends::none_before, crate::proofs::Ends::one_byte, crate::proofs::Ends::step_back))]
+    #[tactic(auto, using(crate::proofs::Ends::steps))]
     fn last_match(&self, text: &str, to: usize) -> Option<(usize, usize)> {
         let mut at = to;
         while at > 0 {
@@ -28,7 +28,7 @@ impl ReversePattern for TruthTable {
     }
 
     #[inline]
-    #[tactic(auto, using(crate::proofs::Ends::start_of_none, crate::proofs::Ends::start_of_one, crate::proofs::Ends::start_of_zero))]
+    #[tactic(auto, using(crate::proofs::Ends::ends_there))]
     fn match_before(&self, text: &str, to: usize) -> Option<usize> {
         let at = to.checked_sub(1)?;
         self.end_at(text, at)?;

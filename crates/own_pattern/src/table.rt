@@ -38,7 +38,7 @@ impl TruthTable {
 
     // Where the character at `at` ends, if it is one of the set.
     #[inline]
-    #[tactic(auto, using(crate::proofs::Starts::byte_no, crate::proofs::Starts::byte_yes, crate::proofs::Starts::ends_past))]
+    #[tactic(auto, using(crate::proofs::Starts::starts))]
     pub(crate) fn end_at(&self, text: &str, at: usize) -> Option<usize>
         ensures { result ≡ char_ends (in_table self.now) text.now at }
     {
