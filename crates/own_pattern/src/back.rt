@@ -1,0 +1,55 @@
+//! The set as a pattern that is looked for from a text's end too.
+ghost use Rattle.hipstr.specs.CharLaws.{char_ends-one_char, char_ends-one_start};
+ghost use Rattle.own_pattern.specs.Table.{in_table};
+
+use crate::table::TruthTable;
+use hipstr::pattern::{DoubleEndedPattern, OneChar, Pattern, ReversePattern};
+
+impl ReversePattern for TruthTable {
+    #[inline]
+    fn reverse_searcher(&self, _text: &str, _from: usize, _to: usize) {}
+
+    #[inline]
+    #[tactic(auto, using(crate::proofs::Ends::steps))]
+    fn last_match(&self, text: &str, to: usize) -> Option<(usize, usize)> {
+        let mut at = to;
+        while at > 0 {
+            at -= 1;
+            if let Some(end) = self.end_at(text, at) {
+                return Some((at, end));
+            }
+        }
+        None
+    }
+
+    #[inline]
+    fn last_match_by(&self, _searcher: &mut (), text: &str, to: usize) -> Option<(usize, usize)> {
+        self.last_match(text, to)
+    }
+
+    #[inline]
+    #[tactic(auto, using(crate::proofs::Ends::ends_there))]
+    fn match_before(&self, text: &str, to: usize) -> Option<usize> {
+        let at = to.checked_sub(1)?;
+        self.end_at(text, at)?;
+        Some(at)
+    }
+
+    ghost one_start = { λ table. char_ends-one_start (in_table table) };
+}
+
+impl DoubleEndedPattern for TruthTable {
+    #[inline]
+    fn starts_at(&self, text: &str, at: usize) -> bool {
+        self.end_at(text, at).is_some()
+    }
+}
+
+impl OneChar for TruthTable {
+    #[inline]
+    fn ends_at(&self, text: &str, to: usize) -> bool {
+        self.match_before(text, to).is_some()
+    }
+
+    ghost one_char = { λ table. char_ends-one_char (in_table table) };
+}
