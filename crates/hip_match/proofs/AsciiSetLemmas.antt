@@ -1,17 +1,15 @@
 -- Sets of characters of ASCII, by bytes: no byte of another character is one of ASCII.
-use Rattle.std.proofs.Common.{◌≡◌, ℕ, ◌+◌, ◌-◌, ◌*◌, ◌/◌, ◌%◌, ◌^◌, ◌<◌, ◌≤◌, ◌==◌, ◌&&◌, Bool, true, false, not, List, Option, Some, None, length, drop, sym, ap, subst, ◌∙◌, arith, refl, ⊎_elim, add-zero, get_or-drop, bit_and}
+use Rattle.std.proofs.Common.{◌≡◌, ℕ, ◌+◌, ◌/◌, ◌%◌, ◌<◌, ◌≤◌, ◌==◌, ◌&&◌, Bool, true, false, List, Option, Some, None, length, drop, sym, ap, subst, ◌∙◌, arith, ⊎_elim, add-zero, get_or-drop}
 use Rattle.std.specs.Prelude.{nat_lt, slice_index}
 use Rattle.std.specs.Int.{bit_at}
 use Rattle.std.specs.Option.{option_map}
 use Rattle.std.proofs.lemmas.Bool.Decides.{nat_tests}
-use Rattle.std.proofs.lemmas.Bool.{cases_lt, cases_Bool, false≢true, and_parts}
-use Rattle.std.proofs.lemmas.Nat.{and_mask}
-use Rattle.std.proofs.lemmas.Nat.Bits.{and_pow}
+use Rattle.std.proofs.lemmas.Bool.{cases_lt, cases_Bool, false≢true}
 use Rattle.std.proofs.lemmas.Option.{none-some, same_Some}
 use Rattle.std.proofs.lemmas.Str.{byte_from_char, IsCharBoundary-before_ascii}
 use Rattle.std.specs.Str.{IsUtf8}
 use Rattle.memchr.specs.Find.{IsFirst, IsLast, Passes}
-use Rattle.hip_match.specs.Marks.{has_nibbles, in_rows}
+use Rattle.hip_match.specs.Marks.{in_rows}
 use Rattle.hip_match.specs.Occurrence.{IsNextMatch, IsLastMatch, is_boundary}
 use Rattle.hip_match.specs.Characters.{char_ends}
 use Rattle.hip_match.specs.CharLaws.{is_boundary-true, is_boundary-is, starts_char, char_at-ascii, char_at-end, char_at-off, char_ends-no, char_ends-none}

@@ -1,5 +1,5 @@
 -- The parts of a text between the characters of a set, from either end.
-use Rattle.std.proofs.Common.{◌≡◌, ℕ, ◌+◌, ◌-◌, ◌<◌, ◌≤◌, Bool, List, [], ◌∷◌, ◌++◌, Option, None, Some, length, refl, ap, sym, subst, ◌∙◌, arith, ⊎_elim}
+use Rattle.std.proofs.Common.{◌≡◌, ℕ, ◌+◌, ◌-◌, ◌<◌, ◌≤◌, Bool, List, [], ◌∷◌, ◌++◌, Option, None, Some, length, refl, ap, sym, ◌∙◌, arith, ⊎_elim}
 use Rattle.std.specs.Char.{is_ascii_whitespace}
 use Rattle.std.proofs.lemmas.Bool.{cases_lt}
 use Rattle.std.proofs.lemmas.Option.{none-some}
@@ -8,7 +8,7 @@ use Rattle.hip_match.specs.Characters.{char_ends}
 use Rattle.hip_match.specs.CharLaws.{char_ends-spans, char_ends-one_char}
 use Rattle.hip_match.specs.Leftmost.{leftmost_between, end_within}
 use Rattle.hip_match.specs.Marks.{in_rows, parts}
-use Rattle.hip_match.specs.Occurrence.{EndsLast, IsCut, IsLastMatch, IsNextMatch, NoneStarts, StartsFirst}
+use Rattle.hip_match.specs.Occurrence.{EndsLast, IsCut, NoneStarts, StartsFirst}
 use Rattle.hip_match.specs.Pieces.{gaps}
 use Rattle.hip_match.specs.Ready.{IsWindow}
 use Rattle.hip_match.specs.Runs.{nonempty}

@@ -1,15 +1,15 @@
 -- The bytes with which a character of white space begins.
-use Rattle.std.proofs.Common.{◌≡◌, ℕ, ◌+◌, ◌-◌, ◌/◌, ◌<◌, ◌≤◌, ◌&&◌, ◌||◌, Bool, true, false, not, cond, List, ◌∷◌, ◌++◌, [], Option, Some, None, length, drop, sym, ap, subst, ◌∙◌, arith, refl, ⊎_elim, add-zero, get_or, get_or-drop}
+use Rattle.std.proofs.Common.{◌≡◌, ℕ, ◌+◌, ◌/◌, ◌<◌, ◌≤◌, ◌||◌, Bool, true, false, not, cond, List, ◌∷◌, ◌++◌, [], Some, None, length, drop, sym, ap, ◌∙◌, arith, refl, ⊎_elim, add-zero, get_or, get_or-drop}
 use Rattle.std.specs.Prelude.{nat_lt, nat_le, slice_index}
-use Rattle.std.specs.Char.{encode_utf8, is_whitespace}
+use Rattle.std.specs.Char.{is_whitespace}
 use Rattle.std.specs.Str.{IsUtf8, IsCharBoundary}
 use Rattle.std.proofs.lemmas.Bool.Decides.{nat_tests}
 use Rattle.std.proofs.lemmas.Option.{none-some, same_Some}
-use Rattle.std.proofs.lemmas.Bool.{agree_below_at, cases_lt, cases_Bool, cond-true, cond-false, false≢true}
+use Rattle.std.proofs.lemmas.Bool.{agree_below_at, cases_lt, cond-true, cond-false}
 use lib.Utf8.{encode}
 use Rattle.memchr.specs.Find.{IsFirst, IsLast, Nowhere, Passes}
-use Rattle.hip_match.specs.Marks.{Ahead, Behind, has_nibbles}
-use Rattle.hip_match.specs.Occurrence.{EndsLast, GoesOnAt, GoesOnBefore, IsLastMatch, NoneStarts, StartsFirst}
+use Rattle.hip_match.specs.Marks.{Ahead, has_nibbles}
+use Rattle.hip_match.specs.Occurrence.{EndsLast, GoesOnAt, NoneStarts, StartsFirst}
 use Rattle.hip_match.specs.Characters.{char_ends}
 use Rattle.hip_match.specs.CharLaws.{is_boundary-is, char_ends-is, char_ends-one_char, char_ends-spans}
 use Rattle.hip_match.specs.declared.byte_test.TheConstants.{SPACE_COLUMNS, SPACE_ROWS}

@@ -365,7 +365,12 @@ impl<'a, const N: usize> Pattern for &'a [char; N] {
 
     #[inline]
     fn next_match(&self, text: &str, from: usize) -> Option<(usize, usize)> {
-        next_of_set(self, &mut set_searcher(self.as_slice(), from, text.len()), text, from)
+        next_of_set(
+            self,
+            &mut set_searcher(self.as_slice(), from, text.len()),
+            text,
+            from,
+        )
     }
 
     #[inline(always)]

@@ -1,4 +1,4 @@
-use Rattle.std.proofs.Common.{◌<◌, ◌^◌, arith}
+use Rattle.std.proofs.Common.{arith}
 use Rattle.hip_match.proofs.MarkLemmas.{block-is}
 use Rattle.hip_match.proofs.marks.block.Goals as goal
 

@@ -1,4 +1,4 @@
-use Rattle.std.proofs.Common.{◌≡◌, length, arith}
+use Rattle.std.proofs.Common.{arith}
 use Rattle.hip_match.proofs.TableLemmas.{others}
 use Rattle.hip_match.proofs.ascii_set.AsciiSet.complement.Goals as goal
 

@@ -1,5 +1,4 @@
 use Rattle.std.proofs.Common.{◌≡◌, length, arith}
-use Rattle.std.proofs.lemmas.Grind.{common_steps}
 use Rattle.hip_match.proofs.TableLemmas.{one_more}
 use Rattle.hip_match.proofs.ascii_set.AsciiSet.with.Goals as goal
 

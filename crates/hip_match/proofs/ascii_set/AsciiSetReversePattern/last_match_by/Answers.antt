@@ -7,7 +7,7 @@ use Rattle.hip_match.proofs.ascii_set.AsciiSetReversePattern.last_match_by.Goals
 pub returns-in_err-at-clause-found : goal.returns-in_err-at-clause-found
 returns-in_err-at-clause-found c =
     rw c.from_residual.ensures (last-match (in_rows c.args.searcher.now.test.rows) (in_set c.args.self.now) (λ d. ap (λ test. in_rows test.rows d) c.requires.ready.0) (in_rows-low _)
-        c.args.text.now c.as_bytes.result.now c.utf8.text c.as_bytes.ensures.value c.args.to None c.requires.boundary.0 c.in_err-at.ensures.found)
+    c.args.text.now c.as_bytes.result.now c.utf8.text c.as_bytes.ensures.value c.args.to None c.requires.boundary.0 c.in_err-at.ensures.found)
 
 pub returns-clause-found : goal.returns-clause-found
 returns-clause-found c =

@@ -1,4 +1,4 @@
-use Rattle.std.proofs.Common.{length, ap, refl, ◌∙◌, arith}
+use Rattle.std.proofs.Common.{ap, refl, ◌∙◌, arith}
 use Rattle.std.proofs.lemmas.Str.{IsCharBoundary-start, IsCharBoundary-end}
 use Rattle.hip_match.specs.Marks.{in_rows}
 use Rattle.hip_match.proofs.ascii_space.SplitAsciiWhitespace.new.Goals as goal

@@ -20,8 +20,7 @@ returns-in-Some-clause-ready c =
     let t = c.args.self.now.text.now in
     let is : ℕ → Bool = λ d. d == c.args.self.now.byte.0 in
     let w : IsWindow t c.args.self.now.from (length t) = record { utf8 = c.requires.1; start = c.requires.2; end = IsCharBoundary-end t; ordered = c.requires.2.0 } in
-    let next = next-match is is (λ d. refl) (byte-low _ c.requires.0) t c.as_bytes-bytes.result.now c.requires.1 c.as_bytes-bytes.ensures.value c.args.self.now.from (Some c.in-Some.at) c.in-Some.ensures.found in
-    (
+    let next = next-match is is (λ d. refl) (byte-low _ c.requires.0) t c.as_bytes-bytes.result.now c.requires.1 c.as_bytes-bytes.ensures.value c.args.self.now.from (Some c.in-Some.at) c.in-Some.ensures.found in (
       c.requires.0,
       c.requires.1,
       (next_cut is t _ _ w c.in-Some.at next).end,

@@ -1,6 +1,6 @@
-use Rattle.std.proofs.Common.{◌≡◌, ◌∙◌, ◌+◌, ◌<◌, ◌≤◌, ℕ, List, None, Some, length, ap, arith, subst, sym}
+use Rattle.std.proofs.Common.{◌∙◌, ◌+◌, ℕ, List, None, Some, length, arith, subst, sym}
 use Rattle.memchr.specs.Find.{IsFirst, Passes}
-use Rattle.hip_match.specs.Marks.{Ahead, Behind}
+use Rattle.hip_match.specs.Marks.{Ahead}
 use Rattle.hip_match.proofs.SpaceLemmas.{leads, lead-boundary, none_left, none_up_to, past_char, starts_first}
 use Rattle.hip_match.proofs.white_space.WhiteSpacePattern.next_match_by.Goals as goal
 
@@ -25,8 +25,7 @@ returns-in-Some-end_of-clause-back c = λ to before. rw (c.next.ensures.back, c.
 pub loop-at-preserved : goal.loop-at-preserved
 loop-at-preserved c =
     let found = subst (λ (l : List ℕ). IsFirst (Passes leads l) c.loop-at.past (length l) (Some c.in-Some.at)) c.as_bytes-bytes.ensures.value c.in-Some.ensures.found in
-    let low = found.0.low in
-    (
+    let low = found.0.low in (
       subst (λ (l : List ℕ). Ahead leads l (c.in-Some.at + 1) c.next.new.self.front.next c.next.new.self.front.bits) c.as_bytes-bytes.ensures.value c.in-Some.ensures.ahead,
       omega (arith, c.loop-at.invariant.1),
       none_up_to c.args.text.now c.utf8.text c.args.from c.loop-at.past c.in-Some.at c.loop-at.invariant.2 found (sym c.end_of.ensures ∙ c.in_default-end_of.is),

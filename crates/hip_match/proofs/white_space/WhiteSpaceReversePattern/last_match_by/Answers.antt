@@ -1,4 +1,4 @@
-use Rattle.std.proofs.Common.{◌≡◌, ◌∙◌, ◌+◌, ◌<◌, ◌≤◌, ℕ, List, None, Some, length, ap, arith, refl, subst, sym}
+use Rattle.std.proofs.Common.{◌≡◌, ◌∙◌, ℕ, List, None, Some, arith, refl, subst, sym}
 use Rattle.std.specs.Char.{is_whitespace}
 use Rattle.hip_match.specs.CharLaws.{char_ends-one_char}
 use Rattle.memchr.specs.Find.{IsLast, Passes}
@@ -33,8 +33,7 @@ returns-in-Some-end_of-clause-front c = λ from before. rw (c.last.ensures.front
 pub loop-at-preserved : goal.loop-at-preserved
 loop-at-preserved c =
     let found = subst (λ (l : List ℕ). IsLast (Passes leads l) 0 c.loop-at.past (Some c.in-Some.at)) c.as_bytes-bytes.ensures.value c.in-Some.ensures.found in
-    let high = found.0.high in
-    (
+    let high = found.0.high in (
       subst (λ (l : List ℕ). Behind leads l c.in-Some.at c.last.new.self.back.start c.last.new.self.back.bits) c.as_bytes-bytes.ensures.value c.in-Some.ensures.behind,
       omega (arith, c.loop-at.invariant.1),
       beyond_it c.args.text.now c.utf8.text c.args.to c.loop-at.past c.loop-at.invariant.2 c.in-Some.at found (sym c.end_of.ensures ∙ c.in_default-end_of.is),

@@ -1,4 +1,4 @@
-use Rattle.std.proofs.Common.{◌≡◌, ◌∙◌, ◌&&◌, ℕ, Bool, not, ap, sym}
+use Rattle.std.proofs.Common.{◌≡◌, ◌∙◌, ◌&&◌, ℕ, Bool, not, ap}
 use Rattle.std.specs.Char.{is_ascii}
 use Rattle.hipstr.specs.AsciiSets.{in_set}
 use Rattle.hip_uses.specs.Words.{is_gap}

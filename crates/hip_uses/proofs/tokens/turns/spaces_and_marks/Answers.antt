@@ -1,4 +1,4 @@
-use Rattle.std.proofs.Common.{◌≡◌, ◌<◌, ◌==◌, ◌&&◌, ◌||◌, Bool, true, ℕ, not, ap, sym, ◌∙◌, refl}
+use Rattle.std.proofs.Common.{◌==◌, ◌&&◌, ◌||◌, Bool, ℕ, not, ap, ◌∙◌, refl}
 use Rattle.std.specs.Char.{is_ascii, is_ascii_alphanumeric}
 use Rattle.std.proofs.lemmas.Bool.{agree_below_at}
 use Rattle.hip_uses.specs.Token.{is_word_or_digit}
