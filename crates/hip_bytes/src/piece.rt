@@ -1,4 +1,4 @@
-//! What joins are made of.
+//! The pieces of joins.
 ghost use Rattle.std.specs.Prelude.{◌≡◌, List, ℕ, [], ◌++◌};
 
 /// Bytes, or a text: what a join puts one behind another.
@@ -6,7 +6,7 @@ pub trait Piece: Drop {
     /// Its bytes.
     ghost bytes: { Self → List ℕ };
 
-    /// What holds of the bytes of each, and so of their joins: of texts, that they are UTF-8.
+    /// A property of the bytes of each, and so of their joins: of texts, that they are UTF-8.
     ghost keeps: { List ℕ → Type 0 };
 
     /// Its bytes.

@@ -12,7 +12,7 @@ use hip_raw::{Block, Meter};
 use std::alloc::{AllocError, Global};
 use std::fmt;
 
-/// What can be lent out as a vector of its bytes.
+/// A handle that can be lent out as a vector of its bytes.
 pub trait Source: Drop {
     /// Its bytes.
     ghost items: { Self → List ℕ };
@@ -26,7 +26,7 @@ pub trait Source: Drop {
     /// How many bytes are copied at most where so many are put.
     ghost put_cost: { ℕ → ℕ };
 
-    /// So many bytes may want memory where they are put.
+    /// A list of this length may want memory where it is put.
     ghost put_needs_memory: { ℕ → Type 0 };
 
     /// Takes the bytes out in a vector, and leaves none. The block that held the vector, if one did, goes with it. After a refusal the

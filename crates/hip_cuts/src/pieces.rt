@@ -20,9 +20,9 @@ use hip_text::{Backend, HipStr, Meter};
 use std::alloc::{AllocError, Global};
 use std::marker::Model;
 
-/// What is taken apart.
+/// A source that is taken apart.
 pub trait Source {
-    /// What is seen of it.
+    /// The handle that is seen of it.
     ghost handle: { Self → Handle };
 }
 
@@ -96,7 +96,7 @@ impl<'h, S: Source, I: Ranges> Pieces<'h, S, I> {
     }
 }
 
-/// The same pieces once more. It wants memory only where a clone of the ranges may, which is where one of their pattern may.
+/// A clone gives the pieces once more. It wants memory only where a clone of the ranges may, which is where one of their pattern may.
 impl<'h, S: Source, I: CloneRanges> Clone for Pieces<'h, S, I> {
     ghost is_clone = { λ pieces copy. copy ≡ pieces };
 
@@ -235,7 +235,7 @@ impl<'h, 'b, B: Backend, I: Unnumbered + RangesBack> Pieces<'h, HipStr<'b, B>, I
     }
 }
 
-/// So a `for` loop goes over it.
+/// A `for` loop goes over it by this.
 impl<'h, 'b, B: Backend, I: Unnumbered + Drop> Iterator for Pieces<'h, HipStr<'b, B>, I> {
     type Item = Result<HipStr<'b, B>, AllocError>;
 
@@ -337,7 +337,7 @@ impl<'h, 'b, B: Backend, P: OneChar> Pieces<'h, HipStr<'b, B>, MatchIndices<'h, 
     }
 }
 
-/// So a `for` loop goes over it.
+/// A `for` loop goes over it by this.
 impl<'h, 'b, B: Backend, P: Pattern> Iterator for Pieces<'h, HipStr<'b, B>, MatchIndices<'h, P>> {
     type Item = (usize, Result<HipStr<'b, B>, AllocError>);
 
@@ -438,7 +438,7 @@ impl<'h, 'b, B: Backend, P: OneChar> Pieces<'h, HipStr<'b, B>, RMatchIndices<'h,
     }
 }
 
-/// So a `for` loop goes over it.
+/// A `for` loop goes over it by this.
 impl<'h, 'b, B: Backend, P: ReversePattern> Iterator
     for Pieces<'h, HipStr<'b, B>, RMatchIndices<'h, P>> {
     type Item = (usize, Result<HipStr<'b, B>, AllocError>);

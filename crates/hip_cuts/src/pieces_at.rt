@@ -40,7 +40,7 @@ impl<'h, S: Source, I: Ranges> PiecesAt<'h, S, I> {
     }
 }
 
-/// The same pieces once more, where a clone of the ranges gives what they do.
+/// A clone gives the pieces once more, where a clone of the ranges gives what they do.
 impl<'h, S: Source, I: Ranges + Clone> Clone for PiecesAt<'h, S, I> {
     ghost is_clone = { λ pieces copy. ClonesKeepRanges I.is_clone I.ready I.text I.rest
         → GoesAlike ⟦<PiecesAt<'h, S, I> as Walk>⟧ pieces copy };
@@ -56,7 +56,7 @@ impl<'h, S: Source, I: Ranges + Clone> Clone for PiecesAt<'h, S, I> {
     }
 }
 
-/// So a `for` loop goes over them.
+/// A `for` loop goes over them by this.
 impl<'h, 'b, B: Backend, I: Ranges + Drop> Iterator for PiecesAt<'h, HipStr<'b, B>, I> {
     type Item = (usize, Result<HipStr<'b, B>, AllocError>);
 

@@ -80,7 +80,7 @@ pub trait TextCuts<B: Backend>: Source {
         ensures source { result.source ≡ Self.handle self.now }
         ensures rest { result.rest ≡ found_in (Self.handle self.now) leftmost (P.ends pattern) };
 
-    /// Those of [`TextCuts::matches`], each with its position in front.
+    /// The matches of [`TextCuts::matches`], each with its position in front.
     fn match_indices<'h, P: Pattern>(
         &'h self,
         alloc: Global,
@@ -133,7 +133,7 @@ pub trait TextCuts<B: Backend>: Source {
         ensures source { result.source ≡ Self.handle self.now }
         ensures rest { result.rest ≡ found_in (Self.handle self.now) rightmost (P.ends pattern) };
 
-    /// Those of [`TextCuts::rmatches`], each with its position in front.
+    /// The matches of [`TextCuts::rmatches`], each with its position in front.
     fn rmatch_indices<'h, P: ReversePattern>(
         &'h self,
         alloc: Global,
@@ -315,7 +315,7 @@ pub trait TextCuts<B: Backend>: Source {
         ensures counted { StripCosts B.SHARES strip_suffix (P.ends pattern)
             (Self.handle self.now) meter.old meter.new };
 
-    /// What lies before the first occurrence of `pattern` and all that lies behind it, if there is one.
+    /// The text before the first occurrence of `pattern` and the text behind it, if there is one.
     fn split_once<P: Pattern>(
         &self,
         alloc: Global,
@@ -338,7 +338,7 @@ pub trait TextCuts<B: Backend>: Source {
         ensures counted { OnceCosts B.SHARES split_once (P.ends pattern)
             (Self.handle self.now) meter.old meter.new };
 
-    /// What lies before the last occurrence of `pattern` and all that lies behind it, if there is one.
+    /// The text before the last occurrence of `pattern` and the text behind it, if there is one.
     fn rsplit_once<P: ReversePattern>(
         &self,
         alloc: Global,

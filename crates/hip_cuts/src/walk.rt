@@ -1,7 +1,7 @@
-//! What is said of pieces at ranges of the caller's.
+//! The words for pieces at ranges of the caller's.
 ghost use Rattle.hip_cuts.specs.Piece.{Left};
 
-/// What is left of pieces at ranges of the caller's.
+/// The pieces that are left, at ranges of the caller's.
 pub trait Walk {
     /// Holds of what [`TextCuts::pieces_at`](crate::TextCuts::pieces_at) made, and stays so.
     ghost ready: { Self → Type 0 };

@@ -69,7 +69,7 @@ pub char_at-off : (t : List ℕ) (i : ℕ) → ¬ IsCharBoundary t i → char_at
 unfolding char_at
 char_at-off t i off = ⊎_elim (λ yes. absurd (off (is_boundary-is t i yes))) (λ no. cond-false _ _ _ no) (cases_Bool (is_boundary t i))
 
--- what `char_at` gives is a character that starts there
+-- `char_at` gives a character that starts there
 pub char_at-starts : (t : List ℕ) (i c j : ℕ) → IsUtf8 t → char_at t i ≡ Some (c, j) → IsCharBoundary t i × StartsChar t i c × (j ≡ i + len_utf8 c)
 char_at-starts t i c j utf8 is =
     ⊎_elim

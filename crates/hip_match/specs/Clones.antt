@@ -15,7 +15,7 @@ pub record KeepsPattern {P : Type 0} (can_search : P → Type 0) (ends : P → L
 abbrev pub ClonesKeep : {P : Type 0} → (P → P → Type 0) → (P → Type 0) → (P → List ℕ → ℕ → Option ℕ) → Type 0
 ClonesKeep {P} is_clone can_search ends = (p q : P) → is_clone p q → KeepsPattern can_search ends p q
 
--- what is ready stays so, of the same text and with the same ranges still to come
+-- a copy is ready where its original is, of the same text and with the same ranges still to come
 pub record Keeps (can copy_can : Type 0) (t copy_t : List ℕ) (l copy_l : List (ℕ × ℕ)) : Type 0 where
   pub ready : can → copy_can
   pub text : copy_t ≡ t
@@ -39,7 +39,7 @@ parts_kept Between parts kept from to last =
       rest = rw (kept.rest, from, to, last) refl;
     }
 
--- what is made of ranges
+-- a list that is made of ranges
 pub made_kept : {can copy_can : Type 0} {t u : List ℕ} {l m : List (ℕ × ℕ)} {f g : List (ℕ × ℕ) → List (ℕ × ℕ)}
     → g ≡ f → Keeps can copy_can t u l m → Keeps can copy_can t u (f l) (g m)
 made_kept same kept = record { ready = kept.ready; text = kept.text; rest = rw (same, kept.rest) refl }
@@ -51,7 +51,7 @@ pub gaps_kept : {can copy_can : Type 0} {t u : List ℕ} {l m : List (ℕ × ℕ
     (if d then [] else gaps i l k) (if b then [] else gaps j m n)
 gaps_kept = parts_kept IsBetween (λ done i l n. if done then [] else gaps i l n)
 
--- the same from the back
+-- like `gaps_kept`, but of matches that are listed from the back
 pub gaps_back_kept : {can copy_can : Type 0} {t u : List ℕ} {l m : List (ℕ × ℕ)} {i j k n : ℕ} {d b : Bool}
     → Keeps can copy_can t u l m → j ≡ i → n ≡ k → b ≡ d
     → Keeps (can × IsBetweenBack t i l k) (copy_can × IsBetweenBack u j m n) t u

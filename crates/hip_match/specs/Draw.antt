@@ -12,14 +12,14 @@ abbrev pub but_last : ℕ × ℕ → List (ℕ × ℕ) → List (ℕ × ℕ)
 but_last x [] = []
 but_last x (y ∷ l) = x ∷ but_last y l
 
--- what a script draws from a list: each front the first of what is left, each back the last, until the script or the list ends
+-- the ranges that a script draws from a list: each front the first that is left, each back the last, until the script or the list ends
 abbrev pub draw : List (ℕ × ℕ) → List End → List (ℕ × ℕ)
 draw l [] = []
 draw [] (e ∷ es) = []
 draw (x ∷ l) (Front ∷ es) = x ∷ draw l es
 draw (x ∷ l) (Back ∷ es) = last_of x l ∷ draw (but_last x l) es
 
--- what it leaves
+-- the ranges that it leaves
 abbrev pub left_by : List (ℕ × ℕ) → List End → List (ℕ × ℕ)
 left_by l [] = l
 left_by [] (e ∷ es) = []

@@ -19,7 +19,7 @@ GivesAlike g i copy = KeepsRanges g.ready g.text g.rest i copy
 abbrev pub LiesBetween : {I : Type 0} → Ghosts I → I → ℕ → ℕ → Type 0
 LiesBetween g i from to = g.ready i × IsBetween (g.text i) from (g.rest i) to
 
--- the same of an iterator that lists its ranges from the back
+-- like `LiesBetween`, but of an iterator that lists its ranges from the back
 abbrev pub LiesBetweenBack : {I : Type 0} → Ghosts I → I → ℕ → ℕ → Type 0
 LiesBetweenBack g i from to = g.ready i × IsBetweenBack (g.text i) from (g.rest i) to
 

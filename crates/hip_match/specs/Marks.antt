@@ -22,7 +22,7 @@ in_rows rows c = nat_lt c 128 && bit_at (slice_index rows (c % 16)) (c / 16) == 
 abbrev pub AreLanes : (ℕ → Bool) → List ℕ → ℕ → ℕ → Type 0
 AreLanes test text at bits = (k : ℕ) → k < 16 → bit_at bits k ≡ (if test (slice_index text (at + k)) then 1 else 0)
 
--- the same of 64
+-- like `AreLanes`, but of 64 bytes
 abbrev pub AreBlock : (ℕ → Bool) → List ℕ → ℕ → ℕ → Type 0
 AreBlock test text at bits = (k : ℕ) → k < 64 → bit_at bits k ≡ (if test (slice_index text (at + k)) then 1 else 0)
 

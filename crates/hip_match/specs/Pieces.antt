@@ -8,7 +8,7 @@ abbrev pub InOrder : ℕ → List (ℕ × ℕ) → ℕ → Type 0
 InOrder i [] n = i ≤ n
 InOrder i (m ∷ ms) n = (i ≤ m.0) × (m.0 ≤ m.1) × InOrder m.1 ms n
 
--- the same of ranges that are listed from the back
+-- like `InOrder`, but of ranges that are listed from the back
 abbrev pub InOrderBack : ℕ → List (ℕ × ℕ) → ℕ → Type 0
 InOrderBack i [] n = i ≤ n
 InOrderBack i (m ∷ ms) n = (m.1 ≤ n) × (m.0 ≤ m.1) × InOrderBack i ms m.0
@@ -18,7 +18,7 @@ abbrev pub gaps : ℕ → List (ℕ × ℕ) → ℕ → List (ℕ × ℕ)
 gaps i [] n = (i, n) ∷ []
 gaps i (m ∷ ms) n = (i, m.0) ∷ gaps m.1 ms n
 
--- the same of matches that are listed from the back
+-- like `gaps`, but of matches that are listed from the back
 abbrev pub gaps_back : ℕ → List (ℕ × ℕ) → ℕ → List (ℕ × ℕ)
 gaps_back i [] n = (i, n) ∷ []
 gaps_back i (m ∷ ms) n = (m.1, n) ∷ gaps_back i ms m.0
@@ -46,7 +46,7 @@ at_most_to (suc count) [] n = []
 at_most_to (suc zero) (r ∷ rs) n = (r.0, n) ∷ []
 at_most_to (suc (suc count)) (r ∷ rs) n = r ∷ at_most_to (suc count) rs n
 
--- the same of ranges that are listed from the back, of which the last of so many begins at i
+-- like `at_most_to`, but of ranges that are listed from the back, of which the last of so many begins at i
 abbrev pub at_most_from : ℕ → List (ℕ × ℕ) → ℕ → List (ℕ × ℕ)
 at_most_from zero rs i = []
 at_most_from (suc count) [] i = []
@@ -57,7 +57,7 @@ at_most_from (suc (suc count)) (r ∷ rs) i = r ∷ at_most_from (suc count) rs 
 abbrev pub to_terminator : Bool → List (ℕ × ℕ) → List (ℕ × ℕ)
 to_terminator ending rs = if ending then without_empty_last rs else rs
 
--- the same from the back
+-- like `to_terminator`, but of parts that are listed from the back
 abbrev pub from_terminator : Bool → List (ℕ × ℕ) → List (ℕ × ℕ)
 from_terminator beginning rs = if beginning then without_empty_first rs else rs
 
@@ -88,6 +88,6 @@ rsplitn count ends n = at_most_from count (rsplit ends n) 0
 abbrev pub AreInOrder : ℕ → List (ℕ × ℕ) → Type 0
 AreInOrder n ranges = InOrder 0 ranges n
 
--- the same of ranges that are listed from the back
+-- like `AreInOrder`, but of ranges that are listed from the back
 abbrev pub AreInReverseOrder : ℕ → List (ℕ × ℕ) → Type 0
 AreInReverseOrder n ranges = InOrderBack 0 ranges n

@@ -15,13 +15,13 @@ pub record IsWindow (text : List ℕ) (from to : ℕ) : Type 0 where
 abbrev pub IsGoing : Bool → Type 0 → Type 0 → Type 0
 IsGoing done front back = done ≡ false → front × back
 
--- such a window, a pattern that can be searched for, and no occurrence that lies across the window's end
+-- a window, a pattern that can be searched for, and no occurrence that lies across the window's end
 pub record IsFrontWindow (can : Type 0) (text : List ℕ) (ends : ℕ → Option ℕ) (from to : ℕ) : Type 0 where
   pub searchable : can
   pub window : IsWindow text from to
   pub whole : NoneCrosses ends to
 
--- the same of the window's start
+-- like `IsFrontWindow`, but no occurrence lies across the window's start
 pub record IsBackWindow (can : Type 0) (text : List ℕ) (ends : ℕ → Option ℕ) (from to : ℕ) : Type 0 where
   pub searchable : can
   pub window : IsWindow text from to
@@ -45,7 +45,7 @@ pub record IsBetween (text : List ℕ) (from : ℕ) (ranges : List (ℕ × ℕ))
   pub end : IsCharBoundary text to
   pub in_order : InOrder from ranges to
 
--- the same of ranges that are listed from the back
+-- like `IsBetween`, but of ranges that are listed from the back
 pub record IsBetweenBack (text : List ℕ) (from : ℕ) (ranges : List (ℕ × ℕ)) (to : ℕ) : Type 0 where
   pub start : IsCharBoundary text from
   pub end : IsCharBoundary text to

@@ -10,7 +10,7 @@ abbrev pub Follows : (ℕ → Option ℕ) → ℕ → List (ℕ × ℕ) → ℕ 
 Follows ends i [] j = i ≡ j
 Follows ends i (m ∷ ms) j = (m.0 ≡ i) × (m.0 < m.1) × (ends m.0 ≡ Some m.1) × Follows ends m.1 ms j
 
--- the same, listed from the back
+-- like `Follows`, but of matches that are listed from the back
 abbrev pub FollowsBack : (ℕ → Option ℕ) → ℕ → List (ℕ × ℕ) → ℕ → Type 0
 FollowsBack ends i [] j = i ≡ j
 FollowsBack ends i (m ∷ ms) j = (m.1 ≡ j) × (m.0 < m.1) × (ends m.0 ≡ Some m.1) × FollowsBack ends i ms m.0
@@ -41,7 +41,7 @@ strip_prefix ends n = option_map (λ b. (b, n)) (ends 0)
 abbrev pub strip_suffix : (ℕ → Option ℕ) → ℕ → Option (ℕ × ℕ)
 strip_suffix ends n = option_map (λ a. (0, a)) (start_of ends n)
 
--- what lies before the first match of a list and all that lies behind it
+-- the range before the first match of a list and the range behind it
 abbrev pub cut_at_first : List (ℕ × ℕ) → ℕ → Option ((ℕ × ℕ) × (ℕ × ℕ))
 cut_at_first [] n = None
 cut_at_first (m ∷ ms) n = Some ((0, m.0), (m.1, n))

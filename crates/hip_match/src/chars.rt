@@ -123,7 +123,7 @@ pub(crate) fn char_before(text: &str, to: usize) -> Option<(char, usize)>
 
 /// A set of characters. It occurs in a text at each character that belongs.
 pub(crate) trait CharSet {
-    /// What a test asks of the set.
+    /// The condition under which the set can be tested.
     ghost can_test: { Self → Type 0 } = { λ _. Unit {0} };
 
     /// Whether a character belongs.

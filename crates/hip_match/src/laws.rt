@@ -47,7 +47,7 @@ pub fn join_undoes_split(text: &str, separator: &str)
         ≡ text.now }
 {}
 
-/// The same of a character.
+/// Like `join_undoes_split`, but by a character.
 pub fn join_undoes_split_by_char(text: &str, separator: char)
     ensures split { joined (encode_utf8 separator)
         (parts text.now (split (char_ends (λ c. c == separator) text.now) (length text.now)))
@@ -57,7 +57,7 @@ pub fn join_undoes_split_by_char(text: &str, separator: char)
         (length text.now))) ≡ text.now }
 {}
 
-/// What a script draws of a list from the front, what it leaves, and what it draws from the back in reverse are the list.
+/// A list is the ranges that a script draws from its front, those that it leaves, and those that it draws from its back, in reverse.
 pub fn ends_meet(ranges: &[(usize, usize)], script: &[End])
     ensures { fronts script.now (draw ranges.now script.now)
         ++ (left_by ranges.now script.now
@@ -95,7 +95,7 @@ pub fn ranges_lie_in_order<P: Pattern>(pattern: &P, count: usize, text: &str)
         (splitn count (P.ends pattern.now text.now) (length text.now)) }
 {}
 
-/// Those from its end lie in reverse order.
+/// The ranges of walks from the end lie in reverse order.
 pub fn ranges_lie_in_reverse_order<P: ReversePattern>(pattern: &P, count: usize, text: &str)
     ensures matches { AreInReverseOrder (length text.now)
         (rightmost (P.ends pattern.now text.now) (length text.now)) }

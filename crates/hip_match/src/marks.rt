@@ -143,7 +143,7 @@ fn far_last<T: ByteSearch>(test: T, bytes: &[u8], to: usize) -> Option<usize>
     test.rfind(bytes, to)
 }
 
-/// What is left of a block of 64 places, from its front.
+/// The marks that are left of a block of 64 places, from its front.
 #[derive(Clone, Copy)]
 pub(crate) struct FrontMarks {
     // The first place behind the block.
@@ -224,7 +224,7 @@ impl FrontMarks {
     }
 }
 
-/// What is left of a block of 64 places, from its back.
+/// The marks that are left of a block of 64 places, from its back.
 #[derive(Clone, Copy)]
 pub(crate) struct BackMarks {
     // The first place of the block.

@@ -103,7 +103,7 @@ impl<'h, P: Pattern> Ranges for Matches<'h, P> {
 }
 
 impl<'h, P: OneChar> Matches<'h, P> {
-    // What `next_back` does, and that no match is empty.
+    // Like `next_back`, but its contract says that no match is empty.
     #[inline(always)]
     pub(crate) fn next_back_match(&mut self) -> Option<(usize, usize)>
         requires { ⟦<Matches<'h, P> as Ranges>⟧.ready self.old }

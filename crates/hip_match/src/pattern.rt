@@ -1,4 +1,4 @@
-//! What can be looked for in a text.
+//! Patterns, which can be looked for in a text.
 ghost use Rattle.std.specs.Prelude.{◌≡◌, ℕ, List, Option, Some, IfSome};
 ghost use Rattle.std.specs.Option.{is_some};
 ghost use Rattle.std.specs.Str.{IsUtf8, IsCharBoundary};
@@ -6,14 +6,14 @@ ghost use Rattle.hip_match.specs.Clones.{ClonesKeep};
 ghost use Rattle.hip_match.specs.Occurrence.{IsNextMatch, IsLastMatch, IsCut, IsOneChar, start_of};
 ghost use Rattle.hip_match.specs.Occurrence.{GoesOnAt, GoesOnBefore};
 
-/// What can be looked for in a text from its front.
+/// A pattern that can be looked for in a text from its front.
 ///
 /// A pattern occurs at most once from a given start. The positions are byte positions at character boundaries.
 pub trait Pattern: Drop {
-    /// What a walk keeps of the pattern from one match to the next.
+    /// The state that a walk keeps from one match to the next.
     type Searcher: Drop;
 
-    /// What a search asks of the pattern: nothing but for a [`CharPred`](crate::predicate::CharPred), whose closure has to be callable.
+    /// The condition under which a search may be made: none but for a [`CharPred`](crate::predicate::CharPred), whose closure has to be callable.
     ghost can_search: { Self → Type 0 } = { λ _. Unit {0} };
 
     /// The end of the occurrence that starts at a place of a text, if one does.

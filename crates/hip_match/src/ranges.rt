@@ -1,4 +1,4 @@
-//! What each iterator of this crate is: a list of ranges at boundaries of one text.
+//! Each iterator of this crate is a list of ranges at boundaries of one text.
 ghost use Rattle.std.specs.Prelude.{◌≡◌, ℕ, List, IfSome};
 ghost use Rattle.std.specs.Iterator.{YieldsFirst, YieldsLast};
 ghost use Rattle.hip_match.specs.Clones.{KeepsRanges};

@@ -24,7 +24,7 @@ impl CharSet for char {
     }
 }
 
-/// What a walk by a character keeps: the places of one of ASCII.
+/// The searcher of a character: the places of one of ASCII.
 #[derive(Clone, Copy)]
 pub struct CharSearcher {
     marks: Marks<OneByte>,
@@ -169,7 +169,7 @@ fn ascii_set(set: &[char]) -> Option<AsciiSet>
     Some(found)
 }
 
-/// What a walk by a set of characters keeps: the places of those of one of ASCII.
+/// The searcher of a set of characters: the places of those of one of ASCII.
 #[derive(Clone, Copy)]
 pub struct SetSearcher {
     is_ascii: bool,

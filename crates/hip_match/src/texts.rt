@@ -13,7 +13,7 @@ use memchr::arch::all::{is_prefix, is_suffix, packedpair};
 use memchr::memmem::{Finder, FinderRev};
 use memchr::{memchr, memmem, memrchr};
 
-/// What a walk by a text prepares of it: nothing of a short one.
+/// The searcher of a text: of a short one nothing is prepared.
 #[derive(Drop)]
 pub struct TextSearcher<'p> {
     finder: Option<Prepared<'p>>,
@@ -27,7 +27,7 @@ pub(crate) struct Prepared<'p> {
     sign: Option<usize>,
 }
 
-// The same of a search from the end.
+// Like `Prepared`, but for a search from the end.
 #[derive(Drop)]
 pub(crate) struct PreparedBack<'p> {
     finder: FinderRev<'p>,
@@ -44,7 +44,7 @@ fn sign_of(needle: &[u8]) -> Option<usize> {
     needle.iter().position(|byte| byte.is_ascii_punctuation())
 }
 
-// What a walk by `needle` prepares. One byte and two have ways of their own.
+// The search for `needle` from the front, prepared. One byte and two have ways of their own.
 #[inline]
 fn finder_of<'p>(needle: &'p str) -> Option<Prepared<'p>>
     ensures { IfSome result (λ f. f.finder ≡ needle.now) }
@@ -59,7 +59,7 @@ fn finder_of<'p>(needle: &'p str) -> Option<Prepared<'p>>
     })
 }
 
-// What a walk by `needle` from the end prepares.
+// The search for `needle` from the end, prepared.
 #[inline]
 fn reverse_finder_of<'p>(needle: &'p str) -> Option<PreparedBack<'p>>
     ensures { IfSome result (λ f. f.finder ≡ needle.now) }
@@ -86,7 +86,7 @@ fn place_by(finder: &Option<Prepared<'_>>, hay: &[u8], needle: &[u8]) -> Option<
     }
 }
 
-// The same of a needle that mostly stands where its byte at `sign` first does. Where it doesn't, the search goes on behind that place.
+// Like `place_by`, but for a needle that mostly stands where its byte at `sign` first does. Where it doesn't, the search goes on behind that place.
 #[inline]
 fn near_place(
     finder: &Option<Prepared<'_>>,
@@ -168,7 +168,7 @@ fn last_place_by(finder: &Option<PreparedBack<'_>>, hay: &[u8], needle: &[u8]) -
     }
 }
 
-// The same of a needle that mostly stands where its byte at `sign` last does.
+// Like `last_place_by`, but for a needle that mostly stands where its byte at `sign` last does.
 #[inline]
 fn last_near_place(
     finder: &Option<PreparedBack<'_>>,
@@ -187,7 +187,7 @@ fn last_near_place(
     last_place_by(finder, hay, needle)
 }
 
-// The same of one that often stands where its last byte does the last time but one.
+// Like `last_place_by`, but for a needle that often stands where its last byte does the last time but one.
 #[inline]
 fn last_second_place(finder: &Option<PreparedBack<'_>>, hay: &[u8], needle: &[u8]) -> Option<usize>
     requires some { 0 < length needle.now }

@@ -1,4 +1,4 @@
-//! What is left of a text without matches, or white space, at its ends, as ranges.
+//! The range of a text without matches, or white space, at its ends.
 ghost use Rattle.std.specs.Prelude.{◌≡◌, length, IfSome};
 ghost use Rattle.std.specs.Char.{is_whitespace};
 ghost use Rattle.std.specs.Str.{IsCharBoundary};
@@ -134,7 +134,7 @@ pub fn strip_suffix<P: ReversePattern>(text: &str, pattern: P) -> Option<(usize,
     Some((0, start))
 }
 
-/// What lies before the first match and all that lies behind it, if there is one.
+/// The range before the first match and the range behind it, if there is one.
 #[inline]
 pub fn split_once<P: Pattern>(text: &str, pattern: P) -> Option<((usize, usize), (usize, usize))>
     requires { P.can_search pattern }
@@ -146,7 +146,7 @@ pub fn split_once<P: Pattern>(text: &str, pattern: P) -> Option<((usize, usize),
     Some(((0, start), (end, text.len())))
 }
 
-/// What lies before the rightmost match and all that lies behind it, if there is one.
+/// The range before the rightmost match and the range behind it, if there is one.
 #[inline]
 pub fn rsplit_once<P: ReversePattern>(
     text: &str,

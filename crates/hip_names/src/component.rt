@@ -40,7 +40,7 @@ impl<'a> Components<'a> {
     }
 }
 
-/// What a path begins with beside its names.
+/// The root or the dot that a path begins with, beside its names.
 #[inline]
 fn start_of(path: &[u8]) -> Option<Component<'_>>
     ensures { all_shown result ≡ start path.now }
@@ -71,7 +71,7 @@ pub(crate) fn next_name<'a>(rest: &mut &'a [u8]) -> Option<Component<'a>>
     None
 }
 
-/// What a part names, if it names something.
+/// The component that a part names, if it names one.
 #[inline]
 fn name_of(part: &[u8]) -> Option<Component<'_>>
     ensures { all_shown result ≡ (if is_name part.now then named part.now ∷ [] else []) }
@@ -101,7 +101,7 @@ fn slash_at(path: &[u8]) -> usize
     find_slash(path).unwrap_or(path.len())
 }
 
-/// What stands before the first slash, and what stands behind it.
+/// The bytes before the first slash, and those behind it.
 #[inline]
 fn first_part(path: &[u8]) -> (&[u8], &[u8])
     ensures part { result.0.now ≡ before_first is_slash path.now }

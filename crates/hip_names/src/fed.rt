@@ -1,4 +1,4 @@
-//! What a path feeds a hasher.
+//! The bytes that a path feeds a hasher.
 ghost use Rattle.std.specs.Prelude.{◌≡◌, fold};
 ghost use Rattle.hip_names.specs.Fed.{component_fed, component_text, path_fed};
 ghost use Rattle.hip_names.specs.Shown.{shown};

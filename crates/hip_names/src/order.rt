@@ -26,7 +26,7 @@ pub fn path_cmp(left: &[u8], right: &[u8]) -> Ordering
     walk_names(behind(left, front), behind(right, front))
 }
 
-/// What stands from a position on.
+/// The bytes from a position on.
 #[inline]
 fn behind(path: &[u8], front: usize) -> &[u8]
     requires { front ≤ length path.now }

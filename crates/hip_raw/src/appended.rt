@@ -1,4 +1,4 @@
-//! What became of an append, and the append to a vector.
+//! The outcome of an append, and the append to a vector.
 ghost use Rattle.std.specs.Prelude.{◌≡◌, ◌+◌, ◌<◌, ◌≤◌, ◌++◌, length, take, vec_len, vec_capacity};
 ghost use Rattle.hip_raw.specs.Appended.{OnDone, OnShared, OnMemory, OnRefused};
 ghost use Rattle.hip_raw.specs.Meter.{RisesAtMost, count_from};
@@ -6,7 +6,7 @@ ghost use Rattle.hip_raw.specs.Meter.{RisesAtMost, count_from};
 use crate::meter::{Meter, extend_counted, extend_within};
 use std::alloc::AllocError;
 
-/// What became of an append.
+/// The outcome of an append.
 #[derive(Clone, Copy, Debug, PartialEq, Eq)]
 pub enum Appended {
     /// The bytes stand at the end.

@@ -8,7 +8,7 @@ const LANES: usize = 64;
 
 // A case that letters are moved to.
 trait Case {
-    // What becomes of a byte.
+    // The byte that a byte becomes.
     ghost moved: { ℕ → ℕ };
 
     fn move_lanes(lanes: u8x64) -> u8x64

@@ -1,4 +1,4 @@
-//! What an owner of bytes promises.
+//! The promises of an owner of bytes.
 ghost use Rattle.std.specs.Prelude.{◌≡◌, ℕ, ◌+◌, ◌*◌, ◌^◌, ◌<◌, ◌≤◌, Bool, false, true, List, ◌++◌, length, take, vec_capacity, vec_len, IsSome, IfOk, IfErr, IfSome, OnErr};
 ghost use Rattle.std.specs.Borrow.{sem, LendsIf};
 ghost use Rattle.hip_raw.specs.Appended.{OnDone, OnShared, OnMemory, OnRefused};
@@ -28,7 +28,7 @@ pub trait Backend: Drop + Sized {
     /// Whether an owner can be shared.
     const SHARES: bool;
 
-    /// What a sole owner lends for writing.
+    /// The room that a sole owner lends for writing.
     type Sole: Room;
 
     /// Where a handle's bytes begin in an owner's list.
@@ -165,7 +165,7 @@ pub trait Backend: Drop + Sized {
         Ok((vec, Block::none()))
     }
 
-    // What the sole owner has when the loan ends is what this owner has.
+    // This owner has what the sole owner has when the loan ends.
     ghost sole_items: { (owner : Self) (sole : Self.Sole) → items (with_sole owner sole) ≡ Self.Sole.items sole };
 
     // Where owners are shared any position can be, else 0.

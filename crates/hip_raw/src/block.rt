@@ -1,4 +1,4 @@
-//! What is left of an owner without its bytes.
+//! The block of an owner, without its bytes.
 ghost use Rattle.hip_raw.specs.Block.{IsNoBlock};
 
 use crate::buffer::Buffer;
@@ -10,7 +10,7 @@ pub struct Block {
     pub(crate) left: Left,
 }
 
-// What an owner of either kind leaves.
+// The block that an owner of either kind leaves.
 #[derive(Drop)]
 pub(crate) enum Left {
     Nothing,

@@ -32,7 +32,7 @@ impl<T> Fuse<T> {
         }
     }
 
-    /// What it stands around.
+    /// The source or sink that it stands around.
     pub fn into_inner(self) -> T
         ensures { result ≡ inner_of self }
     {

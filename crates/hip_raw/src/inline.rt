@@ -54,7 +54,7 @@ impl<const N: usize, L: Length<N>> Inline<N, L> {
         }
     }
 
-    /// So many zeros.
+    /// Zeros, `len` of them.
     #[inline]
     pub fn zeroed(len: usize) -> Self
         requires { len ≤ N }

@@ -1,4 +1,4 @@
-//! What a sole owner has, and how it is written in place.
+//! The room of a sole owner, and how it is written in place.
 ghost use Rattle.std.specs.Prelude.{◌≡◌, ℕ, ◌+◌, ◌^◌, ◌<◌, ◌≤◌, false, List, length, take, vec_capacity, IfOk, IfErr, OnErr, IsOk};
 ghost use Rattle.std.specs.Fn.{FnOnceReturnsAtMut, FnOnceTakesAtMut};
 ghost use Rattle.std.specs.Borrow.{sem, Lends, Array, u8};
@@ -6,7 +6,7 @@ ghost use Rattle.hip_raw.specs.Window.{window};
 
 use crate::backend::Backend;
 
-/// What the sole owner of some bytes has: a list of bytes that is written and cut in place.
+/// The room of the sole owner of some bytes: a list that is written and cut in place.
 pub trait Room {
     // The list, and how many bytes it can hold with no new memory.
     ghost items: { Self → List ℕ };
@@ -27,7 +27,7 @@ pub trait Room {
         ensures items { items self.new ≡ take len (items self.old) }
         ensures capacity { capacity self.new ≡ capacity self.old };
 
-    // What was written is the list; its length and the capacity stay.
+    // The list is what was written; its length and the capacity stay.
     ghost written: { (room : Self) (bytes : List ℕ)
         → length bytes ≡ length (items room) → items (with_items room bytes) ≡ bytes };
 
@@ -86,7 +86,7 @@ fn write_room<S: Room, R, F: FnOnce(&mut [u8]) -> R>(
     f(&mut bytes[start..start + len])
 }
 
-// The same for an owner, where no other handle shares it. Where one does, `f` is handed back.
+// Like `write_room`, but for an owner, where no other handle shares it. Where one does, `f` is handed back.
 #[inline]
 pub(crate) fn write_range<B: Backend, R, F: FnOnce(&mut [u8]) -> R>(
     owner: &mut B,

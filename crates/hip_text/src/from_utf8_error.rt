@@ -53,7 +53,7 @@ impl<'b, B: Backend> FromUtf8Error<'b, B> {
         self.bytes
     }
 
-    /// What is wrong with the bytes.
+    /// The fault of the bytes.
     #[inline]
     pub fn utf8_error(&self) -> Utf8Error
         ensures cause { result ≡ self.now.cause }
@@ -62,7 +62,7 @@ impl<'b, B: Backend> FromUtf8Error<'b, B> {
         self.error
     }
 
-    /// The same error again, with a clone of the bytes.
+    /// A clone of the error, with a clone of the bytes.
     pub fn clone(&self, alloc: Global) -> Result<Self, AllocError>
         ensures clone { CloneErrorAnswers self.now result }
     {

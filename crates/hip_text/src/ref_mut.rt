@@ -11,7 +11,7 @@ use hip_bytes::{Block, Meter, MutateFault};
 use std::alloc::{AllocError, Global};
 use std::fmt;
 
-/// What can be lent out as a `String` of its text.
+/// A handle that can be lent out as a `String` of its text.
 pub trait TextSource: Drop {
     /// Its bytes.
     ghost items: { Self → List ℕ };
@@ -25,7 +25,7 @@ pub trait TextSource: Drop {
     /// How many bytes are copied at most where so many are put.
     ghost put_cost: { ℕ → ℕ };
 
-    /// So many bytes may want memory where they are put.
+    /// A text of this length may want memory where it is put.
     ghost put_needs_memory: { ℕ → Type 0 };
 
     /// Takes the text out in a `String`, and leaves none. The block that held its vector, if one did, goes with it. After a refusal the

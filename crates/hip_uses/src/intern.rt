@@ -81,7 +81,7 @@ impl<'b, B: Backend, S: BuildHasher> Interner<'b, B, S> {
         found(&self.numbers, text).copied()
     }
 
-    /// The same of a text that has no handle.
+    /// Like `find`, but for a text that has no handle.
     pub(crate) fn number_of(&self, text: &str) -> Option<u32>
         ensures { result ≡ number_of text.now self.now }
     {

@@ -7,7 +7,7 @@ use std::alloc::AllocError;
 use std::collections::HashMap;
 use std::hash::{BuildHasher, Hash};
 
-/// What stands under a key, if anything does.
+/// The value under a key, if there is one.
 pub(crate) fn found<'m, K: Hash + Eq, V, S: BuildHasher>(
     map: &'m HashMap<K, V, S>,
     key: &K,

@@ -14,7 +14,7 @@ use std::alloc::{AllocError, Global};
 use std::collections::VecDeque;
 use std::marker::Model;
 
-/// What one subscriber has still to receive: at most so many messages, with room for all of them.
+/// The messages that one subscriber has still to receive: at most so many, with room for all of them.
 #[derive(Drop)]
 pub struct Queue<'b, B: Backend> {
     messages: VecDeque<HipByt<'b, B>>,
@@ -75,7 +75,7 @@ fn any_full<B: Backend>(queues: &[Queue<'_, B>]) -> bool
     queues.iter().any(|queue| queue.is_full())
 }
 
-/// So many clones of a message.
+/// `count` clones of a message.
 fn clones_of<'b, B: Backend>(
     alloc: Global,
     message: &HipByt<'b, B>,

@@ -28,7 +28,7 @@ pub struct Hole<'b, B: Backend> {
 #[derive(Drop)]
 pub struct Template<'b, B: Backend> {
     pub holes: Vec<Hole<'b, B>>,
-    /// What lies behind the last hole.
+    /// The text behind the last hole.
     pub rest: HipStr<'b, B>,
     /// For each hole the place of the last one before it of its name, or its own, as it was parsed.
     earlier_places: Vec<usize>,
@@ -53,7 +53,7 @@ impl<'b, B: Backend> Template<'b, B> {
     }
 }
 
-/// What lies before the first occurrence of a sign and what lies behind it, if there is one.
+/// The texts before the first occurrence of a sign and behind it, if there is one.
 fn part<'t>(sign: &str, text: &'t str) -> Option<(&'t str, &'t str)>
     ensures parts { MatchOption result (Lacks sign.now text.now)
         (λ parts. IsParted sign.now text.now parts.0.now parts.1.now) }
@@ -103,7 +103,7 @@ fn first_hole<'b, 't, B: Backend>(
     Ok(Some((hole, after)))
 }
 
-/// What lies behind the last hole: the template's end, or all of it where there is no hole.
+/// The text behind the last hole: the template's end, or all of it where there is no hole.
 fn last_part<'b, B: Backend>(
     alloc: Global,
     template: &HipStr<'b, B>,

@@ -15,7 +15,7 @@ use std::alloc::{AllocError, Global};
 
 mod turns;
 
-/// What stands together. A character that isn't ASCII belongs to a word.
+/// The class of a character. One that isn't ASCII belongs to a word.
 #[derive(Clone, Copy, Debug, PartialEq, Eq)]
 pub enum Class {
     Word,
@@ -82,7 +82,7 @@ fn run_end(text: &str, start: usize, from: usize, class: Class) -> usize
     end
 }
 
-/// The same by the ends of runs that are found many at a time, as far as they can be.
+/// Like `run_end`, but takes the end from `turns` while 64 bytes are left.
 #[inline(always)]
 fn next_end(text: &str, start: usize, class: Class, turns: &mut Turns) -> usize
     requires bound { start < length text.now }

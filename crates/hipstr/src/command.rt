@@ -17,7 +17,7 @@ pub enum Side {
     Both,
 }
 
-/// What is looked for in a text.
+/// A pattern of a command.
 #[derive(Clone, Copy)]
 pub enum Pat<'b> {
     /// A text, which may be empty.
@@ -57,7 +57,7 @@ pub enum How<'b> {
     AsciiWords,
 }
 
-/// What [`run`](crate::run) can be told to do. Slots are named by their position in the pool.
+/// A command that [`run`](crate::run) performs. Slots are named by their position in the pool.
 #[derive(Clone, Copy)]
 pub enum Command<'b> {
     /// The slot becomes empty.
@@ -124,7 +124,7 @@ pub enum Command<'b> {
     Capacity(usize),
 }
 
-/// What a command answered.
+/// The answer of a command.
 #[derive(Clone, Copy, Debug, PartialEq, Eq)]
 pub enum Answer {
     /// It was done.
@@ -172,7 +172,7 @@ pub enum Reason {
     EndNotACharBoundary,
     /// The position is past the items.
     OutOfRange,
-    /// What is drawn or trimmed from both ends can be so from one alone.
+    /// A walk or trim from both ends can be made from one alone.
     OneEnd,
     /// Memory ran out, or an owner couldn't be shared once more.
     Memory,

@@ -1,4 +1,4 @@
-//! What is looked for in a text, and the iterators that its pieces come from.
+//! Patterns that are looked for in a text, and the iterators that its pieces come from.
 //!
 //! A [`Pattern`] is a text, a character, a set of characters, of ASCII ([`AsciiSet`]) or of any, or a closure over characters
 //! ([`CharPred`]); a [`ReversePattern`] is looked for from the end too. [`OneChar`] and [`DoubleEndedPattern`] say of which patterns pieces are drawn, and trims are made, at both ends.

@@ -194,7 +194,7 @@ impl<'b, B: Backend> Pool<'b, B> {
     }
 }
 
-// So many empty slots.
+// Empty slots, `count` of them.
 fn empty_slots<'b, B: Backend>(alloc: Global, count: usize) -> Result<Vec<Slot<'b, B>>, AllocError>
     requires { count ≤ MAX_SLOTS }
     ensures empty { IfOk result (λ slots. map state_of slots.items ≡ replicate count empty_slot) }

@@ -125,7 +125,7 @@ impl<'b, B: Backend> HipByt<'b, B> {
     }
 }
 
-/// What stands before the slice at a position.
+/// The separator before the slice at a position.
 #[inline]
 fn gap(i: usize, sep: &[u8]) -> &[u8]
     ensures { result.now ≡ gap_at i sep.now }

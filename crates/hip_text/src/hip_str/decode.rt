@@ -83,7 +83,7 @@ impl<'b, B: Backend> HipStr<'b, B> {
     }
 }
 
-/// What is wrong with bytes that aren't UTF-8.
+/// The fault of bytes that aren't UTF-8.
 fn fault_of(bytes: &[u8]) -> Option<Utf8Error>
     ensures none { IfNone result (IsUtf8 bytes.now) }
     ensures some { IfSome result (λ error. ¬ (IsUtf8 bytes.now) × IsCauseOf bytes.now error) }

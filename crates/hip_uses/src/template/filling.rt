@@ -22,7 +22,7 @@ fn unknown<'b, B: Backend>(alloc: Global, name: &HipStr<'b, B>) -> TemplateFault
     }
 }
 
-/// What goes under a name: what went into the hole at `place` where that is an earlier one of the name, else what is looked up.
+/// The value of a name: that of the hole at `place` where that is an earlier one of the name, else the one that is looked up.
 fn value_of<'v, 'b, B: Backend, S: BuildHasher>(
     values: &'v Values<'b, B, S>,
     name: &HipStr<'b, B>,
@@ -46,7 +46,7 @@ fn value_of<'v, 'b, B: Backend, S: BuildHasher>(
     }
 }
 
-/// What goes into each hole. Each different name is looked up once.
+/// The value of each hole. Each different name is looked up once.
 fn values_of<'v, 'b, B: Backend, S: BuildHasher>(
     alloc: Global,
     template: &Template<'b, B>,
@@ -69,7 +69,7 @@ fn values_of<'v, 'b, B: Backend, S: BuildHasher>(
     Ok(found)
 }
 
-/// What lies before each hole, and what goes into it.
+/// The text before each hole, and its value.
 fn pieces_of<'v, 'b, B: Backend>(
     alloc: Global,
     holes: &'v [Hole<'b, B>],

@@ -1,4 +1,4 @@
-//! What goes under the names of a template's holes.
+//! The values of the names of a template's holes.
 ghost use Rattle.std.specs.Prelude.{◌≡◌, ℕ, List, [], MatchOption, OnErr, OnOk, None, Some};
 ghost use Rattle.hip_uses.specs.Template.{value_of, value_with};
 
@@ -10,7 +10,7 @@ use std::collections::HashMap;
 use std::hash::{BuildHasher, BuildHasherDefault, FoldHasher};
 use std::marker::Model;
 
-/// What goes under each name.
+/// The value of each name.
 ///
 /// `S` makes the hashers of the names. The default has a fixed seed; for names from outside see [`Values::with_hasher`].
 #[derive(Drop)]
@@ -56,7 +56,7 @@ impl<'b, B: Backend, S: BuildHasher> Values<'b, B, S> {
         put(&mut self.values, name, value)
     }
 
-    /// What goes under this name, if anything does.
+    /// The value of this name, if it has one.
     pub fn get(&self, name: &HipStr<'b, B>) -> Option<&HipStr<'b, B>>
         ensures { MatchOption result (value_of self.now name.now.items ≡ None)
             (λ value. value_of self.now name.now.items ≡ Some value.now) }

@@ -231,7 +231,7 @@ fn text_without<'b, B: Backend, P: ReversePattern>(
     }
 }
 
-/// What lies before the first occurrence from that end, and what lies behind it, if there is one.
+/// The texts before and behind the first occurrence from that end, if there is one.
 fn parted<'b, B: Backend>(
     alloc: Global,
     text: &HipStr<'b, B>,
@@ -251,7 +251,7 @@ fn parted<'b, B: Backend>(
     }
 }
 
-/// What lies before the pattern's first occurrence from that end, and what lies behind it, if there is one.
+/// The texts before and behind the pattern's first occurrence from that end, if there is one.
 fn two_parts<'b, B: Backend, P: ReversePattern>(
     alloc: Global,
     text: &HipStr<'b, B>,

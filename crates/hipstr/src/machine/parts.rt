@@ -34,7 +34,7 @@ pub(super) fn make_parts<'b, B: Backend>(
     make_walked(alloc, text, walked_of(how), script, spare, meter)
 }
 
-/// What is walked over: the parts by a pattern, or those by white space.
+/// A walk: over the parts by a pattern, or over those by white space.
 #[derive(Clone, Copy)]
 enum Walked<'b> {
     By(Way, Pat<'b>),
@@ -43,7 +43,7 @@ enum Walked<'b> {
     AsciiWords,
 }
 
-/// What a way to take a text apart walks over.
+/// The walk of a way to take a text apart.
 fn walked_of(how: How<'_>) -> Walked<'_>
     ensures { result ≡ walked_of how.entry }
 {
