@@ -47,7 +47,13 @@ fn each_byte_belongs_as_rust_tells_it(rt: HostRuntime) {
         marks(&rt, AsciiSet::alphabetic(), &bytes, at, letters);
         marks(&rt, AsciiSet::alphanumeric(), &bytes, at, letters | digits);
         marks(&rt, AsciiSet::whitespace(), &bytes, at, spaces);
-        marks(&rt, AsciiSet::new().with(b',').with(b'~'), &bytes, at, signs);
+        marks(
+            &rt,
+            AsciiSet::new().with(b',').with(b'~'),
+            &bytes,
+            at,
+            signs,
+        );
         marks(&rt, both, &bytes, at, letters | spaces);
         marks(&rt, both.complement(), &bytes, at, others);
     }
