@@ -152,9 +152,7 @@ impl Buffers {
         ensures bad { IsErrOf result LineFault.NotACommand
             → pattern_said (fields_in (held self.old) said.old) words.old ≡ None }
     {
-        let Some(quote) = words.one_of(PATTERNS) else {
-            return Err(LineFault::NotACommand);
-        };
+        let quote = words.one_of(PATTERNS).ok_or(LineFault::NotACommand)?;
         self.read_quoted(quote, words, said)
     }
 
@@ -166,9 +164,7 @@ impl Buffers {
         ensures bad { IsErrOf result LineFault.NotACommand
             → way_said (fields_in (held self.old) said.old) words.old ≡ None }
     {
-        let Some((way, follows)) = words.one_of(WAYS) else {
-            return Err(LineFault::NotACommand);
-        };
+        let (way, follows) = words.one_of(WAYS).ok_or(LineFault::NotACommand)?;
         said.way = way;
         self.read_following(follows, words, said)
     }
@@ -204,9 +200,7 @@ impl Buffers {
         ensures bad { IsErrOf result LineFault.NotACommand
             → word_said Word.Ends (fields_in (held self.old) said.old) words.old ≡ None }
     {
-        let Some(word) = words.next() else {
-            return Err(LineFault::NotACommand);
-        };
+        let word = words.next().ok_or(LineFault::NotACommand)?;
         let ends = add_ends(&mut self.ends, word)?;
         let rare = self.rare(said.rare);
         self.rares.push(Rare { ends, ..rare })?;
@@ -226,9 +220,7 @@ impl Buffers {
         ensures bad { IsErrOf result LineFault.NotACommand
             → word_said Word.Range (fields_in (held self.old) said.old) words.old ≡ None }
     {
-        let Some((low, high)) = words.range() else {
-            return Err(LineFault::NotACommand);
-        };
+        let (low, high) = words.range().ok_or(LineFault::NotACommand)?;
         let rare = self.rare(said.rare);
         self.rares.push(Rare { low, high, ..rare })?;
         said.rare = self.rares.len();
@@ -241,13 +233,8 @@ fn put<T: Copy>(found: Option<T>, place: &mut T) -> Result<(), LineFault>
     ensures ok { OnOk result (found ≡ Some place.new) }
     ensures bad { OnErr result (found ≡ None) }
 {
-    match found {
-        Some(value) => {
-            *place = value;
-            Ok(())
-        }
-        None => Err(LineFault::NotACommand),
-    }
+    *place = found.ok_or(LineFault::NotACommand)?;
+    Ok(())
 }
 
 /// The text that the bytes of a literal are.
@@ -315,10 +302,7 @@ fn add_letters(buffer: &mut Vec<End>, letters: &[u8]) -> Result<(), LineFault>
     ensures bad { IsErrOf result LineFault.NotACommand → letters_of letters.now ≡ None }
 {
     for letter in letters {
-        let Some(end) = end(*letter) else {
-            return Err(LineFault::NotACommand);
-        };
-        buffer.push(end)?;
+        buffer.push(end(*letter).ok_or(LineFault::NotACommand)?)?;
     }
     Ok(())
 }
