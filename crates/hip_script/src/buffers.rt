@@ -124,17 +124,23 @@ impl Buffers {
         ensures bad { IsErrOf result LineFault.NotACommand → quoted_as quote (literal_in self.old.bytes.items literal.entry) ≡ None }
     {
         match quote {
-            Quote::Bytes => Ok(Quoted::Bytes(literal)),
-            Quote::Text => {
-                text_of(literal, &self.bytes)?;
-                Ok(Quoted::Text(literal))
-            }
-            Quote::Char => match only_char(text_of(literal, &self.bytes)?) {
-                Some(c) => Ok(Quoted::Char(c)),
-                None => Err(LineFault::NotACommand),
+            Quote::Bytes => match literal {
+                Literal::Plain(bytes) => Ok(Quoted::Bytes(bytes)),
+                Literal::Decoded(span) => Ok(Quoted::DecodedBytes(span)),
             },
+            Quote::Text => match literal {
+                Literal::Plain(bytes) => Ok(Quoted::Text(text_of(bytes)?)),
+                Literal::Decoded(span) => {
+                    text_of(span.of(&self.bytes))?;
+                    Ok(Quoted::DecodedText(span))
+                }
+            },
+            Quote::Char => {
+                let c = only_char(text_of(literal.of(&self.bytes))?);
+                Ok(Quoted::Char(c.ok_or(LineFault::NotACommand)?))
+            }
             Quote::Any => {
-                let text = text_of(literal, &self.bytes)?;
+                let text = text_of(literal.of(&self.bytes))?;
                 Ok(Quoted::Any(add_chars(&mut self.chars, text)?))
             }
         }
@@ -238,13 +244,11 @@ fn put<T: Copy>(found: Option<T>, place: &mut T) -> Result<(), LineFault>
 }
 
 /// The text that the bytes of a literal are.
-fn text_of<'l>(literal: Literal<'l>, bytes: &'l [u8]) -> Result<&'l str, LineFault>
-    requires { LiteralWithin bytes.now literal }
-    ensures text { IfOk result (λ text. (text.now ≡ literal_in bytes.now literal.entry)
-        × (is_utf8 (literal_in bytes.now literal.entry) ≡ true)) }
-    ensures bad { IsErrOf result LineFault.NotACommand → is_utf8 (literal_in bytes.now literal.entry) ≡ false }
+fn text_of(bytes: &[u8]) -> Result<&str, LineFault>
+    ensures text { IfOk result (λ text. (text.now ≡ bytes.now) × (is_utf8 bytes.now ≡ true)) }
+    ensures bad { IsErrOf result LineFault.NotACommand → is_utf8 bytes.now ≡ false }
 {
-    match str::from_utf8(literal.of(bytes)) {
+    match str::from_utf8(bytes) {
         Ok(text) => Ok(text),
         Err(_) => Err(LineFault::NotACommand),
     }
