@@ -243,7 +243,7 @@ fn put<T: Copy>(found: Option<T>, place: &mut T) -> Result<(), LineFault>
     Ok(())
 }
 
-/// The text that the bytes of a literal are.
+/// The text that bytes are.
 fn text_of(bytes: &[u8]) -> Result<&str, LineFault>
     ensures text { IfOk result (λ text. (text.now ≡ bytes.now) × (is_utf8 bytes.now ≡ true)) }
     ensures bad { IsErrOf result LineFault.NotACommand → is_utf8 bytes.now ≡ false }
@@ -277,10 +277,8 @@ fn add_chars(buffer: &mut Vec<char>, text: &str) -> Result<Span, LineFault>
     for c in text.chars() {
         buffer.push(c)?;
     }
-    Ok(Span {
-        start,
-        end: buffer.len(),
-    })
+    let end = buffer.len();
+    Ok(Span { start, end })
 }
 
 /// Adds the ends that a word says, and says where they stand.
@@ -294,10 +292,8 @@ fn add_ends(buffer: &mut Vec<End>, word: &[u8]) -> Result<Span, LineFault>
         [b'-'] => {}
         letters => add_letters(buffer, letters)?,
     }
-    Ok(Span {
-        start,
-        end: buffer.len(),
-    })
+    let end = buffer.len();
+    Ok(Span { start, end })
 }
 
 /// Adds the ends that letters stand for.

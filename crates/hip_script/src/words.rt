@@ -235,11 +235,8 @@ fn decode<'l>(text: &'l [u8], buffer: &mut Vec<u8>) -> Result<(Literal<'l>, &'l 
     }
     let start = buffer.len();
     let after = decode_all(text, buffer)?;
-    let span = Span {
-        start,
-        end: buffer.len(),
-    };
-    Ok((Literal::Decoded(span), after))
+    let end = buffer.len();
+    Ok((Literal::Decoded(Span { start, end }), after))
 }
 
 /// Adds the bytes of a literal whose first `"` was passed, and gives what follows its last one.
