@@ -4,15 +4,13 @@ use Rattle.std.proofs.lemmas.List.{append-nil, take-append-le, drop-append-le, l
 use Rattle.std.specs.List.{slice_range}
 use Rattle.std.specs.Option.{MatchOption, option_and_then, option_map}
 use Rattle.std.specs.Str.{is_utf8}
-use Rattle.hip_script.specs.Said.{Grows, Held, IsSpan, IsWithin, LiteralWithin, QuotedWithin, ReadsFields, fields_in, in_span, literal_in, no_rare, quoted_in, rare_in}
+use Rattle.hip_script.specs.Said.{Grows, Held, IsSpan, IsWithin, QuotedWithin, ReadsFields, fields_in, in_span, no_rare, quoted_in, rare_in}
 use Rattle.hip_script.specs.Spoken.{Fields}
 use Rattle.hip_script.specs.Spoken.Pattern.{TextOf, AnyOf}
 use Rattle.hip_script.specs.Spoken.Quoted.{Plainly, Sought}
 use Rattle.hip_script.specs.Words.{Left}
-use Rattle.hip_script.specs.declared.said.Literal.{Literal}
-use Rattle.hip_script.specs.declared.said.Literal.TheVariants.{Plain, Decoded}
 use Rattle.hip_script.specs.declared.said.Quoted.{Quoted as Said_quoted}
-use Rattle.hip_script.specs.declared.said.Quoted.TheVariants.{Bytes, Text, Char, Any}
+use Rattle.hip_script.specs.declared.said.Quoted.TheVariants.{Bytes, DecodedBytes, Text, DecodedText, Char, Any}
 use Rattle.hip_script.specs.declared.said.Rare.{Rare}
 use Rattle.hip_script.specs.declared.said.Said.{Said}
 use Rattle.hip_script.specs.declared.said.Span.{Span}
@@ -86,18 +84,19 @@ rare-grows old more (suc i) inside = place-added old more i no_rare (omega arith
 pub rare-last : (old : List Rare) (rare : Rare) → rare_in (old ++ rare ∷ []) (suc (length old)) ≡ rare
 rare-last old rare = place-last old rare no_rare
 
-literal-grows : (old new more : List ℕ) (literal : Literal) → new ≡ old ++ more → LiteralWithin old literal
-    → LiteralWithin new literal × (literal_in new literal ≡ literal_in old literal)
-literal-grows old new more (Plain text) is within = (tt, refl)
-literal-grows old new more (Decoded span) is within = (span-within old new more span is within, span-in old new more span is within)
-
 pub quoted-grows : (old new : Held) (quoted : Said_quoted) → Grows old new → QuotedWithin old quoted
     → QuotedWithin new quoted × (quoted_in new quoted ≡ quoted_in old quoted)
-quoted-grows old new (Bytes literal) grows within =
-    let on = literal-grows old.bytes new.bytes grows.more_bytes literal grows.bytes within in (on.0, ap Plainly on.1)
-quoted-grows old new (Text literal) grows within =
-    let on = literal-grows old.bytes new.bytes grows.more_bytes literal grows.bytes within.0 in
-    ((on.0, ap is_utf8 on.1 ∙ within.1), ap (λ text. Sought (TextOf text)) on.1)
+quoted-grows old new (Bytes bytes) grows within = (tt, refl)
+quoted-grows old new (DecodedBytes span) grows within = (
+  span-within old.bytes new.bytes grows.more_bytes span grows.bytes within,
+  ap Plainly (span-in old.bytes new.bytes grows.more_bytes span grows.bytes within),
+)
+quoted-grows old new (Text text) grows within = (tt, refl)
+quoted-grows old new (DecodedText span) grows within =
+    let same = span-in old.bytes new.bytes grows.more_bytes span grows.bytes within.0 in (
+      (span-within old.bytes new.bytes grows.more_bytes span grows.bytes within.0, ap is_utf8 same ∙ within.1),
+      ap (λ text. Sought (TextOf text)) same,
+    )
 quoted-grows old new (Char c) grows within = (tt, refl)
 quoted-grows old new (Any span) grows within = (
   span-within old.chars new.chars grows.more_chars span grows.chars within,

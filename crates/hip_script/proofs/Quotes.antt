@@ -3,22 +3,23 @@ use Rattle.std.proofs.Common.{◌≡◌, ℕ, suc, ◌+◌, ◌-◌, true, false
 use Rattle.std.proofs.Math.Seq.{drop-append_seam}
 use Rattle.std.proofs.lemmas.Bool.{false_from_ne_true}
 use Rattle.std.proofs.lemmas.List.{append-nil, take_all, length-append}
-use Rattle.std.proofs.lemmas.Str.{is_utf8-from_IsUtf8, IsUtf8-from_is_utf8}
+use Rattle.std.proofs.lemmas.Str.{IsUtf8-from_is_utf8}
 use Rattle.std.specs.Option.{option_map}
 use Rattle.std.specs.Str.{chars, is_utf8, IsUtf8}
 use Rattle.std.specs.declared.ops.Bound.{Bound}
+use denote.Bor.{Bor}
 use Rattle.hip_script.proofs.Growth.{fields-grow, grows-none, grows-then, rare-last, within-grows}
 use Rattle.hip_script.specs.Grammar.{follows_said, only, quoted_as, quoted_said}
 use Rattle.hip_script.specs.Said.{AddsSpan, Grows, Held, IsSpan, IsWithin, LiteralIs, LiteralWithin, QuotedWithin, QuotesAs, ReadsFields, ReadsLiteral, fields_in, in_span, literal_in, quoted_in, rare_in}
 use Rattle.hip_script.specs.Spoken.{Fields, Quoted}
-use Rattle.hip_script.specs.Spoken.Pattern.{AnyOf, CharOf}
+use Rattle.hip_script.specs.Spoken.Pattern.{AnyOf, CharOf, TextOf}
 use Rattle.hip_script.specs.Spoken.Quoted.{Sought}
 use Rattle.hip_script.specs.Words.{Left, ends_of, literal_at, range_of, said_at, word_at}
 use Rattle.hipstr.specs.declared.End.{End}
 use Rattle.hip_script.specs.declared.said.Literal.{Literal}
 use Rattle.hip_script.specs.declared.said.Literal.TheVariants.{Plain, Decoded}
 use Rattle.hip_script.specs.declared.said.Quoted.{Quoted as Said_quoted}
-use Rattle.hip_script.specs.declared.said.Quoted.TheVariants.{Bytes, Text, Char, Any}
+use Rattle.hip_script.specs.declared.said.Quoted.TheVariants.{Bytes, DecodedBytes, Text, DecodedText, Char, Any}
 use Rattle.hip_script.specs.declared.said.Rare.{Rare}
 use Rattle.hip_script.specs.declared.said.Said.{Said}
 use Rattle.hip_script.specs.declared.said.Span.{Span}
@@ -38,28 +39,35 @@ span-added more old new span adds =
           ∙ rw (drop-append_seam old more) (take_all (length new - length old) more (omega arith))),
     )
 
-pub quotes-bytes : (quote : Quote) (literal : Literal) (held : Held) → quote ≡ bytes_quote → LiteralWithin held.bytes literal
-    → QuotesAs (quoted_as quote (literal_in held.bytes literal)) held held (Bytes literal)
-quotes-bytes quote literal held is within = rw is (record { grows = grows-none held; within = within; is = refl })
+pub quotes-bytes : (quote : Quote) (literal : Literal) (bytes : Bor (List ℕ)) (held : Held) → quote ≡ bytes_quote → literal ≡ Plain bytes
+    → QuotesAs (quoted_as quote (literal_in held.bytes literal)) held held (Bytes bytes)
+quotes-bytes quote literal bytes held is stands = rw (is, stands) (record { grows = grows-none held; within = tt; is = refl })
 
-pub shown-text : (bytes shown text : List ℕ) (literal : Literal) → shown ≡ literal_in bytes literal → text ≡ shown → IsUtf8 shown
-    → (text ≡ literal_in bytes literal) × (is_utf8 (literal_in bytes literal) ≡ true)
-shown-text bytes shown text literal is text_is utf8 = (text_is ∙ is, ap is_utf8 (sym is) ∙ is_utf8-from_IsUtf8 shown utf8)
+pub quotes-decoded : (quote : Quote) (literal : Literal) (span : Span) (held : Held) → quote ≡ bytes_quote → literal ≡ Decoded span
+    → LiteralWithin held.bytes literal → QuotesAs (quoted_as quote (literal_in held.bytes literal)) held held (DecodedBytes span)
+quotes-decoded quote literal span held is stands within =
+    rw (is, stands) (record { grows = grows-none held; within = subst (LiteralWithin held.bytes) stands within; is = refl })
 
-pub shown-none : (bytes shown : List ℕ) (literal : Literal) → shown ≡ literal_in bytes literal → ¬ (IsUtf8 shown)
-    → is_utf8 (literal_in bytes literal) ≡ false
-shown-none bytes shown literal is other = ap is_utf8 (sym is) ∙ false_from_ne_true (is_utf8 shown) (λ h. other (IsUtf8-from_is_utf8 shown h))
+pub utf8-none : (bytes : List ℕ) → ¬ (IsUtf8 bytes) → is_utf8 bytes ≡ false
+utf8-none bytes other = false_from_ne_true (is_utf8 bytes) (λ h. other (IsUtf8-from_is_utf8 bytes h))
 
--- a text that was read from a buffer as it is lent
-pub lent-text : (bytes lent text : List ℕ) (literal : Literal) → lent ≡ bytes
-    → (text ≡ literal_in lent literal) × (is_utf8 (literal_in lent literal) ≡ true)
-    → (text ≡ literal_in bytes literal) × (is_utf8 (literal_in bytes literal) ≡ true)
-lent-text bytes lent text literal is shown = subst (λ b. (text ≡ literal_in b literal) × (is_utf8 (literal_in b literal) ≡ true)) is shown
+-- a text that was read from a literal as it is lent
+pub lent-text : (bytes lent shown text : List ℕ) (literal : Literal) → lent ≡ bytes → shown ≡ literal_in lent literal
+    → (text ≡ shown) × (is_utf8 shown ≡ true) → (text ≡ literal_in bytes literal) × (is_utf8 (literal_in bytes literal) ≡ true)
+lent-text bytes lent shown text literal is shows told =
+    subst (λ b. (text ≡ b) × (is_utf8 b ≡ true)) (shows ∙ ap (λ b. literal_in b literal) is) told
 
-pub quotes-text : (quote : Quote) (text : List ℕ) (literal : Literal) (held : Held) → quote ≡ text_quote → LiteralWithin held.bytes literal
-    → (text ≡ literal_in held.bytes literal) × (is_utf8 (literal_in held.bytes literal) ≡ true)
-    → QuotesAs (quoted_as quote (literal_in held.bytes literal)) held held (Text literal)
-quotes-text quote text literal held is within shown = rw is (record { grows = grows-none held; within = (within, shown.1); is = rw shown.1 refl })
+pub quotes-text : (quote : Quote) (literal : Literal) (bytes : Bor (List ℕ)) (text : Bor (List ℕ)) (held : Held) → quote ≡ text_quote → literal ≡ Plain bytes
+    → (text.now ≡ bytes.now) × (is_utf8 bytes.now ≡ true) → QuotesAs (quoted_as quote (literal_in held.bytes literal)) held held (Text text)
+quotes-text quote literal bytes text held is stands told =
+    rw (is, stands) (record { grows = grows-none held; within = tt; is = rw told.1 (ap (λ t. Some (Sought (TextOf t))) (sym told.0)) })
+
+pub quotes-decoded_text : (quote : Quote) (literal : Literal) (span : Span) (lent shown text : List ℕ) (held : Held) → quote ≡ text_quote → literal ≡ Decoded span
+    → LiteralWithin held.bytes literal → lent ≡ held.bytes → shown ≡ in_span lent span → (text ≡ shown) × (is_utf8 shown ≡ true)
+    → QuotesAs (quoted_as quote (literal_in held.bytes literal)) held held (DecodedText span)
+quotes-decoded_text quote literal span lent shown text held is stands within lent_is shows told =
+    let utf8 : is_utf8 (in_span held.bytes span) ≡ true = ap (λ b. is_utf8 (in_span b span)) (sym lent_is) ∙ ap is_utf8 (sym shows) ∙ told.1 in
+    rw (is, stands) (record { grows = grows-none held; within = (subst (LiteralWithin held.bytes) stands within, utf8); is = rw utf8 refl })
 
 pub quotes-char : (quote : Quote) (text bytes : List ℕ) (c : ℕ) (held : Held) → quote ≡ char_quote → (text ≡ bytes) × (is_utf8 bytes ≡ true)
     → Some (Sought (CharOf c)) ≡ only (chars text) → QuotesAs (quoted_as quote bytes) held held (Char c)
@@ -106,8 +114,10 @@ reads-quoted quote held after new before words left literal quoted within reads 
 -- rare things were kept for a line, and ends perhaps added
 rares_move : (held : Held) (ends : List End) (rares : List Rare) (quoted : Said_quoted) → QuotedWithin held quoted
     → QuotedWithin (record held { ends = ends; rares = rares }) quoted × (quoted_in (record held { ends = ends; rares = rares }) quoted ≡ quoted_in held quoted)
-rares_move held ends rares (Bytes literal) within = (within, refl)
-rares_move held ends rares (Text literal) within = (within, refl)
+rares_move held ends rares (Bytes bytes) within = (within, refl)
+rares_move held ends rares (DecodedBytes span) within = (within, refl)
+rares_move held ends rares (Text text) within = (within, refl)
+rares_move held ends rares (DecodedText span) within = (within, refl)
 rares_move held ends rares (Char c) within = (within, refl)
 rares_move held ends rares (Any span) within = (within, refl)
 
@@ -152,9 +162,9 @@ pub follows-nothing : (follows : Follows) (held : Held) (said : Said) (left : Le
 follows-nothing follows held said left is within = rw is (record { grows = grows-none held; within = within; verb = refl; read_is = refl })
 
 -- what was read as a text is one
-pub text-is_one : (held : Held) (quoted : Said_quoted) (literal : Literal) (lent shown : List ℕ) → quoted ≡ Text literal → QuotedWithin held quoted
-    → lent ≡ held.bytes → shown ≡ literal_in lent literal → ¬ (IsUtf8 shown) → ⊥
-text-is_one held quoted literal lent shown is within lent_is shown_is other =
+pub text-is_one : (held : Held) (quoted : Said_quoted) (span : Span) (lent shown : List ℕ) → quoted ≡ DecodedText span → QuotedWithin held quoted
+    → lent ≡ held.bytes → shown ≡ in_span lent span → ¬ (IsUtf8 shown) → ⊥
+text-is_one held quoted span lent shown is within lent_is shown_is other =
     let inside = rw is at within in
-    let same : shown ≡ literal_in held.bytes literal = shown_is ∙ ap (λ b. literal_in b literal) lent_is in
+    let same : shown ≡ in_span held.bytes span = shown_is ∙ ap (λ b. in_span b span) lent_is in
     other (IsUtf8-from_is_utf8 shown (ap is_utf8 same ∙ inside.1))

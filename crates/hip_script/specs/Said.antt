@@ -24,7 +24,7 @@ use Rattle.hip_script.specs.declared.line.Line.TheVariants.{Command as CommandLi
 use Rattle.hip_script.specs.declared.said.Literal.{Literal}
 use Rattle.hip_script.specs.declared.said.Literal.TheVariants.{Plain, Decoded}
 use Rattle.hip_script.specs.declared.said.Quoted.{Quoted as Said_quoted}
-use Rattle.hip_script.specs.declared.said.Quoted.TheVariants.{Bytes, Text, Char, Any}
+use Rattle.hip_script.specs.declared.said.Quoted.TheVariants.{Bytes, DecodedBytes, Text, DecodedText, Char, Any}
 use Rattle.hip_script.specs.declared.said.Rare.{Rare}
 use Rattle.hip_script.specs.declared.said.Said.{Said}
 use Rattle.hip_script.specs.declared.said.Span.{Span}
@@ -61,8 +61,10 @@ literal_in bytes (Plain text) = text.now
 literal_in bytes (Decoded span) = in_span bytes span
 
 abbrev pub quoted_in : Held → Said_quoted → Quoted
-quoted_in held (Bytes literal) = Plainly (literal_in held.bytes literal)
-quoted_in held (Text literal) = Sought (TextOf (literal_in held.bytes literal))
+quoted_in held (Bytes bytes) = Plainly bytes.now
+quoted_in held (DecodedBytes span) = Plainly (in_span held.bytes span)
+quoted_in held (Text text) = Sought (TextOf text.now)
+quoted_in held (DecodedText span) = Sought (TextOf (in_span held.bytes span))
 quoted_in held (Char c) = Sought (CharOf c)
 quoted_in held (Any span) = Sought (AnyOf (in_span held.chars span))
 
@@ -71,8 +73,10 @@ LiteralWithin bytes (Plain text) = Unit {0}
 LiteralWithin bytes (Decoded span) = IsSpan (length bytes) span
 
 abbrev pub QuotedWithin : Held → Said_quoted → Type 0
-QuotedWithin held (Bytes literal) = LiteralWithin held.bytes literal
-QuotedWithin held (Text literal) = LiteralWithin held.bytes literal × (is_utf8 (literal_in held.bytes literal) ≡ true)
+QuotedWithin held (Bytes bytes) = Unit {0}
+QuotedWithin held (DecodedBytes span) = IsSpan (length held.bytes) span
+QuotedWithin held (Text text) = Unit {0}
+QuotedWithin held (DecodedText span) = IsSpan (length held.bytes) span × (is_utf8 (in_span held.bytes span) ≡ true)
 QuotedWithin held (Char c) = Unit {0}
 QuotedWithin held (Any span) = IsSpan (length held.chars) span
 

@@ -124,17 +124,23 @@ impl Buffers {
         ensures bad { IsErrOf result LineFault.NotACommand → quoted_as quote (literal_in self.old.bytes.items literal.entry) ≡ None }
     {
         match quote {
-            Quote::Bytes => Ok(Quoted::Bytes(literal)),
-            Quote::Text => {
-                text_of(literal, &self.bytes)?;
-                Ok(Quoted::Text(literal))
-            }
-            Quote::Char => match only_char(text_of(literal, &self.bytes)?) {
-                Some(c) => Ok(Quoted::Char(c)),
-                None => Err(LineFault::NotACommand),
+            Quote::Bytes => match literal {
+                Literal::Plain(bytes) => Ok(Quoted::Bytes(bytes)),
+                Literal::Decoded(span) => Ok(Quoted::DecodedBytes(span)),
             },
+            Quote::Text => match literal {
+                Literal::Plain(bytes) => Ok(Quoted::Text(text_of(bytes)?)),
+                Literal::Decoded(span) => {
+                    text_of(span.of(&self.bytes))?;
+                    Ok(Quoted::DecodedText(span))
+                }
+            },
+            Quote::Char => {
+                let c = only_char(text_of(literal.of(&self.bytes))?);
+                Ok(Quoted::Char(c.ok_or(LineFault::NotACommand)?))
+            }
             Quote::Any => {
-                let text = text_of(literal, &self.bytes)?;
+                let text = text_of(literal.of(&self.bytes))?;
                 Ok(Quoted::Any(add_chars(&mut self.chars, text)?))
             }
         }
@@ -152,9 +158,7 @@ impl Buffers {
         ensures bad { IsErrOf result LineFault.NotACommand
             → pattern_said (fields_in (held self.old) said.old) words.old ≡ None }
     {
-        let Some(quote) = words.one_of(PATTERNS) else {
-            return Err(LineFault::NotACommand);
-        };
+        let quote = words.one_of(PATTERNS).ok_or(LineFault::NotACommand)?;
         self.read_quoted(quote, words, said)
     }
 
@@ -166,9 +170,7 @@ impl Buffers {
         ensures bad { IsErrOf result LineFault.NotACommand
             → way_said (fields_in (held self.old) said.old) words.old ≡ None }
     {
-        let Some((way, follows)) = words.one_of(WAYS) else {
-            return Err(LineFault::NotACommand);
-        };
+        let (way, follows) = words.one_of(WAYS).ok_or(LineFault::NotACommand)?;
         said.way = way;
         self.read_following(follows, words, said)
     }
@@ -204,9 +206,7 @@ impl Buffers {
         ensures bad { IsErrOf result LineFault.NotACommand
             → word_said Word.Ends (fields_in (held self.old) said.old) words.old ≡ None }
     {
-        let Some(word) = words.next() else {
-            return Err(LineFault::NotACommand);
-        };
+        let word = words.next().ok_or(LineFault::NotACommand)?;
         let ends = add_ends(&mut self.ends, word)?;
         let rare = self.rare(said.rare);
         self.rares.push(Rare { ends, ..rare })?;
@@ -226,9 +226,7 @@ impl Buffers {
         ensures bad { IsErrOf result LineFault.NotACommand
             → word_said Word.Range (fields_in (held self.old) said.old) words.old ≡ None }
     {
-        let Some((low, high)) = words.range() else {
-            return Err(LineFault::NotACommand);
-        };
+        let (low, high) = words.range().ok_or(LineFault::NotACommand)?;
         let rare = self.rare(said.rare);
         self.rares.push(Rare { low, high, ..rare })?;
         said.rare = self.rares.len();
@@ -241,23 +239,16 @@ fn put<T: Copy>(found: Option<T>, place: &mut T) -> Result<(), LineFault>
     ensures ok { OnOk result (found ≡ Some place.new) }
     ensures bad { OnErr result (found ≡ None) }
 {
-    match found {
-        Some(value) => {
-            *place = value;
-            Ok(())
-        }
-        None => Err(LineFault::NotACommand),
-    }
+    *place = found.ok_or(LineFault::NotACommand)?;
+    Ok(())
 }
 
-/// The text that the bytes of a literal are.
-fn text_of<'l>(literal: Literal<'l>, bytes: &'l [u8]) -> Result<&'l str, LineFault>
-    requires { LiteralWithin bytes.now literal }
-    ensures text { IfOk result (λ text. (text.now ≡ literal_in bytes.now literal.entry)
-        × (is_utf8 (literal_in bytes.now literal.entry) ≡ true)) }
-    ensures bad { IsErrOf result LineFault.NotACommand → is_utf8 (literal_in bytes.now literal.entry) ≡ false }
+/// The text that bytes are.
+fn text_of(bytes: &[u8]) -> Result<&str, LineFault>
+    ensures text { IfOk result (λ text. (text.now ≡ bytes.now) × (is_utf8 bytes.now ≡ true)) }
+    ensures bad { IsErrOf result LineFault.NotACommand → is_utf8 bytes.now ≡ false }
 {
-    match str::from_utf8(literal.of(bytes)) {
+    match str::from_utf8(bytes) {
         Ok(text) => Ok(text),
         Err(_) => Err(LineFault::NotACommand),
     }
@@ -286,10 +277,8 @@ fn add_chars(buffer: &mut Vec<char>, text: &str) -> Result<Span, LineFault>
     for c in text.chars() {
         buffer.push(c)?;
     }
-    Ok(Span {
-        start,
-        end: buffer.len(),
-    })
+    let end = buffer.len();
+    Ok(Span { start, end })
 }
 
 /// Adds the ends that a word says, and says where they stand.
@@ -303,10 +292,8 @@ fn add_ends(buffer: &mut Vec<End>, word: &[u8]) -> Result<Span, LineFault>
         [b'-'] => {}
         letters => add_letters(buffer, letters)?,
     }
-    Ok(Span {
-        start,
-        end: buffer.len(),
-    })
+    let end = buffer.len();
+    Ok(Span { start, end })
 }
 
 /// Adds the ends that letters stand for.
@@ -315,10 +302,7 @@ fn add_letters(buffer: &mut Vec<End>, letters: &[u8]) -> Result<(), LineFault>
     ensures bad { IsErrOf result LineFault.NotACommand → letters_of letters.now ≡ None }
 {
     for letter in letters {
-        let Some(end) = end(*letter) else {
-            return Err(LineFault::NotACommand);
-        };
-        buffer.push(end)?;
+        buffer.push(end(*letter).ok_or(LineFault::NotACommand)?)?;
     }
     Ok(())
 }

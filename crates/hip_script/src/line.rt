@@ -99,7 +99,8 @@ impl<'l> Script<'l> {
         ensures { result.now ≡ bytes_in (quoted_in (held self.now.buffers) said.now.quoted) }
     {
         match said.quoted {
-            Quoted::Bytes(literal) => literal.of(&self.buffers.bytes),
+            Quoted::Bytes(bytes) => bytes,
+            Quoted::DecodedBytes(span) => span.of(&self.buffers.bytes),
             _ => &[],
         }
     }
@@ -110,8 +111,9 @@ impl<'l> Script<'l> {
         ensures { pattern_says result ≡ pattern_in (quoted_in (held self.now.buffers) said.now.quoted) }
     {
         match said.quoted {
-            Quoted::Bytes(_) => Pat::Text(""),
-            Quoted::Text(literal) => match str::from_utf8(literal.of(&self.buffers.bytes)) {
+            Quoted::Bytes(_) | Quoted::DecodedBytes(_) => Pat::Text(""),
+            Quoted::Text(text) => Pat::Text(text),
+            Quoted::DecodedText(span) => match str::from_utf8(span.of(&self.buffers.bytes)) {
                 Ok(text) => Pat::Text(text),
                 Err(_) => Pat::Text(""),
             },

@@ -37,9 +37,7 @@ pub fn play<B: Backend, R: Read + Drop, W: Write + Drop>(
     ensures read { IfSome (R.remaining reader) (λ input. Reads (script_of input) result) }
     ensures bad_line { (line : ℕ) → result ≡ Err (NotACommand line) → 0 < line }
 {
-    let Ok(mut out) = BufWriter::new(alloc, writer) else {
-        return Err(PlayFault::Memory);
-    };
+    let mut out = BufWriter::new(alloc, writer).or(Err(PlayFault::Memory))?;
     let played = play_to::<B, _, _>(alloc, &mut reader, &mut out);
     let flushed = match played {
         Err(PlayFault::WriteFailed) => Ok(()),
@@ -47,10 +45,7 @@ pub fn play<B: Backend, R: Read + Drop, W: Write + Drop>(
     };
     let (_writer, _unwritten) = out.into_parts();
     played?;
-    match flushed {
-        Ok(()) => Ok(()),
-        Err(_) => Err(PlayFault::WriteFailed),
-    }
+    flushed.or(Err(PlayFault::WriteFailed))
 }
 
 /// [`play`], from and to what is lent. Each line is written at once, so `out` had better gather them; it isn't flushed.
@@ -192,10 +187,7 @@ fn tell<B: Backend, W: Write>(
         Aside::Copied => writeln!(out, "{}", meter.copied()),
         Aside::Fields(slot, separator) => tell_fields(alloc, pool, slot, separator, meter, out),
     };
-    match told {
-        Ok(()) => Ok(()),
-        Err(_) => Err(Stop::WriteFailed),
-    }
+    told.or(Err(Stop::WriteFailed))
 }
 
 /// Prints a slot.

@@ -49,13 +49,17 @@ impl<'l> Literal<'l> {
     }
 }
 
-/// What a literal says.
+/// What a literal says. Each way to say it stands here, and not in an enum of its own, so that a line's record has 64 bytes and not 72.
 #[derive(Clone, Copy)]
 pub(crate) enum Quoted<'l> {
-    /// Bytes.
-    Bytes(Literal<'l>),
-    /// A text.
-    Text(Literal<'l>),
+    /// Bytes that stand in the script as they are.
+    Bytes(&'l [u8]),
+    /// Bytes that were decoded.
+    DecodedBytes(Span),
+    /// A text that stands in the script as it is.
+    Text(&'l str),
+    /// A text that was decoded.
+    DecodedText(Span),
     /// A character.
     Char(char),
     /// Each of these characters.
@@ -124,7 +128,7 @@ impl Said<'_> {
             source: 0,
             target: 0,
             number: 0,
-            quoted: Quoted::Bytes(Literal::Plain(&[])),
+            quoted: Quoted::Bytes(&[]),
             rare: 0,
         }
     }

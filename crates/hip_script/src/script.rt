@@ -63,9 +63,7 @@ impl<'l> Script<'l> {
         ensures bad { IsErrOf result LineFault.NotACommand → line_said line.now ≡ None }
     {
         let mut words = Words::new(line);
-        let Some((verb, list)) = words.row() else {
-            return Err(LineFault::NotACommand);
-        };
+        let (verb, list) = words.row().ok_or(LineFault::NotACommand)?;
         let mut said = Said::new(verb);
         self.buffers.read_words(list, &mut words, &mut said)?;
         if !words.is_empty() {

@@ -107,17 +107,10 @@ impl<'l> Words<'l> {
         ensures ok { IfOk result (λ literal. ReadsLiteral (literal_at self.old) self.new buffer.old.items buffer.new.items literal) }
         ensures bad { IsErrOf result LineFault.NotACommand → literal_at self.old ≡ None }
     {
-        let Some(rest) = self.rest else {
-            return Err(LineFault::NotACommand);
-        };
-        let Some(text) = unquoted(rest) else {
-            return Err(LineFault::NotACommand);
-        };
+        let rest = self.rest.ok_or(LineFault::NotACommand)?;
+        let text = unquoted(rest).ok_or(LineFault::NotACommand)?;
         let (literal, after) = decode(text, buffer)?;
-        let Some(left) = close(after) else {
-            return Err(LineFault::NotACommand);
-        };
-        self.rest = left;
+        self.rest = close(after).ok_or(LineFault::NotACommand)?;
         Ok(literal)
     }
 }
@@ -236,19 +229,14 @@ fn decode<'l>(text: &'l [u8], buffer: &mut Vec<u8>) -> Result<(Literal<'l>, &'l 
     ensures ok { IfOk result (λ found. DecodesLiteral (decoded Plain text.now) found.1.now buffer.old.items buffer.new.items found.0) }
     ensures bad { IsErrOf result LineFault.NotACommand → decoded Plain text.now ≡ None }
 {
-    let Some(at) = memchr2(b'"', b'\\', text) else {
-        return Err(LineFault::NotACommand);
-    };
+    let at = memchr2(b'"', b'\\', text).ok_or(LineFault::NotACommand)?;
     if text[at] == b'"' {
         return Ok((Literal::Plain(&text[..at]), &text[at + 1..]));
     }
     let start = buffer.len();
     let after = decode_all(text, buffer)?;
-    let span = Span {
-        start,
-        end: buffer.len(),
-    };
-    Ok((Literal::Decoded(span), after))
+    let end = buffer.len();
+    Ok((Literal::Decoded(Span { start, end }), after))
 }
 
 /// Adds the bytes of a literal whose first `"` was passed, and gives what follows its last one.
@@ -262,9 +250,7 @@ fn decode_all<'l>(text: &'l [u8], buffer: &mut Vec<u8>) -> Result<&'l [u8], Line
         match first {
             b'"' => return Ok(after),
             b'\\' => {
-                let Some((byte, after)) = unescape(after) else {
-                    return Err(LineFault::NotACommand);
-                };
+                let (byte, after) = unescape(after).ok_or(LineFault::NotACommand)?;
                 buffer.push(byte)?;
                 rest = after;
             }

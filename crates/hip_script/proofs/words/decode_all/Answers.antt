@@ -1,4 +1,5 @@
 use Rattle.std.proofs.Common.{rules, ◌∙◌, ap}
+use Rattle.std.proofs.lemmas.Option.{MatchOption-at_none, MatchOption-at_some}
 use Rattle.hip_script.specs.Words.{decoded}
 use Rattle.hip_script.specs.Words.Place.{Plain}
 use Rattle.hip_script.proofs.Decoded.{literal-byte, plain-none, plain-escape, literal-ends, literal-fails, literal-goes_on}
@@ -10,7 +11,7 @@ returns-in-34-clause-ok c = literal-ends _ _ _ _ _ _ c.loop-first.invariant c.in
 pub loop-first-preserved-in-92 : goal.loop-first-preserved-in-92
 loop-first-preserved-in-92 c =
     literal-goes_on _ _ _ _ _ _ c.loop-first.invariant
-    (ap (decoded Plain) c.in-Some.ensures.cases.0 ∙ plain-escape _ _ c.in-92.is ∙ c.in-Some-unescape.ensures.value) c.in_ok-push-in-92.ensures.items
+    (ap (decoded Plain) c.in-Some.ensures.cases.0 ∙ plain-escape _ _ c.in-92.is ∙ MatchOption-at_some _ _ _ c.in_ok-byte-in-92.ensures.ok_part c.unescape.ensures.value) c.in_ok-push-in-92.ensures.items
 
 pub loop-first-preserved : goal.loop-first-preserved
 loop-first-preserved c =
@@ -19,6 +20,6 @@ loop-first-preserved c =
 pub returns-clause-bad : goal.returns-clause-bad
 returns-clause-bad c = λ _. literal-fails _ _ _ _ c.loop-first.invariant (plain-none _ c.in_default.ensures.cases)
 
-pub returns-in_default-unescape-clause-bad : goal.returns-in_default-unescape-clause-bad
-returns-in_default-unescape-clause-bad c = λ _. literal-fails _ _ _ _ c.loop-first.invariant
-    (ap (decoded Plain) c.in-Some.ensures.cases.0 ∙ plain-escape _ _ c.in-92.is ∙ c.in_default-unescape.ensures.value)
+pub returns-in_err-byte-in-92-clause-bad : goal.returns-in_err-byte-in-92-clause-bad
+returns-in_err-byte-in-92-clause-bad c = λ _. literal-fails _ _ _ _ c.loop-first.invariant
+    (ap (decoded Plain) c.in-Some.ensures.cases.0 ∙ plain-escape _ _ c.in-92.is ∙ MatchOption-at_none _ _ c.in_err-byte-in-92.ensures.ok_part c.unescape.ensures.value)
