@@ -94,7 +94,7 @@ fn next_end(text: &str, start: usize, class: Class, turns: &mut Turns) -> usize
 {
     match turns.next(text.as_bytes(), start) {
         Some(last) => last + 1,
-        None => run_end(text, start, turns.upto().max(start + 1), class),
+        None => run_end(text, start, turns.upto.max(start + 1), class),
     }
 }
 

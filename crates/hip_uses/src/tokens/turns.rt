@@ -42,7 +42,7 @@ fn turns_at(bytes: &[u8], at: usize) -> u64
 // The ends of runs among the places that were looked at, up to `upto`.
 #[derive(Clone, Copy)]
 pub(crate) struct Turns {
-    upto: usize,
+    pub(crate) upto: usize,
     turns: u64,
 }
 
@@ -52,13 +52,6 @@ impl Turns {
         ensures { Ahead bytes.now 0 result.upto result.turns }
     {
         Turns { upto: 0, turns: 0 }
-    }
-
-    // The number of places that were looked at, from the first on.
-    pub(crate) fn upto(&self) -> usize
-        ensures { result ≡ self.now.upto }
-    {
-        self.upto
     }
 
     // The first place at or after `from` at which a run ends. None is found in the tail, where fewer than 64 places are left.

@@ -8,7 +8,7 @@ use Rattle.hip_uses.proofs.tokens.next_end.Goals as goal
 pub run_end-requires-clause-class : goal.run_end-requires-clause-class
 run_end-requires-clause-class c = λ k lo hi.
     let none : NoTurn c.args.text.now c.args.start c.next.new.self.upto = subst (λ (l : List ℕ). NoTurn l c.args.start c.next.new.self.upto) c.as_bytes.ensures.value c.in-None.ensures.found.none in
-    one-class c.args.text.now c.args.start k lo (λ j low high. none j low (omega (arith, c.max.ensures, c.upto.ensures))) ∙ c.requires.class
+    one-class c.args.text.now c.args.start k lo (λ j low high. none j low (omega (arith, c.max.ensures))) ∙ c.requires.class
 
 pub returns-in-Some-clause-run : goal.returns-in-Some-clause-run
 returns-in-Some-clause-run c =
