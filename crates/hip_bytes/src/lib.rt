@@ -11,8 +11,9 @@
 //! - [`RefMut`] lends a value of a [`Source`], as a handle is one, as a vector; [`mutate`] makes one in functions that are generic in
 //!   the source. [`with_mutated`] lends the vector to a closure, and [`MutateFault`] says what a refusal left.
 //! - [`Piece`] is what joins are made of, bytes or texts.
-//! - What an implementor of [`Backend`], or a caller of the representations, names is handed on: [`Room`], [`Start`], [`Front`],
-//!   [`Appended`], [`Block`], [`Inline`], [`Length`], [`Borrowed`], [`Allocated`], [`Sole`], [`fill_counted`], [`copy_counted`].
+//! - What an implementor of [`Backend`], or a caller of the representations, names is handed on: [`Room`], [`Extent`], [`Span`],
+//!   [`Whole`], [`Appended`], [`Block`], [`Inline`], [`Length`], [`Borrowed`], [`Allocated`], [`Sole`], [`fill_counted`],
+//!   [`copy_counted`].
 //!
 //! A call that copies has a form with the suffix `_metered` and a last argument `&mut Meter`; the plain call is that form with a
 //! fresh meter. Conversions from a `Cow`, and into a vector or a `Cow`, have none. A call that may want memory takes the allocator first,
@@ -41,9 +42,9 @@ pub use borsh_fault::BorshFault;
 pub use grow_fault::GrowFault;
 pub use hip_byt::HipByt;
 pub use hip_raw::{
-    Allocated, Appended, Backend, Block, Borrowed, ByteSink, ByteSource, FromRead, Front, Fuse,
-    Inline, IoFault, Length, Meter, Rc, Room, SliceSource, Sole, Start, ToWrite, Unique, VecSink,
-    copy_counted, fill_counted,
+    Allocated, Appended, Backend, Block, Borrowed, ByteSink, ByteSource, Extent, FromRead, Fuse,
+    Inline, IoFault, Length, Meter, Rc, Room, SliceSource, Sole, Span, ToWrite, Unique, VecSink,
+    Whole, copy_counted, fill_counted,
 };
 pub use json_fault::JsonFault;
 pub use kind::{INLINE_CAPACITY, Kind};

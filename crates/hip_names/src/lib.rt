@@ -18,9 +18,9 @@ mod order;
 
 pub use component::{Component, Components};
 pub use hip_bytes::{
-    Allocated, Appended, Backend, Block, Borrowed, Front, HipByt, INLINE_CAPACITY, Inline,
-    JsonFault, Kind, Length, Meter, MutateFault, Rc, RefMut, Room, Source, Start, Unique, mutate,
-    with_mutated,
+    Allocated, Appended, Backend, Block, Borrowed, Extent, HipByt, INLINE_CAPACITY, Inline,
+    JsonFault, Kind, Length, Meter, MutateFault, Rc, RefMut, Room, Source, Span, Unique, Whole,
+    mutate, with_mutated,
 };
 pub use hip_os_str::HipOsStr;
 pub use hip_path::HipPath;

@@ -1,18 +1,19 @@
 //! Bytes that an owner holds.
-ghost use Rattle.std.specs.Prelude.{◌≡◌, ◌+◌, ◌*◌, ◌-◌, ◌^◌, ◌<◌, ◌≤◌, ◌==◌, ◌++◌, max, min, map, false, true, length, take, vec_capacity, vec_len, IsSome, IfSome, IfOk, IfErr, OnErr, slice_range, slice_set, if◌then◌else◌, IsOk};
+ghost use Rattle.std.specs.Prelude.{◌≡◌, ◌+◌, ◌*◌, ◌-◌, ◌^◌, ◌<◌, ◌≤◌, ◌==◌, ◌++◌, max, min, map, false, true, [], length, take, vec_capacity, vec_len, IsSome, IfSome, IfOk, IfErr, OnErr, slice_range, slice_set, if◌then◌else◌, IsOk};
 ghost use Rattle.std.specs.Char.{to_ascii_lowercase, to_ascii_uppercase};
 ghost use Rattle.std.specs.Fn.{FnOnceReturnsAtMut, FnOnceTakesAtMut};
 ghost use Rattle.hip_raw.specs.Appended.{OnDone, OnShared, OnMemory, OnRefused};
 ghost use Rattle.hip_raw.specs.Held.{held_items, held_capacity, OwnAnswers};
 ghost use Rattle.hip_raw.specs.Meter.{RisesAtLeast, RisesAtMost, pot, times_copied, unless_shared};
+ghost use Rattle.hip_raw.specs.Window.{window};
 
 use crate::appended::Appended;
 use crate::ascii_case::{make_ascii_lowercase, make_ascii_uppercase};
 use crate::backend::Backend;
 use crate::block::Block;
+use crate::extent::Extent;
 use crate::meter::Meter;
 use crate::room::{Room, cut, write_range};
-use crate::start::Start;
 use std::alloc::{AllocError, Global};
 use std::marker::Model;
 use std::ops::Range;
@@ -21,12 +22,11 @@ use std::ops::Range;
 #[derive(Drop)]
 pub struct Allocated<B: Backend> {
     owner: B,
-    start: B::Start,
-    len: usize,
+    extent: B::Extent,
 }
 
 impl<B: Backend> Model for Allocated<B> {
-    ghost use Rattle.std.specs.Prelude.{◌-◌};
+    ghost use Rattle.std.specs.Prelude.{◌-◌, length};
     ghost use Rattle.hip_raw.specs.Allocated.{LiesIn};
     ghost use Rattle.hip_raw.specs.Held.{Held};
     ghost use Rattle.hip_raw.specs.Window.{window};
@@ -34,14 +34,29 @@ impl<B: Backend> Model for Allocated<B> {
     ghost Value = { Held };
 
     ghost view = { λ h. record {
-      items = window (B.items h.owner) (B.Start.start_of h.start) h.len;
-      capacity = B.capacity h.owner - B.Start.start_of h.start;
+      items = window (B.items h.owner) (B.Extent.start_of h.extent) (B.Extent.len_of h.extent (length (B.items h.owner)));
+      capacity = B.capacity h.owner - B.Extent.start_of h.extent;
     } };
 
-    ghost invariant = { λ h. LiesIn B.SHARES (B.items h.owner) (B.capacity h.owner) (B.Start.start_of h.start) h.len };
+    ghost invariant = { λ h. LiesIn B.SHARES (B.items h.owner) (B.capacity h.owner) (B.Extent.start_of h.extent) (B.Extent.len_of h.extent (length (B.items h.owner))) };
 }
 
 impl<B: Backend> Allocated<B> {
+    /// The `len` bytes of an owner's list from `start` on.
+    #[inline(always)]
+    pub(crate) fn from_parts(owner: B, start: usize, len: usize) -> Self
+        requires within { start + len ≤ length (B.items owner) }
+        requires fits { length (B.items owner) ≤ B.capacity owner }
+        requires bound { length (B.items owner) < 2 ^ 64 }
+        requires position { B.SHARES ≡ false → start ≡ 0 }
+        requires whole { B.SHARES ≡ false → len ≡ length (B.items owner) }
+        ensures items { result.items ≡ window (B.items owner) start len }
+        ensures capacity { result.capacity ≡ B.capacity owner - start }
+    {
+        let extent = B::Extent::of(start, len, owner.as_slice().len());
+        Allocated { owner, extent }
+    }
+
     /// All bytes of a vector, which is taken over.
     #[inline]
     pub fn new(alloc: Global, vec: Vec<u8>) -> Result<Self, Vec<u8>>
@@ -59,11 +74,7 @@ impl<B: Backend> Allocated<B> {
     {
         let len = vec.len();
         let owner = B::own(alloc, vec, meter)?;
-        Ok(Allocated {
-            owner,
-            start: B::Start::of(0),
-            len,
-        })
+        Ok(Self::from_parts(owner, 0, len))
     }
 
     /// [`Allocated::new_metered`], in a block that an owner left.
@@ -78,9 +89,9 @@ impl<B: Backend> Allocated<B> {
         ensures counted { RisesAtMost meter.old meter.new (unless_shared B.SHARES (vec_len vec)) }
         ensures refused_copies_nothing { OnErr result (meter.new ≡ meter.old) }
     {
-        let (start, len) = (B::Start::of(0), vec.len());
+        let len = vec.len();
         let owner = B::own_in(alloc, block, vec, meter)?;
-        Ok(Allocated { owner, start, len })
+        Ok(Self::from_parts(owner, 0, len))
     }
 
     /// These bytes again, under an owner of their own.
@@ -108,7 +119,16 @@ impl<B: Backend> Allocated<B> {
         Self::with_room_metered(alloc, bytes, bytes.len(), meter)
     }
 
-    // The same, with room for so many.
+    /// No bytes, under an owner with room for `capacity`.
+    #[inline]
+    pub fn with_capacity(alloc: Global, capacity: usize) -> Result<Self, AllocError>
+        ensures items { IfOk result (λ made. made.items ≡ []) }
+        ensures capacity { IfOk result (λ made. capacity ≤ made.capacity) }
+    {
+        Self::with_room_metered(alloc, &[], capacity, &mut Meter::new())
+    }
+
+    // Like `from_slice_metered`, but with room for so many bytes.
     #[inline]
     fn with_room_metered(
         alloc: Global,
@@ -125,11 +145,7 @@ impl<B: Backend> Allocated<B> {
         ensures copied { IfOk result (λ made. RisesAtLeast meter.old meter.new (length bytes.now)) }
     {
         let owner = B::copy_of(alloc, bytes, room, meter)?;
-        Ok(Allocated {
-            owner,
-            start: B::Start::of(0),
-            len: bytes.len(),
-        })
+        Ok(Self::from_parts(owner, 0, bytes.len()))
     }
 
     /// How many bytes there are.
@@ -139,7 +155,7 @@ impl<B: Backend> Allocated<B> {
         ensures fits { length self.now.items ≤ self.now.capacity }
         ensures bound { length self.now.items < 2 ^ 64 }
     {
-        self.len
+        self.extent.len(self.owner.as_slice().len())
     }
 
     /// Whether there is no byte.
@@ -147,7 +163,7 @@ impl<B: Backend> Allocated<B> {
     pub fn is_empty(&self) -> bool
         ensures { result ≡ (length self.now.items == 0) }
     {
-        self.len == 0
+        self.len() == 0
     }
 
     /// How many bytes it can hold with no new memory, as far as the owner isn't shared.
@@ -156,7 +172,7 @@ impl<B: Backend> Allocated<B> {
         ensures capacity { result ≡ self.now.capacity }
         ensures fits { length self.now.items ≤ self.now.capacity }
     {
-        self.owner.capacity() - self.start.get()
+        self.owner.capacity() - self.extent.start()
     }
 
     /// The bytes.
@@ -166,8 +182,9 @@ impl<B: Backend> Allocated<B> {
         ensures fits { length self.now.items ≤ self.now.capacity }
         ensures bound { length self.now.items < 2 ^ 64 }
     {
-        let start = self.start.get();
-        &self.owner.as_slice()[start..start + self.len]
+        let start = self.extent.start();
+        let bytes = self.owner.as_slice();
+        &bytes[start..start + self.extent.len(bytes.len())]
     }
 
     /// The bytes in this range, under the same owner where owners can be shared, else under one of their own.
@@ -202,9 +219,8 @@ impl<B: Backend> Allocated<B> {
         let len = range.end - range.start;
         let (owner, start) = self
             .owner
-            .part(alloc, self.start.get() + range.start, len, meter)?;
-        let start = B::Start::of(start);
-        Ok(Allocated { owner, start, len })
+            .part(alloc, self.extent.start() + range.start, len, meter)?;
+        Ok(Self::from_parts(owner, start, len))
     }
 
     /// Appends these bytes in place. The answer says whether that could be done.
@@ -243,10 +259,12 @@ impl<B: Backend> Allocated<B> {
         ensures refused { OnRefused result (self.new ≡ self.old) }
         ensures refused_copies_nothing { OnRefused result (meter.new ≡ meter.old) }
     {
-        let keep = self.start.get() + self.len;
+        let len = self.len();
+        let start = self.extent.start();
+        let keep = start + len;
         let answer = self.owner.append(alloc, keep, addition, meter);
         if let Appended::Done = answer {
-            self.len += addition.len();
+            self.extent = B::Extent::of(start, len + addition.len(), keep + addition.len());
         }
         answer
     }
@@ -258,8 +276,11 @@ impl<B: Backend> Allocated<B> {
         ensures fits { length self.new.items ≤ self.new.capacity }
         ensures capacity { self.new.capacity ≡ self.old.capacity }
     {
-        if len < self.len {
-            self.len = len;
+        if len < self.len() {
+            if !B::SHARES {
+                cut(&mut self.owner, len);
+            }
+            self.extent = B::Extent::of(self.extent.start(), len, self.owner.as_slice().len());
         }
     }
 
@@ -301,21 +322,18 @@ impl<B: Backend> Allocated<B> {
         ensures handed_back { IfErr result (λ back. back ≡ self) }
         ensures refused_copies_nothing { OnErr result (meter.new ≡ meter.old) }
     {
-        if self.start.get() != 0 {
+        if self.extent.start() != 0 {
             return Err(self);
         }
-        let Allocated {
-            mut owner,
-            start,
-            len,
-        } = self;
+        let len = self.len();
+        let Allocated { mut owner, .. } = self;
         cut(&mut owner, len);
         match owner.try_take_vec(alloc, meter) {
             Ok((mut vec, block)) => {
                 vec.truncate(len);
                 Ok((vec, block))
             }
-            Err(owner) => Err(Allocated { owner, start, len }),
+            Err(owner) => Err(Self::from_parts(owner, 0, len)),
         }
     }
 
@@ -332,8 +350,9 @@ impl<B: Backend> Allocated<B> {
         ensures err { OnErr result (self.new ≡ self.old) }
         ensures handed_back { IfErr result (λ back. back ≡ f) }
     {
-        let start = self.start.get();
-        write_range(&mut self.owner, start, self.len, f)
+        let start = self.extent.start();
+        let len = self.len();
+        write_range(&mut self.owner, start, len, f)
     }
 
     /// Writes one byte, where no other handle shares the owner, and answers whether it did.
@@ -378,8 +397,8 @@ impl<B: Backend> Allocated<B> {
         ensures items { IfSome result (λ bytes. bytes.now ≡ self.old.items) }
         ensures sole { B.SHARES ≡ false → IsSome result }
     {
-        let start = self.start.get();
-        let end = start + self.len;
+        let start = self.extent.start();
+        let end = start + self.len();
         match self.owner.writable() {
             Some(sole) => {
                 let bytes = sole.as_mut_slice();
@@ -420,7 +439,7 @@ impl<B: Backend> Allocated<B> {
         ensures memory { OnErr result (max least (length self.old.items) < self.old.capacity) }
         ensures err { OnErr result (self.new ≡ self.old) }
     {
-        let room = least.max(self.len);
+        let room = least.max(self.len());
         if self.capacity() <= room {
             return Ok(());
         }

@@ -1,5 +1,5 @@
 //! The promises of an owner of bytes.
-ghost use Rattle.std.specs.Prelude.{◌≡◌, ℕ, ◌+◌, ◌*◌, ◌^◌, ◌<◌, ◌≤◌, Bool, false, true, List, ◌++◌, length, take, vec_capacity, vec_len, IsSome, IfOk, IfErr, IfSome, OnErr};
+ghost use Rattle.std.specs.Prelude.{◌≡◌, ℕ, ◌+◌, ◌*◌, ◌^◌, ◌<◌, ◌≤◌, Bool, false, true, List, ◌++◌, length, replicate, take, vec_capacity, vec_len, IsSome, IfOk, IfErr, IfSome, OnErr};
 ghost use Rattle.std.specs.Borrow.{sem, LendsIf};
 ghost use Rattle.hip_raw.specs.Appended.{OnDone, OnShared, OnMemory, OnRefused};
 ghost use Rattle.hip_raw.specs.Held.{OwnAnswers};
@@ -8,9 +8,9 @@ ghost use Rattle.hip_raw.specs.Window.{window};
 
 use crate::appended::Appended;
 use crate::block::Block;
+use crate::extent::Extent;
 use crate::meter::{Meter, copy_with_capacity};
 use crate::room::Room;
-use crate::start::Start;
 use std::alloc::{AllocError, Global};
 
 /// An owner of bytes: a list and a capacity. Where `SHARES` many handles stand on one owner, where not each has its own.
@@ -31,8 +31,8 @@ pub trait Backend: Drop + Sized {
     /// The room that a sole owner lends for writing.
     type Sole: Room;
 
-    /// Where a handle's bytes begin in an owner's list.
-    type Start: Start;
+    /// The bytes of an owner's list that a handle shows.
+    type Extent: Extent;
 
     // The owner after what it lent was written.
     ghost with_sole: { Self → Self.Sole → Self };
@@ -51,6 +51,7 @@ pub trait Backend: Drop + Sized {
             (λ made. window (items made.0) made.1 len ≡ window (items self.now) start len) }
         ensures within { IfOk result (λ made. made.1 + len ≤ length (items made.0)) }
         ensures position { SHARES ≡ false → IfOk result (λ made. made.1 ≡ 0) }
+        ensures whole { SHARES ≡ false → IfOk result (λ made. length (items made.0) ≡ len) }
         ensures fits { IfOk result (λ made. length (items made.0) ≤ capacity made.0) }
         ensures bound { IfOk result (λ made. length (items made.0) < 2 ^ 64) }
         ensures counted { RisesAtMost meter.old meter.new (unless_shared SHARES len) }
@@ -135,6 +136,23 @@ pub trait Backend: Drop + Sized {
         }
     }
 
+    /// An owner of `len` zeros.
+    #[inline]
+    fn zeroed(alloc: Global, len: usize, meter: &mut Meter) -> Result<Self, AllocError>
+        ensures items { IfOk result (λ made. items made ≡ replicate len 0) }
+        ensures fits { IfOk result (λ made. length (items made) ≤ capacity made) }
+        ensures bound { IfOk result (λ made. length (items made) < 2 ^ 64) }
+        ensures counted { RisesAtMost meter.old meter.new (unless_shared SHARES len) }
+        ensures refused_copies_nothing { OnErr result (meter.new ≡ meter.old) }
+    {
+        let mut vec = Vec::with_capacity(alloc, len)?;
+        vec.resize(len, 0)?;
+        match Self::own(alloc, vec, meter) {
+            Ok(made) => Ok(made),
+            Err(_) => Err(AllocError),
+        }
+    }
+
     /// [`Backend::own`] in a block that an owner left, for which no memory is taken. Where owners have no blocks, it is that call.
     #[inline]
     fn own_in(
@@ -168,8 +186,8 @@ pub trait Backend: Drop + Sized {
     // This owner has what the sole owner has when the loan ends.
     ghost sole_items: { (owner : Self) (sole : Self.Sole) → items (with_sole owner sole) ≡ Self.Sole.items sole };
 
-    // Where owners are shared any position can be, else 0.
-    ghost starts: { (start : ℕ) → (SHARES ≡ false → start ≡ 0) → Self.Start.holds start };
+    // Where owners are shared any bytes of a list can be shown, else the whole list.
+    ghost extents: { (start len total : ℕ) → (SHARES ≡ false → (start ≡ 0) × (len ≡ total)) → Self.Extent.holds start len total };
 
     ghost sole_capacity: { (owner : Self) (sole : Self.Sole) → capacity (with_sole owner sole) ≡ Self.Sole.capacity sole };
 }

@@ -112,6 +112,19 @@ impl Buffer {
         })
     }
 
+    /// `len` zeros, and no more room.
+    #[inline]
+    pub(crate) fn zeroed(alloc: Global, len: usize) -> Result<Self, AllocError>
+        ensures items { IfOk result (λ made. made.items ≡ replicate len 0) }
+        ensures capacity { IfOk result (λ made. made.capacity ≡ len) }
+        ensures small { IfOk result (λ made. made.capacity < 2 ^ 63) }
+    {
+        let mut buffer = Buffer::with_capacity(alloc, len)?;
+        let _small = buffer.capacity();
+        buffer.add_zeros(0, len);
+        Ok(buffer)
+    }
+
     /// How many bytes it can hold with no new memory.
     #[inline]
     pub(crate) fn capacity(&self) -> usize

@@ -1,12 +1,12 @@
 //! The lowest layer of hipstr: **an owner is a list of bytes and a capacity, and every byte that is copied is counted.**
 //!
 //! - [`Meter`] counts copied bytes. [`fill_counted`] copies them, all but those of a cloned [`Inline`], which is copied whole. By it
-//!   [`extend_counted`] appends to a vector, [`copy_counted`] and [`copy_with_capacity`] make one, and a [`Filling`] gathers many
-//!   parts.
+//!   [`extend_counted`] appends to a vector, [`copy_counted`] and [`copy_with_capacity`] make one, a [`Filling`] gathers many
+//!   parts in a vector, and an [`OwnerFilling`] in an owner.
 //! - [`Backend`] is what an owner promises, to this crate and to any other implementor: [`Rc`], which many handles share, and
 //!   [`Unique`], which has one, over a buffer of its own in raw memory. A sole owner lends a [`Room`], an append answers [`Appended`], and
-//!   a vector that was taken out leaves a [`Block`]. Where a handle begins in its owner's list is a [`Start`], which takes no bytes where
-//!   it is always the [`Front`].
+//!   a vector that was taken out leaves a [`Block`]. The bytes of its owner's list that a handle shows are an [`Extent`]: a [`Span`], or
+//!   always the [`Whole`], which takes no bytes.
 //! - [`Inline`], [`Borrowed`] and [`Allocated`] are the three representations of a byte string: in the handle itself, with a
 //!   [`Length`] that may be one byte, lent by another value, or a range of an owner's list. A [`Sole`] holds one that no other shares.
 //! - [`equal`] and [`order`] are `==` and `cmp` of bytes, [`common_prefix`] counts what two slices begin with alike, and
@@ -36,15 +36,16 @@ mod buffer;
 mod byte_sink;
 mod byte_source;
 mod compare;
+mod extent;
 mod filling;
 mod fuse;
 mod inline;
 mod io_fault;
 mod meter;
+mod owner_filling;
 mod rc;
 mod room;
 mod sole;
-mod start;
 mod unique;
 
 pub use allocated::Allocated;
@@ -56,6 +57,7 @@ pub use borrowed::Borrowed;
 pub use byte_sink::{ByteSink, ToWrite, VecSink};
 pub use byte_source::{ByteSource, FromRead, SliceSource};
 pub use compare::{common_prefix, equal, order};
+pub use extent::{Extent, Span, Whole};
 pub use filling::Filling;
 pub use fuse::Fuse;
 pub use inline::Inline;
@@ -64,8 +66,8 @@ pub use io_fault::IoFault;
 pub use meter::{
     Meter, copy_counted, copy_with_capacity, extend_counted, extend_within, fill_counted,
 };
+pub use owner_filling::OwnerFilling;
 pub use rc::Rc;
 pub use room::Room;
 pub use sole::Sole;
-pub use start::{Front, Start};
 pub use unique::Unique;

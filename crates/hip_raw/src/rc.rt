@@ -4,6 +4,7 @@ ghost use Rattle.std.specs.Prelude.{true, vec_capacity, refl};
 use crate::appended::{Appended, append_to};
 use crate::backend::Backend;
 use crate::block::{Block, Left};
+use crate::extent::Span;
 use crate::meter::Meter;
 use std::alloc::{AllocError, Global};
 use std::marker::Model;
@@ -38,7 +39,7 @@ impl Backend for Rc {
 
     type Sole = Vec<u8>;
 
-    type Start = usize;
+    type Extent = Span;
 
     ghost with_sole = { λ owner sole. record { items = sole.items; capacity = vec_capacity sole } };
 
@@ -136,7 +137,7 @@ impl Backend for Rc {
 
     ghost sole_items = { λ owner sole. refl };
 
-    ghost starts = { λ start front. tt };
+    ghost extents = { λ start len total whole. tt };
 
     ghost sole_capacity = { λ owner sole. refl };
 }

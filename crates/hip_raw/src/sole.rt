@@ -18,7 +18,7 @@ impl<B: Backend> Allocated<B> {
     /// These bytes, held for writing, where no other handle shares the owner. Where one does, nothing changes.
     #[inline]
     pub fn sole(&mut self) -> Option<Sole<'_, Allocated<B>>>
-        ensures* none { sem 𝓛 (RestsIfNone (the_row B.row B.Sole.row B.Start.row B.Backend B.Sole.Room B.Start.Start)
+        ensures* none { sem 𝓛 (RestsIfNone (the_row B.row B.Sole.row B.Extent.row B.Backend B.Sole.Room B.Extent.Extent)
             self.entry reference_of result (λ now. now ≡ self.old)) }
         ensures same_reference { IfSome result (λ held. reference_of held ≡ self.entry.ghost_name) }
         ensures source { IfSome result (λ held. (source_of held).items ≡ self.old.items) }

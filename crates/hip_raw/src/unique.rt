@@ -5,8 +5,8 @@ use crate::appended::Appended;
 use crate::backend::Backend;
 use crate::block::{Block, Left};
 use crate::buffer::Buffer;
+use crate::extent::Whole;
 use crate::meter::{Meter, copy_with_capacity};
-use crate::start::Front;
 use std::alloc::{AllocError, Global};
 use std::marker::Model;
 
@@ -35,7 +35,7 @@ impl Backend for Unique {
 
     type Sole = Buffer;
 
-    type Start = Front;
+    type Extent = Whole;
 
     ghost with_sole = { λ owner sole. sole };
 
@@ -113,6 +113,13 @@ impl Backend for Unique {
     }
 
     #[inline]
+    fn zeroed(alloc: Global, len: usize, _meter: &mut Meter) -> Result<Self, AllocError> {
+        Ok(Unique {
+            buffer: Buffer::zeroed(alloc, len)?,
+        })
+    }
+
+    #[inline]
     fn own_in(
         alloc: Global,
         block: Block,
@@ -149,7 +156,7 @@ impl Backend for Unique {
 
     ghost sole_items = { λ owner sole. refl };
 
-    ghost starts = { λ start front. front refl };
+    ghost extents = { λ start len total whole. whole refl };
 
     ghost sole_capacity = { λ owner sole. refl };
 }

@@ -18,10 +18,10 @@ mod slice_error;
 pub use faults::{BytesFault, Utf16Fault};
 pub use from_utf8_error::FromUtf8Error;
 pub use hip_bytes::{
-    Allocated, Appended, Backend, Block, Borrowed, BorshFault, ByteSink, ByteSource, FromRead,
-    Front, Fuse, GrowFault, HipByt, INLINE_CAPACITY, Inline, IoFault, JsonFault, Kind, Length,
-    Meter, MutateFault, Rc, Room, SliceSource, Sole, Start, ToWrite, Unique, VecSink, copy_counted,
-    fill_counted,
+    Allocated, Appended, Backend, Block, Borrowed, BorshFault, ByteSink, ByteSource, Extent,
+    FromRead, Fuse, GrowFault, HipByt, INLINE_CAPACITY, Inline, IoFault, JsonFault, Kind, Length,
+    Meter, MutateFault, Rc, Room, SliceSource, Sole, Span, ToWrite, Unique, VecSink, Whole,
+    copy_counted, fill_counted,
 };
 pub use hip_str::HipStr;
 pub use ref_mut::{RefMut, TextSource, mutate, mutate_metered, with_mutated, with_mutated_metered};

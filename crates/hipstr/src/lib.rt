@@ -33,9 +33,9 @@ mod text;
 pub use command::{Answer, Command, How, Pat, Reason, Side};
 pub use hip_match::draw::End;
 pub use hip_text::{
-    Allocated, Appended, Backend, Block, Borrowed, ByteSink, ByteSource, FromRead, Front, Fuse,
-    Inline, IoFault, Kind, Length, Meter, Rc, Room, SliceSource, Sole, Start, ToWrite, Unique,
-    VecSink, copy_counted, fill_counted,
+    Allocated, Appended, Backend, Block, Borrowed, ByteSink, ByteSource, Extent, FromRead, Fuse,
+    Inline, IoFault, Kind, Length, Meter, Rc, Room, SliceSource, Sole, Span, ToWrite, Unique,
+    VecSink, Whole, copy_counted, fill_counted,
 };
 pub use machine::run;
 pub use pool::{MAX_SLOTS, Pool, Slot};

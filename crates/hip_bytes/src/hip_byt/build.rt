@@ -1,5 +1,5 @@
 //! Values that are made of others.
-ghost use Rattle.std.specs.Prelude.{◌≡◌, ◌≢◌, ◌≤◌, ◌<◌, ◌+◌, ◌*◌, ◌^◌, [], ◌++◌, nat_le, length, take, IfOk, IfErr, OnErr};
+ghost use Rattle.std.specs.Prelude.{◌≡◌, ◌≢◌, ◌≤◌, ◌<◌, ◌+◌, ◌*◌, ◌^◌, [], ◌++◌, false, nat_le, length, take, IfOk, IfErr, OnErr};
 ghost use Rattle.std.specs.List.{join_by, repeat};
 ghost use Rattle.std.specs.Option.{SomeIff};
 ghost use Rattle.hip_raw.specs.Meter.{RisesAtLeast, RisesAtMost};
@@ -8,12 +8,12 @@ ghost use Rattle.hip_bytes.specs.Join.{gap_at, joined, join_cost, repeat_cost};
 ghost use Rattle.hip_bytes.specs.Made.{CloneAnswers, JoinAnswers, RepeatAnswers};
 ghost use Rattle.hip_bytes.specs.declared.kind.TheConstants.{INLINE_CAPACITY};
 
-use super::HipByt;
+use super::{HipByt, Repr};
 use crate::gathering::Gathering;
 use crate::grow_fault::GrowFault;
 use crate::kind::INLINE_CAPACITY;
 use crate::piece::Piece;
-use hip_raw::{Backend, Filling, Inline, Meter};
+use hip_raw::{Allocated, Backend, Filling, Inline, Meter, OwnerFilling};
 use std::alloc::{AllocError, Global};
 
 impl<'b, B: Backend> HipByt<'b, B> {
@@ -119,6 +119,11 @@ impl<'b, B: Backend> HipByt<'b, B> {
         };
         // A meter of its own, since what was lent to a call that isn't inlined lies in memory.
         let mut apart = Meter::new();
+        if !B::SHARES && len > INLINE_CAPACITY {
+            let made = joined_in_owner(alloc, pieces, sep, len, &mut apart);
+            meter.add(&apart);
+            return Ok(HipByt::of(Repr::Allocated(made?)));
+        }
         let made = joined_within(alloc, pieces, sep, len, &mut apart);
         meter.add(&apart);
         Ok(made?.finish(alloc, meter)?)
@@ -176,6 +181,31 @@ fn joined_within<P: Piece>(
         filling.push_behind_within(gap(i, sep), piece.as_piece(), meter);
     }
     Ok(Gathering::in_vector(filling))
+}
+
+/// Like `joined_within`, but in an owner that can't be shared, where the bytes stay.
+#[inline(always)]
+fn joined_in_owner<B: Backend, P: Piece>(
+    alloc: Global,
+    pieces: &[P],
+    sep: &[u8],
+    len: usize,
+    meter: &mut Meter,
+) -> Result<Allocated<B>, AllocError>
+    requires sole { B.SHARES ≡ false }
+    requires whole { len ≡ length (join_by P.bytes sep.now pieces.now) }
+    requires separator { P.keeps sep.now }
+    ensures items { IfOk result (λ made. made.items ≡ join_by P.bytes sep.now pieces.now) }
+    ensures kept { IfOk result (λ made. P.keeps made.items) }
+    ensures fits { IfOk result (λ made. length made.items ≤ made.capacity) }
+    ensures counted { RisesAtMost meter.old meter.new (2 * len) }
+    ensures copied { IfOk result (λ made. RisesAtLeast meter.old meter.new len) }
+{
+    let mut filling = OwnerFilling::with_len(alloc, len, meter)?;
+    for (i, piece) in pieces.iter().enumerate() {
+        filling.push_behind_within(gap(i, sep), piece.as_piece(), meter);
+    }
+    Ok(filling.into_allocated())
 }
 
 impl<'b, B: Backend> HipByt<'b, B> {

@@ -75,11 +75,8 @@ impl<'b, B: Backend> HipByt<'b, B> {
         if capacity <= INLINE_CAPACITY {
             return Ok(Self::new());
         }
-        let vec = Vec::with_capacity(alloc, capacity)?;
-        match Allocated::new(alloc, vec) {
-            Ok(allocated) => Ok(HipByt::of(Repr::Allocated(allocated))),
-            Err(_) => Err(AllocError),
-        }
+        let allocated = Allocated::with_capacity(alloc, capacity)?;
+        Ok(HipByt::of(Repr::Allocated(allocated)))
     }
 
     /// These bytes, none copied.

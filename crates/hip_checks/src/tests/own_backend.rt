@@ -3,7 +3,7 @@
 ghost use Rattle.std.specs.Prelude.{true, vec_capacity, refl};
 
 use super::runs::on;
-use hipstr::{Appended, Backend, Meter, fill_counted};
+use hipstr::{Appended, Backend, Meter, Span, fill_counted};
 use std::alloc::{AllocError, Global};
 use std::marker::Model;
 use std::rc;
@@ -36,7 +36,7 @@ impl Backend for Shared {
 
     type Sole = Vec<u8>;
 
-    type Start = usize;
+    type Extent = Span;
 
     ghost with_sole = { λ owner sole. record { items = sole.items; capacity = vec_capacity sole } };
 
@@ -101,7 +101,7 @@ impl Backend for Shared {
 
     ghost sole_capacity = { λ owner sole. refl };
 
-    ghost starts = { λ start front. tt };
+    ghost extents = { λ start len total whole. tt };
 }
 
 #[test]

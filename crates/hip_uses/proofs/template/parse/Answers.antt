@@ -17,7 +17,7 @@ returns-in_err-hole-clause-fault g c =
 
 pub returns-clause-parsed : goal.returns-clause-parsed
 returns-clause-parsed g c =
-    let AHole : Type 0 = Hole g.row.B.Denot g.row.B-Sole.Denot g.row.B-Start.Denot in
+    let AHole : Type 0 = Hole g.row.B.Denot g.row.B-Sole.Denot g.row.B-Extent.Denot in
     let rest = c.loop-holes.rest.now in
     let lacks : Lacks opening rest = subst (λ (found : Option (AHole × Bor (List ℕ))). FirstHole rest (Ok found)) c.in_default.is c.in_ok-hole.ensures.hole in
     let found = c.loop-holes.holes.items in
@@ -28,12 +28,12 @@ returns-clause-parsed g c =
 
 pub loop-holes-smaller : goal.loop-holes-smaller
 loop-holes-smaller g c =
-    let AHole : Type 0 = Hole g.row.B.Denot g.row.B-Sole.Denot g.row.B-Start.Denot in
+    let AHole : Type 0 = Hole g.row.B.Denot g.row.B-Sole.Denot g.row.B-Extent.Denot in
     hole-shorter c.loop-holes.rest.now c.in-Some.hole c.in-Some.after (subst (λ (found : Option (AHole × Bor (List ℕ))). FirstHole c.loop-holes.rest.now (Ok found)) c.in-Some.is c.in_ok-hole.ensures.hole)
 
 pub loop-holes-preserved : goal.loop-holes-preserved
 loop-holes-preserved g c =
-    let AHole : Type 0 = Hole g.row.B.Denot g.row.B-Sole.Denot g.row.B-Start.Denot in
+    let AHole : Type 0 = Hole g.row.B.Denot g.row.B-Sole.Denot g.row.B-Extent.Denot in
     let rest = c.loop-holes.rest.now in
     let cut = subst (λ (found : Option (AHole × Bor (List ℕ))). FirstHole rest (Ok found)) c.in-Some.is c.in_ok-hole.ensures.hole in
     record {

@@ -9,7 +9,7 @@ abbrev pub invariant-loop-holes : goal.invariant-loop-holes
 invariant-loop-holes g l = record {
   text : shadow (Utf8 l.rest);
   written : written l.holes.items ++ l.rest ≡ l.template.items;
-  parsed : (more : List (Hole g.row.B.Denot g.row.B-Sole.Denot g.row.B-Start.Denot)) (rest : List ℕ) → IsParsed l.rest more rest → IsParsed l.template.items (l.holes.items ++ more) rest;
+  parsed : (more : List (Hole g.row.B.Denot g.row.B-Sole.Denot g.row.B-Extent.Denot)) (rest : List ℕ) → IsParsed l.rest more rest → IsParsed l.template.items (l.holes.items ++ more) rest;
 }
 
 abbrev pub decreases-loop-holes : goal.decreases-loop-holes

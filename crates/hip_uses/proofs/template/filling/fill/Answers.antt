@@ -11,7 +11,7 @@ pieces_of-requires g c =
 
 pub returns-clause-filled : goal.returns-clause-filled
 returns-clause-filled g c =
-    let AHole : Type 0 = Hole g.row.B.Denot g.row.B-Sole.Denot g.row.B-Start.Denot in
+    let AHole : Type 0 = Hole g.row.B.Denot g.row.B-Sole.Denot g.row.B-Extent.Denot in
     let template = c.args.template.now in
     let found = c.in_ok-found.found.items in
     let pieces = c.in_ok-pieces.pieces.items in

@@ -13,7 +13,7 @@ loop-place-preserved g c = record {
 
 pub returns-in_default-clause-fault : goal.returns-in_default-clause-fault
 returns-in_default-clause-fault g c =
-    let AHole : Type 0 = Hole g.row.B.Denot g.row.B-Sole.Denot g.row.B-Start.Denot in
+    let AHole : Type 0 = Hole g.row.B.Denot g.row.B-Sole.Denot g.row.B-Extent.Denot in
     let hole = c.hole-item.result in
     subst (λ (holes : List AHole). FillFails c.args.values.now holes c.unknown.result) c.deref-hole-items.ensures.value
     (fails-first c.args.values.now c.deref-hole-items.result.now c.loop-place.place hole c.unknown.result (omega arith) c.hole-item.is c.loop-place.invariant.known
@@ -21,7 +21,7 @@ returns-in_default-clause-fault g c =
 
 pub returns-clause-known : goal.returns-clause-known
 returns-clause-known g c =
-    let AHole : Type 0 = Hole g.row.B.Denot g.row.B-Sole.Denot g.row.B-Start.Denot in
+    let AHole : Type 0 = Hole g.row.B.Denot g.row.B-Sole.Denot g.row.B-Extent.Denot in
     let items = c.deref-hole-items.result.now in
     let whole : take c.loop-place.place items ≡ items = take_all c.loop-place.place items (omega arith) in
     subst (λ (holes : List AHole). AllKnown c.args.values.now holes) (whole ∙ c.deref-hole-items.ensures.value) c.loop-place.invariant.known

@@ -10,7 +10,7 @@ use Rattle.hipstr.proofs.machine.parts.make_drawn.Goals as goal
 
 pub loop-i-init : goal.loop-i-init
 loop-i-init g c =
-    let state = state_of {B = g.row.B.Denot} {S = g.row.B-Sole.Denot} {P = g.row.B-Start.Denot} in
+    let state = state_of {B = g.row.B.Denot} {S = g.row.B-Sole.Denot} {P = g.row.B-Extent.Denot} in
     let spare = map state c.args.spare.now in
     record {
       so_far = so-far-none g.B.Backend.SHARES c.args.walk.source (draw c.args.walk.rest c.args.script.now) spare c.args.meter.now c.requires.room.empty;
@@ -19,7 +19,7 @@ loop-i-init g c =
 
 pub loop-i-preserved : goal.loop-i-preserved
 loop-i-preserved g c =
-    let state = state_of {B = g.row.B.Denot} {S = g.row.B-Sole.Denot} {P = g.row.B-Start.Denot} in
+    let state = state_of {B = g.row.B.Denot} {S = g.row.B-Sole.Denot} {P = g.row.B-Extent.Denot} in
     let room : length c.args.script.now ≤ length (map state c.loop-i.spare) = omega (arith, c.requires.room.within, c.loop-i.auto.spare, length-map c.args.spare.now state, length-map c.loop-i.spare state) in
     record {
       so_far = goes-on c.in-Some-Ok.field-0 g.B.Backend.SHARES c.args.walk.source c.loop-i.walk.source (draw c.args.walk.rest c.args.script.now) c.loop-i.walk.rest c.draw_at.new.walk.rest
@@ -30,7 +30,7 @@ loop-i-preserved g c =
 
 pub returns-in-Some-Err : goal.returns-in-Some-Err
 returns-in-Some-Err g c =
-    let state = state_of {B = g.row.B.Denot} {S = g.row.B-Sole.Denot} {P = g.row.B-Start.Denot} in
+    let state = state_of {B = g.row.B.Denot} {S = g.row.B-Sole.Denot} {P = g.row.B-Extent.Denot} in
     let refused = is-refused c.in-Some-Err.field-0 _ g.B.Backend.SHARES c.args.walk.source c.loop-i.walk.source (draw c.args.walk.rest c.args.script.now) c.loop-i.walk.rest c.draw_at.new.walk.rest
     c.args.script.now c.loop-i.i _ (map state c.loop-i.spare) c.args.meter.now c.loop-i.meter c.draw_at.new.meter
     c.loop-i.invariant.so_far c.loop-i.invariant.source c.loop-i-test.true c.in-Some-Err.ensures.drawn c.in-Some-Err.field-0-is in
@@ -39,7 +39,7 @@ returns-in-Some-Err g c =
 pub returns-in-None : goal.returns-in-None
 returns-in-None g c =
     let all = has-ended g.B.Backend.SHARES c.args.walk.source (draw c.args.walk.rest c.args.script.now) c.loop-i.walk.rest c.args.script.now c.loop-i.i
-    (map (state_of {B = g.row.B.Denot} {S = g.row.B-Sole.Denot} {P = g.row.B-Start.Denot}) c.loop-i.spare) c.args.meter.now c.loop-i.meter c.draw_at.new.meter c.loop-i.invariant.so_far c.in-None.ensures.drawn.0 c.in-None.ensures.drawn.1 in
+    (map (state_of {B = g.row.B.Denot} {S = g.row.B-Sole.Denot} {P = g.row.B-Extent.Denot}) c.loop-i.spare) c.args.meter.now c.loop-i.meter c.draw_at.new.meter c.loop-i.invariant.so_far c.in-None.ensures.drawn.0 c.in-None.ensures.drawn.1 in
     record { made = all.made; counted = all.rises }
 
 pub draw_at-requires : goal.draw_at-requires

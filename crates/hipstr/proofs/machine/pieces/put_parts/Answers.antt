@@ -7,11 +7,11 @@ use Rattle.hipstr.proofs.machine.pieces.put_parts.Goals as goal
 
 pub returns-clause-put : goal.returns-clause-put
 returns-clause-put g c =
-    rw c.swap_with_slice.ensures.after (parts-swapped (state_of {B = g.row.B.Denot} {S = g.row.B-Sole.Denot} {P = g.row.B-Start.Denot}) c.args.slots.now c.args.spare.now c.args.first _ c.args.count (omega arith) c.requires.made c.requires.room)
+    rw c.swap_with_slice.ensures.after (parts-swapped (state_of {B = g.row.B.Denot} {S = g.row.B-Sole.Denot} {P = g.row.B-Extent.Denot}) c.args.slots.now c.args.spare.now c.args.first _ c.args.count (omega arith) c.requires.made c.requires.room)
 
 pub returns-clause-emptied : goal.returns-clause-emptied
 returns-clause-emptied g c =
-    let state = state_of {B = g.row.B.Denot} {S = g.row.B-Sole.Denot} {P = g.row.B-Start.Denot} in
+    let state = state_of {B = g.row.B.Denot} {S = g.row.B-Sole.Denot} {P = g.row.B-Extent.Denot} in
     let long : length c.swap_with_slice.new.other ≡ c.args.count = c.swap_with_slice.ensures.other_len ∙ length-take-le c.args.count c.args.spare.now c.requires.made in
     let within : c.args.count ≤ length (c.swap_with_slice.new.other ++ drop c.args.count c.args.spare.now) = omega (arith, long, length-append c.swap_with_slice.new.other (drop c.args.count c.args.spare.now)) in
     let empty : map state c.empty_all.new.slots ≡ replicate c.args.count empty_slot = c.empty_all.ensures ∙ ap (λ n. replicate n empty_slot) (length-take-le c.args.count _ within) in

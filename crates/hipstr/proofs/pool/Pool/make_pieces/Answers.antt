@@ -19,7 +19,7 @@ use Rattle.hipstr.proofs.pool.Pool.make_pieces.Goals as goal
 
 pub make_parts-requires-clause-room : goal.make_parts-requires-clause-room
 make_parts-requires-clause-room g c =
-    let state = state_of {B = g.row.B.Denot} {S = g.row.B-Sole.Denot} {P = g.row.B-Start.Denot} in
+    let state = state_of {B = g.row.B.Denot} {S = g.row.B-Sole.Denot} {P = g.row.B-Extent.Denot} in
     let empty : map state c.deref_mut-spare.result.now ≡ replicate (length c.self.inside.slots.items) empty_slot = ap (map state) c.deref_mut-spare.ensures.value ∙ c.self.invariant in
     let same : length c.self.inside.slots.items ≡ length c.args.self.now = sym (length-map c.self.inside.slots.items state) ∙ ap length c.self.view_is in
     let targets = c.in_ok-find_all.ensures.within in
@@ -29,19 +29,19 @@ make_parts-requires-clause-room g c =
 
 pub put_parts-requires-clause-made : goal.put_parts-requires-clause-made
 put_parts-requires-clause-made g c =
-    let state = state_of {B = g.row.B.Denot} {S = g.row.B-Sole.Denot} {P = g.row.B-Start.Denot} in
+    let state = state_of {B = g.row.B.Denot} {S = g.row.B-Sole.Denot} {P = g.row.B-Extent.Denot} in
     omega (arith, c.in_ok-count.ensures.made.0, hold-within c.in_ok-text.text.now (draw (pieces_of c.args.how c.in_ok-text.text.now.items) c.args.script.now) (map state c.make_parts.new.spare) c.in_ok-count.ensures.made.1, length-map c.make_parts.new.spare state)
 
 pub put_parts-requires-clause-room : goal.put_parts-requires-clause-room
 put_parts-requires-clause-room g c =
-    let state = state_of {B = g.row.B.Denot} {S = g.row.B-Sole.Denot} {P = g.row.B-Start.Denot} in
+    let state = state_of {B = g.row.B.Denot} {S = g.row.B-Sole.Denot} {P = g.row.B-Extent.Denot} in
     let same : length c.self.inside.slots.items ≡ length c.args.self.now = sym (length-map c.self.inside.slots.items state) ∙ ap length c.self.view_is in
     let targets = c.in_ok-find_all.ensures.within in
     omega (arith, c.in_ok-count.ensures.made.0, draw-within (pieces_of c.args.how c.in_ok-text.text.now.items) c.args.script.now, same, targets, ap length c.deref_mut.ensures.value)
 
 pub returns-in_err-count-clause-step : goal.returns-in_err-count-clause-step
 returns-in_err-count-clause-step g c =
-    let state = state_of {B = g.row.B.Denot} {S = g.row.B-Sole.Denot} {P = g.row.B-Start.Denot} in
+    let state = state_of {B = g.row.B.Denot} {S = g.row.B-Sole.Denot} {P = g.row.B-Extent.Denot} in
     let slots = c.args.self.now in
     let was : state c.index.result.now ≡ state_at slots c.args.s = grind (arith, in_place, c.index.ensures, c.self.view_is) in
     let unrefused = none-of-five _ _ _ _ _ c.in_ok-find.ensures.found c.in_ok-find_all.ensures.found (ap (λ b. if b then Some Overlap else None) (sym c.if-is_among.ensures))
@@ -55,7 +55,7 @@ returns-in_err-count-clause-step g c =
 
 pub invariant_of-self-2 : goal.invariant_of-self-2
 invariant_of-self-2 g c =
-    let state = state_of {B = g.row.B.Denot} {S = g.row.B-Sole.Denot} {P = g.row.B-Start.Denot} in
+    let state = state_of {B = g.row.B.Denot} {S = g.row.B-Sole.Denot} {P = g.row.B-Extent.Denot} in
     let ranges = draw (pieces_of c.args.how c.in_ok-text.text.now.items) c.args.script.now in
     let empty : map state c.deref_mut-spare.result.now ≡ replicate (length c.self.inside.slots.items) empty_slot = ap (map state) c.deref_mut-spare.ensures.value ∙ c.self.invariant in
     let emptied : map state c.put_parts.new.spare ≡ replicate (length (map state c.make_parts.new.spare)) empty_slot =
@@ -69,7 +69,7 @@ invariant_of-self-2 g c =
 
 pub returns-clause-step : goal.returns-clause-step
 returns-clause-step g c =
-    let state = state_of {B = g.row.B.Denot} {S = g.row.B-Sole.Denot} {P = g.row.B-Start.Denot} in
+    let state = state_of {B = g.row.B.Denot} {S = g.row.B-Sole.Denot} {P = g.row.B-Extent.Denot} in
     let slots = c.args.self.now in
     let was : state c.index.result.now ≡ state_at slots c.args.s = grind (arith, in_place, c.index.ensures, c.self.view_is) in
     let unrefused = none-of-five _ _ _ _ _ c.in_ok-find.ensures.found c.in_ok-find_all.ensures.found (ap (λ b. if b then Some Overlap else None) (sym c.if-is_among.ensures))
