@@ -14,7 +14,7 @@ use Rattle.hipstr.specs.Join.{joined}
 use Rattle.hipstr.specs.Handle.{Handle}
 use Rattle.hip_uses.proofs.Pushed.{All-more}
 use Rattle.hip_uses.specs.Number.{bytes_of, same_text}
-use Rattle.hip_uses.specs.Template.{AllKnown, all_shown, FillFails, FirstHole, HoleFails, IsParsed, IsUnknown, ParseFails, closing, filled, hole_written, opening, value_in, value_of, values_in, value_with, woven, written}
+use Rattle.hip_uses.specs.Template.{AllKnown, all_shown, FillFails, CutsHole, HoleFails, IsParsed, IsUnknown, ParseFails, closing, filled, hole_written, opening, value_in, value_of, values_in, value_with, woven, written}
 use Rattle.hip_uses.specs.declared.template.Hole.{Hole}
 use Rattle.hip_uses.specs.declared.fault.TemplateFault.{TemplateFault}
 use Rattle.hip_uses.specs.declared.fault.TemplateFault.TheVariants.{Unclosed, Unknown, Memory}
@@ -151,39 +151,39 @@ set-more (Ok done) before after old name value is updated =
 set-more (Err error) before after old name value is refused = tt
 
 -- what follows the first hole is shorter
-pub hole-shorter : {B S P : Type 0} (text : List ℕ) (hole : Hole B S P) (after : Bor (List ℕ)) → FirstHole text (Ok (Some (hole, after))) → length after.now < length text
+pub hole-shorter : {B S P : Type 0} (text : List ℕ) (hole : Hole B S P) (after : List ℕ) → CutsHole text hole after → length after < length text
 hole-shorter text hole after cut =
     let behind = cut.0 in
     let opens : length text ≡ length hole.before.items + length (opening ++ behind) =
     ap length cut.1.joined ∙ length-append hole.before.items (opening ++ behind) in
-    let closes : length behind ≡ length hole.name.items + length (closing ++ after.now) =
-    ap length cut.2.joined ∙ length-append hole.name.items (closing ++ after.now) in
+    let closes : length behind ≡ length hole.name.items + length (closing ++ after) =
+    ap length cut.2.joined ∙ length-append hole.name.items (closing ++ after) in
     omega (arith, opens, closes)
 
 -- a hole as it is written, and what follows it
-hole-and-after : {B S P : Type 0} (text : List ℕ) (hole : Hole B S P) (after : Bor (List ℕ)) → FirstHole text (Ok (Some (hole, after))) → hole_written hole ++ after.now ≡ text
+hole-and-after : {B S P : Type 0} (text : List ℕ) (hole : Hole B S P) (after : List ℕ) → CutsHole text hole after → hole_written hole ++ after ≡ text
 hole-and-after text hole after cut =
     let before = hole.before.items in
     let name = hole.name.items in
-    append_assoc before (opening ++ (name ++ closing)) after.now
-    ∙ ap (λ l. before ++ l) (append_assoc opening (name ++ closing) after.now ∙ ap (λ l. opening ++ l) (append_assoc name closing after.now ∙ sym cut.2.joined))
+    append_assoc before (opening ++ (name ++ closing)) after
+    ∙ ap (λ l. before ++ l) (append_assoc opening (name ++ closing) after ∙ ap (λ l. opening ++ l) (append_assoc name closing after ∙ sym cut.2.joined))
     ∙ sym cut.1.joined
 
 -- one hole more that is written
-pub written-more : {B S P : Type 0} (template rest : List ℕ) (holes more : List (Hole B S P)) (hole : Hole B S P) (after : Bor (List ℕ)) → written holes ++ rest ≡ template
-    → FirstHole rest (Ok (Some (hole, after))) → more ≡ holes ++ hole ∷ [] → written more ++ after.now ≡ template
+pub written-more : {B S P : Type 0} (template rest : List ℕ) (holes more : List (Hole B S P)) (hole : Hole B S P) (after : List ℕ) → written holes ++ rest ≡ template
+    → CutsHole rest hole after → more ≡ holes ++ hole ∷ [] → written more ++ after ≡ template
 written-more template rest holes more hole after so_far cut pushed =
-    ap (λ l. l ++ after.now) (ap written pushed ∙ sym (flat_map_more hole_written [] holes hole)) ∙ append_assoc (written holes) (hole_written hole) after.now
+    ap (λ l. l ++ after) (ap written pushed ∙ sym (flat_map_more hole_written [] holes hole)) ∙ append_assoc (written holes) (hole_written hole) after
     ∙ ap (λ l. written holes ++ l) (hole-and-after rest hole after cut) ∙ so_far
 
 -- what the rest is parsed to, behind one hole more
-pub parsed-more : {B S P : Type 0} (template rest : List ℕ) (holes more : List (Hole B S P)) (hole : Hole B S P) (after : Bor (List ℕ))
+pub parsed-more : {B S P : Type 0} (template rest : List ℕ) (holes more : List (Hole B S P)) (hole : Hole B S P) (after : List ℕ)
     → ((later : List (Hole B S P)) (last : List ℕ) → IsParsed rest later last → IsParsed template (holes ++ later) last)
-    → FirstHole rest (Ok (Some (hole, after))) → more ≡ holes ++ hole ∷ []
-    → (later : List (Hole B S P)) (last : List ℕ) → IsParsed after.now later last → IsParsed template (more ++ later) last
+    → CutsHole rest hole after → more ≡ holes ++ hole ∷ []
+    → (later : List (Hole B S P)) (last : List ℕ) → IsParsed after later last → IsParsed template (more ++ later) last
 parsed-more {B} {S} {P} template rest holes more hole after so_far cut pushed later last parsed =
     subst (λ (l : List (Hole B S P)). IsParsed template l last) (sym (ap (λ l. l ++ later) pushed ∙ append_assoc holes (hole ∷ []) later))
-    (so_far (hole ∷ later) last (cut.0, after.now, cut.1, cut.2, parsed))
+    (so_far (hole ∷ later) last (cut.0, after, cut.1, cut.2, parsed))
 
 -- what can't be cut of the end of a template can't be cut of it
 pub fails-more : {B S P : Type 0} (front rest template : List ℕ) (fault : TemplateFault B S P) → front ++ rest ≡ template → ParseFails rest fault → ParseFails template fault

@@ -1,11 +1,10 @@
 -- What a template is, as it is written and as it is filled.
-use Rattle.std.specs.Prelude.{◌≡◌, ℕ, ◌+◌, nat_eq, List, [], ◌∷◌, ◌++◌, length, Option, None, Some, Result, Ok, Err, IsSome, All, codes, map, if◌then◌else◌}
+use Rattle.std.specs.Prelude.{◌≡◌, ℕ, ◌+◌, ◌<◌, ◌≤◌, nat_eq, List, [], ◌∷◌, ◌++◌, length, slice_index, Option, None, Some, Result, Ok, Err, IsSome, MatchOption, All, codes, map, if◌then◌else◌}
 use Rattle.std.specs.List.{flat_map}
 use Rattle.std.specs.Map.{lookup}
 use Rattle.std.specs.Borrow.{Bor}
 use Rattle.std.specs.Option.{option_map_or}
 use Rattle.std.specs.Cmp.Lexicographic.{pointwise}
-use Rattle.std.specs.Str.{IsUtf8}
 use Rattle.hipstr.specs.Handle.{Handle}
 use Rattle.hipstr.specs.Parted.{IsParted, Lacks}
 use Rattle.hip_uses.specs.Number.{bytes_of}
@@ -76,24 +75,40 @@ ParseFails template (Unclosed text) =
 ParseFails template (Unknown name) = ⊥
 ParseFails template Memory = Unit {0}
 
--- the text ends with these bytes
-abbrev pub IsEnd : List ℕ → List ℕ → Type 0
-IsEnd text rest = (front : List ℕ) × (text ≡ front ++ rest)
+-- two of this brace stand at a place of a text
+pub record IsPair (text : List ℕ) (brace k : ℕ) : Type 0 where
+  pub within : k + 1 < length text
+  pub first : slice_index text k ≡ brace
+  pub second : slice_index text (k + 1) ≡ brace
 
--- the part stands in the text right before a place, from which on the text is UTF-8
-pub record LiesBefore (text part : List ℕ) (end : ℕ) : Type 0 where
-  pub front : List ℕ
-  pub back : List ℕ
-  pub joined : text ≡ front ++ (part ++ back)
-  pub end_is : end ≡ length front + length part
-  pub utf8 : IsUtf8 back
+-- the first place at or after `from` where two of this brace stand
+pub record IsFirstPair (text : List ℕ) (brace from at : ℕ) : Type 0 where
+  pub after : from ≤ at
+  pub is : IsPair text brace at
+  pub first : (k : ℕ) → from ≤ k → k < at → ¬ IsPair text brace k
 
--- the first hole of a text and what follows it, nothing where it has none, or why that can't be told
-abbrev pub FirstHole : {B S P : Type 0} → List ℕ → Result (Option (Hole B S P × Bor (List ℕ))) (TemplateFault B S P) → Type 0
-FirstHole text (Ok None) = Lacks opening text
-FirstHole text (Ok (Some (hole, after))) =
-    (behind : List ℕ) × IsParted opening text hole.before.items behind × IsParted closing behind hole.name.items after.now
-FirstHole text (Err fault) = ParseFails text fault
+-- that place, if there is one
+abbrev pub IsNextPair : List ℕ → ℕ → ℕ → Option ℕ → Type 0
+IsNextPair text brace from result = MatchOption result ((k : ℕ) → from ≤ k → ¬ IsPair text brace k) (IsFirstPair text brace from)
+
+-- each occurrence is one byte
+abbrev pub IsOneByte : (ℕ → Option ℕ) → Type 0
+IsOneByte ends = (a b : ℕ) → ends a ≡ Some b → b ≡ a + 1
+
+-- each of these bytes of a text is an occurrence
+abbrev pub FindsByte : (ℕ → Option ℕ) → List ℕ → ℕ → Type 0
+FindsByte ends text byte = (k : ℕ) → k < length text → slice_index text k ≡ byte → ends k ≡ Some (k + 1)
+
+-- each brace of a text is an occurrence, and each occurrence is one byte
+pub record FindsBraces (ends : ℕ → Option ℕ) (text : List ℕ) : Type 0 where
+  pub one_byte : IsOneByte ends
+  pub opens : FindsByte ends text 123
+  pub closes : FindsByte ends text 125
+
+-- a hole at the front of a text, with what lies before it and behind it
+abbrev pub CutsHole : {B S P : Type 0} → List ℕ → Hole B S P → List ℕ → Type 0
+CutsHole text hole after =
+    (behind : List ℕ) × IsParted opening text hole.before.items behind × IsParted closing behind hole.name.items after
 
 -- the name is told, or want of memory
 abbrev pub IsUnknown : {B S P : Type 0} → List ℕ → TemplateFault B S P → Type 0

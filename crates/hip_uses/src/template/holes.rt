@@ -1,0 +1,96 @@
+//! The holes of a template, found by its braces.
+ghost use Rattle.std.specs.Prelude.{◌≡◌, ◌+◌, ◌<◌, ◌≤◌, ◌++◌, IfErr, IfOk, IfSome, drop, length, slice_range};
+ghost use Rattle.std.specs.Str.{IsCharBoundary};
+ghost use Rattle.hip_uses.specs.Template.{FindsBraces, FindsByte, IsNextPair, IsOneByte, IsParsed, ParseFails, written};
+
+use crate::fault::TemplateFault;
+use crate::template::Hole;
+use hipstr::pattern::Pattern;
+use hipstr::string::HipStr;
+use hipstr::{Backend, Meter};
+use std::alloc::{AllocError, Global};
+
+/// The first place at or after `from` where two of this brace stand, if there is one. The searcher, which finds each brace, goes on at
+/// `searched`.
+#[inline(always)]
+fn next_pair<P: Pattern>(
+    braces: &P,
+    searcher: &mut P::Searcher,
+    text: &str,
+    searched: usize,
+    from: usize,
+    brace: u8,
+) -> Option<usize>
+    requires can { P.can_search braces.now }
+    requires one_byte { IsOneByte (P.ends braces.now text.now) }
+    requires finds { FindsByte (P.ends braces.now text.now) text.now brace }
+    requires ready { P.is_ready braces.now searcher.old text.now searched }
+    requires boundary { IsCharBoundary text.now searched }
+    requires behind { searched ≤ from }
+    ensures found { IsNextPair text.now brace from result }
+    ensures ready { IfSome result (λ at. P.is_ready braces.now searcher.new text.now (at + 1)) }
+{
+    let bytes = text.as_bytes();
+    let mut next = searched;
+    loop {
+        let (start, end) = braces.next_match_by(searcher, text, next)?;
+        if from <= start && bytes[start] == brace && end < bytes.len() && bytes[end] == brace {
+            return Some(start);
+        }
+        next = end;
+    }
+}
+
+/// The part of a template between two boundaries.
+#[inline]
+pub(crate) fn part<'b, B: Backend>(
+    alloc: Global,
+    template: &HipStr<'b, B>,
+    start: usize,
+    end: usize,
+) -> Result<HipStr<'b, B>, AllocError>
+    requires ordered { start ≤ end }
+    requires in_bounds { end ≤ length template.now.items }
+    requires start_at_boundary { IsCharBoundary template.now.items start }
+    requires end_at_boundary { IsCharBoundary template.now.items end }
+    ensures { IfOk result (λ made. made.items ≡ slice_range template.now.items start end) }
+{
+    template.part_metered(alloc, start, end, &mut Meter::new())
+}
+
+/// The holes of a template, the leftmost first, and where the last one ends. The pattern finds each brace, so that a template is looked
+/// through once.
+pub(crate) fn holes_of<'b, B: Backend, P: Pattern>(
+    alloc: Global,
+    template: &HipStr<'b, B>,
+    braces: &P,
+) -> Result<(Vec<Hole<'b, B>>, usize), TemplateFault<'b, B>>
+    requires can { P.can_search braces.now }
+    requires braces { FindsBraces (P.ends braces.now template.now.items) template.now.items }
+    ensures boundary { IfOk result (λ found. IsCharBoundary template.now.items found.1) }
+    ensures parsed { IfOk result (λ found.
+        IsParsed template.now.items found.0.items (drop found.1 template.now.items)) }
+    ensures written { IfOk result (λ found.
+        written found.0.items ++ drop found.1 template.now.items ≡ template.now.items) }
+    ensures fault { IfErr result (ParseFails template.now.items) }
+{
+    let text = template.as_str();
+    let mut searcher = braces.searcher(text, 0, text.len());
+    let mut holes = Vec::new(alloc);
+    let mut searched = 0;
+    let mut from = 0;
+    while let Some(open) = next_pair(braces, &mut searcher, text, searched, from, b'{') {
+        let name = open + 2;
+        let Some(close) = next_pair(braces, &mut searcher, text, open + 1, name, b'}') else {
+            let behind = part(alloc, template, name, text.len())?;
+            return Err(TemplateFault::Unclosed(behind));
+        };
+        holes.push(Hole {
+            before: part(alloc, template, from, open)?,
+            name: part(alloc, template, name, close)?,
+        })?;
+        searched = close + 1;
+        from = close + 2;
+    }
+    Ok((holes, from))
+}
