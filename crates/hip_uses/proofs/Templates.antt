@@ -1,5 +1,5 @@
 -- One hole more of a template.
-use Rattle.std.proofs.Common.{◌≡◌, ◌∙◌, ℕ, zero, suc, ◌+◌, ◌<◌, List, [], ◌∷◌, ◌++◌, Option, None, Some, Result, Ok, Err, length, take, get_or, ap, sym, subst, refl, append_assoc, length-append, take-append-drop, drop, arith}
+use Rattle.std.proofs.Common.{◌≡◌, ◌∙◌, ℕ, zero, suc, ◌+◌, ◌*◌, ◌<◌, List, [], ◌∷◌, ◌++◌, Option, None, Some, Result, Ok, Err, length, take, get_or, ap, sym, subst, refl, append_assoc, length-append, take-append-drop, drop, arith}
 use Rattle.std.specs.Borrow.{Bor}
 use Rattle.std.specs.HashMap.{HashMap, Updates}
 use Rattle.std.proofs.lemmas.Bool.{false≢true}
@@ -14,39 +14,57 @@ use Rattle.hipstr.specs.Join.{joined}
 use Rattle.hipstr.specs.Handle.{Handle}
 use Rattle.hip_uses.proofs.Pushed.{All-more}
 use Rattle.hip_uses.specs.Number.{bytes_of, same_text}
-use Rattle.hip_uses.specs.Template.{AllKnown, all_shown, FillFails, CutsHole, HoleFails, IsParsed, IsUnknown, ParseFails, closing, filled, hole_written, opening, value_in, value_of, values_in, value_with, woven, written}
+use Rattle.hip_uses.specs.Template.{AllKnown, all_shown, FillFails, CutsHole, HoleFails, IsParsed, IsUnknown, ParseFails, closing, filled, hole_written, opening, hole_pieces, value_in, value_of, value_with, woven, written}
 use Rattle.hip_uses.specs.declared.template.Hole.{Hole}
 use Rattle.hip_uses.specs.declared.fault.TemplateFault.{TemplateFault}
 use Rattle.hip_uses.specs.declared.fault.TemplateFault.TheVariants.{Unclosed, Unknown, Memory}
 
--- the value of one hole more
-pub values-more : {B S P : Type 0} (values : List (Handle × Handle)) (holes : List (Hole B S P)) (i : ℕ) (hole : Hole B S P) (value : Bor (List ℕ)) (found more : List (Bor (List ℕ)))
-    → i < length holes → hole ≡ get_or holes i hole → all_shown found ≡ values_in values (take i holes) → Some value.now ≡ option_map bytes_of (value_of values hole.name.items)
-    → more ≡ found ++ value ∷ [] → all_shown more ≡ values_in values (take (i + 1) holes)
-values-more values holes i hole value found more lt here so_far is pushed =
-    ap all_shown pushed ∙ map-append (λ (text : Bor (List ℕ)). text.now) found (value ∷ []) ∙ ap (λ l. l ++ value.now ∷ []) so_far
-    ∙ ap (λ v. values_in values (take i holes) ++ v ∷ []) (value-is value.now (value_of values hole.name.items) is ∙ ap (value_in values) here)
-    ∙ sym (map-append (value_in values) (take i holes) (get_or holes i hole ∷ [])) ∙ ap (values_in values) (sym (take_more holes i hole lt))
-  where
-    value-is : (value : List ℕ) (o : Option Handle) → Some value ≡ option_map bytes_of o → value ≡ option_map_or bytes_of o []
-    value-is value None is = absurd cc
-    value-is value (Some handle) is = cc
+-- a value that was found
+value-is : (value : List ℕ) (o : Option Handle) → Some value ≡ option_map bytes_of o → value ≡ option_map_or bytes_of o []
+value-is value None is = absurd cc
+value-is value (Some handle) is = cc
 
--- as many values as holes
-pub as-many : {B S P : Type 0} (values : List (Handle × Handle)) (holes : List (Hole B S P)) (found : List (Bor (List ℕ))) → all_shown found ≡ values_in values holes → length found ≡ length holes
-as-many values holes found are =
-    sym (length-map found (λ (text : Bor (List ℕ)). text.now)) ∙ ap length are ∙ length-map holes (value_in values)
+-- the pieces of one hole more
+pub woven-more : {B S P : Type 0} (values : List (Handle × Handle)) (holes : List (Hole B S P)) (i : ℕ) (hole : Hole B S P) (before value : Bor (List ℕ)) (pieces middle more : List (Bor (List ℕ)))
+    → i < length holes → hole ≡ get_or holes i hole → before.now ≡ hole.before.items → Some value.now ≡ option_map bytes_of (value_of values hole.name.items)
+    → all_shown pieces ≡ woven values (take i holes) → middle ≡ pieces ++ before ∷ [] → more ≡ middle ++ value ∷ []
+    → all_shown more ≡ woven values (take (i + 1) holes)
+woven-more values holes i hole before value pieces middle more low here shown is so_far pushed pushed_too =
+    let Now : Bor (List ℕ) → List ℕ = λ text. text.now in
+    let found : value.now ≡ value_in values hole = value-is value.now (value_of values hole.name.items) is in
+    ap all_shown (pushed_too ∙ ap (λ l. l ++ value ∷ []) pushed) ∙ map-append Now (pieces ++ before ∷ []) (value ∷ []) ∙ ap (λ l. l ++ value.now ∷ []) (map-append Now pieces (before ∷ []))
+    ∙ append_assoc (all_shown pieces) (before.now ∷ []) (value.now ∷ [])
+    ∙ (λ j. so_far j ++ shown j ∷ found j ∷ [])
+    ∙ flat_map_more (hole_pieces values) [] (take i holes) hole
+    ∙ ap (woven values) (ap (λ h. take i holes ++ h ∷ []) here ∙ sym (take_more holes i hole low))
+
+-- two pieces a hole, of which the second is its value
+pub length-woven : {B S P : Type 0} (values : List (Handle × Handle)) (holes : List (Hole B S P)) → length (woven values holes) ≡ 2 * length holes
+length-woven values [] = refl
+length-woven values (hole ∷ holes) = omega (arith, length-woven values holes)
+
+woven-at : {B S P : Type 0} (values : List (Handle × Handle)) (holes : List (Hole B S P)) (i : ℕ) (hole : Hole B S P) → i < length holes → hole ≡ get_or holes i hole
+    → get_or (woven values holes) (2 * i + 1) [] ≡ value_in values hole
+woven-at values [] i hole low here = absurd (omega arith)
+woven-at values (first ∷ holes) zero hole low here = ap (value_in values) (sym here)
+woven-at values (first ∷ holes) (suc i) hole low here =
+    let more : 2 * suc i + 1 ≡ suc (suc (2 * i + 1)) = omega arith in
+    ap (λ n. get_or (woven values (first ∷ holes)) n []) more ∙ woven-at values holes i hole (omega arith) here
+
+-- as many pieces as two a hole
+pub pieces-count : {B S P : Type 0} (values : List (Handle × Handle)) (holes : List (Hole B S P)) (pieces : List (Bor (List ℕ))) → all_shown pieces ≡ woven values holes → length pieces ≡ 2 * length holes
+pieces-count values holes pieces are =
+    sym (length-map pieces (λ (text : Bor (List ℕ)). text.now)) ∙ ap length are ∙ length-woven values holes
 
 -- the value of an earlier hole of this name
-pub value-again : {B S P : Type 0} (values : List (Handle × Handle)) (holes : List (Hole B S P)) (i : ℕ) (hole : Hole B S P) (found : List (Bor (List ℕ))) (d : Bor (List ℕ)) (name : List ℕ)
-    → i < length holes → hole ≡ get_or holes i hole → all_shown found ≡ values_in values holes → AllKnown values holes → hole.name.items ≡ name
-    → Some (get_or found i d).now ≡ option_map bytes_of (value_of values name)
-value-again {B} {S} {P} values holes i hole found d name low here all known same =
+pub value-again : {B S P : Type 0} (values : List (Handle × Handle)) (holes : List (Hole B S P)) (i : ℕ) (hole : Hole B S P) (pieces : List (Bor (List ℕ))) (d : Bor (List ℕ)) (name : List ℕ)
+    → i < length holes → hole ≡ get_or holes i hole → all_shown pieces ≡ woven values holes → AllKnown values holes → hole.name.items ≡ name
+    → Some (get_or pieces (2 * i + 1) d).now ≡ option_map bytes_of (value_of values name)
+value-again {B} {S} {P} values holes i hole pieces d name low here all known same =
     let Now : Bor (List ℕ) → List ℕ = λ text. text.now in
-    let Value : Hole B S P → List ℕ = λ h. value_in values h in
-    let within : i < length found = omega (arith, low, as-many values holes found all) in
-    let shown : (get_or found i d).now ≡ value_in values hole =
-    sym (get_or-map Now found i d [] within) ∙ ap (λ (l : List (List ℕ)). get_or l i []) all ∙ get_or-map Value holes i hole [] low ∙ ap Value (sym here) in
+    let within : 2 * i + 1 < length pieces = omega (arith, low, pieces-count values holes pieces all) in
+    let shown : (get_or pieces (2 * i + 1) d).now ≡ value_in values hole =
+    sym (get_or-map Now pieces (2 * i + 1) d [] within) ∙ ap (λ (l : List (List ℕ)). get_or l (2 * i + 1) []) all ∙ woven-at values holes i hole low here in
     let some : IsSome (value_of values hole.name.items) = subst (λ (h : Hole B S P). IsSome (value_of values h.name.items)) (sym here) (known i hole low) in
     ap (λ (v : List ℕ). Some v) shown ∙ there (value_of values hole.name.items) some ∙ ap (λ (n : List ℕ). option_map bytes_of (value_of values n)) same
   where
@@ -70,41 +88,18 @@ hole-fails values hole (Unclosed text) none is = is
 hole-fails values hole (Unknown name) none is = (ap (value_of values) is ∙ none, sym is)
 hole-fails values hole Memory none is = tt
 
--- the pieces of one hole more
-pub woven-more : {B S P : Type 0} (holes : List (Hole B S P)) (values : List (List ℕ)) (i : ℕ) (hole : Hole B S P) (value : List ℕ) → i < length holes → i < length values
-    → hole ≡ get_or holes i hole → value ≡ get_or values i [] → woven (take (i + 1) holes) (take (i + 1) values) ≡ woven (take i holes) (take i values) ++ hole.before.items ∷ [] ++ value ∷ []
-woven-more [] values i hole value low within here is = absurd (omega arith)
-woven-more (first ∷ holes) [] i hole value low within here is = absurd (omega arith)
-woven-more (first ∷ holes) (next ∷ values) zero hole value low within here is = λ i. (sym here i).before.items ∷ sym is i ∷ []
-woven-more (first ∷ holes) (next ∷ values) (suc i) hole value low within here is =
-    let more : suc i + 1 ≡ suc (i + 1) = omega arith in
-    ap (λ n. woven (take n (first ∷ holes)) (take n (next ∷ values))) more
-    ∙ ap (λ l. first.before.items ∷ next ∷ l) (woven-more holes values i hole value (omega arith) (omega arith) here is)
-
-pub pieces-more : {B S P : Type 0} (holes : List (Hole B S P)) (found : List (Bor (List ℕ))) (i : ℕ) (hole : Hole B S P) (before d : Bor (List ℕ)) (pieces middle more : List (Bor (List ℕ)))
-    → i < length holes → length found ≡ length holes → hole ≡ get_or holes i hole → before.now ≡ hole.before.items
-    → all_shown pieces ≡ woven (take i holes) (take i (all_shown found)) → middle ≡ pieces ++ before ∷ [] → more ≡ middle ++ get_or found i d ∷ []
-    → all_shown more ≡ woven (take (i + 1) holes) (take (i + 1) (all_shown found))
-pieces-more holes found i hole before d pieces middle more low same here shown so_far pushed pushed_too =
-    let Now : Bor (List ℕ) → List ℕ = λ text. text.now in
-    let value = get_or found i d in
-    let within : i < length found = omega (arith, same) in
-    ap all_shown (pushed_too ∙ ap (λ l. l ++ value ∷ []) pushed) ∙ map-append Now (pieces ++ before ∷ []) (value ∷ []) ∙ ap (λ l. l ++ value.now ∷ []) (map-append Now pieces (before ∷ []))
-    ∙ (λ j. so_far j ++ shown j ∷ [] ++ value.now ∷ [])
-    ∙ sym (woven-more holes (all_shown found) i hole value.now low (omega (arith, within, length-map found Now)) here (sym (get_or-map Now found i d [] within)))
-
 -- the pieces one behind another, and the rest, are the holes filled and the rest
-pub pieces-joined : {B S P : Type 0} (values : List (Handle × Handle)) (holes : List (Hole B S P)) (found pieces all : List (Bor (List ℕ))) (rest : Bor (List ℕ)) (text : List ℕ)
-    → all_shown found ≡ values_in values holes → all_shown pieces ≡ woven holes (all_shown found) → all ≡ pieces ++ rest ∷ [] → rest.now ≡ text → joined [] all ≡ filled values holes ++ text
-pieces-joined {B} {S} {P} values holes found pieces all rest text are is pushed shown =
+pub pieces-joined : {B S P : Type 0} (values : List (Handle × Handle)) (holes : List (Hole B S P)) (pieces all : List (Bor (List ℕ))) (rest : Bor (List ℕ)) (text : List ℕ)
+    → all_shown pieces ≡ woven values holes → all ≡ pieces ++ rest ∷ [] → rest.now ≡ text → joined [] all ≡ filled values holes ++ text
+pieces-joined {B} {S} {P} values holes pieces all rest text is pushed shown =
     ap (joined []) pushed ∙ flat-joined (pieces ++ rest ∷ []) ∙ sym (flat_map_more (λ (p : Bor (List ℕ)). p.now) [] pieces rest)
-    ∙ (λ j. (sym (flat_map-map (λ (l : List ℕ). l) (λ (p : Bor (List ℕ)). p.now) pieces) ∙ ap (flat_map (λ (l : List ℕ). l)) (is ∙ ap (woven holes) are) ∙ flat-filled holes) j ++ shown j)
+    ∙ (λ j. (sym (flat_map-map (λ (l : List ℕ). l) (λ (p : Bor (List ℕ)). p.now) pieces) ∙ ap (flat_map (λ (l : List ℕ). l)) is ∙ flat-filled holes) j ++ shown j)
   where
     flat-joined : (pieces : List (Bor (List ℕ))) → joined [] pieces ≡ flat_map (λ (p : Bor (List ℕ)). p.now) pieces
     flat-joined [] = refl
     flat-joined (p ∷ ps) = refl
 
-    flat-filled : (holes : List (Hole B S P)) → flat_map (λ (l : List ℕ). l) (woven holes (values_in values holes)) ≡ filled values holes
+    flat-filled : (holes : List (Hole B S P)) → flat_map (λ (l : List ℕ). l) (woven values holes) ≡ filled values holes
     flat-filled [] = refl
     flat-filled (hole ∷ holes) =
         let value = value_in values hole in

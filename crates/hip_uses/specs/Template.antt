@@ -52,14 +52,13 @@ all_shown texts = map (λ text. text.now) texts
 abbrev pub value_in : {B S P : Type 0} → List (Handle × Handle) → Hole B S P → List ℕ
 value_in values hole = option_map_or bytes_of (value_of values hole.name.items) []
 
-abbrev pub values_in : {B S P : Type 0} → List (Handle × Handle) → List (Hole B S P) → List (List ℕ)
-values_in values holes = map (value_in values) holes
+-- the text before a hole, and its value
+abbrev pub hole_pieces : {B S P : Type 0} → List (Handle × Handle) → Hole B S P → List (List ℕ)
+hole_pieces values hole = hole.before.items ∷ value_in values hole ∷ []
 
--- what lies before each hole, and behind it its value
-abbrev pub woven : {B S P : Type 0} → List (Hole B S P) → List (List ℕ) → List (List ℕ)
-woven [] values = []
-woven (hole ∷ holes) [] = []
-woven (hole ∷ holes) (value ∷ values) = hole.before.items ∷ value ∷ woven holes values
+-- the text before each hole, and its value
+abbrev pub woven : {B S P : Type 0} → List (Handle × Handle) → List (Hole B S P) → List (List ℕ)
+woven values holes = flat_map (hole_pieces values) holes
 
 abbrev pub filled : {B S P : Type 0} → List (Handle × Handle) → List (Hole B S P) → List ℕ
 filled values holes = flat_map (hole_filled values) holes

@@ -1,8 +1,8 @@
 //! Templates that are filled.
-ghost use Rattle.std.specs.Prelude.{◌≡◌, ◌++◌, IfErr, IfOk, length};
+ghost use Rattle.std.specs.Prelude.{◌≡◌, ◌++◌, IfErr, IfOk};
 ghost use Rattle.std.specs.Option.{option_map};
 ghost use Rattle.hip_uses.specs.Number.{bytes_of};
-ghost use Rattle.hip_uses.specs.Template.{AllKnown, all_shown, filled, value_of, values_in, woven};
+ghost use Rattle.hip_uses.specs.Template.{AllKnown, all_shown, filled, value_of, woven};
 ghost use Rattle.hip_uses.specs.Template.{FillFails, IsUnknown};
 
 use crate::template::values::Values;
@@ -27,17 +27,17 @@ fn value_of<'v, 'b, B: Backend, S: BuildHasher>(
     values: &'v Values<'b, B, S>,
     name: &HipStr<'b, B>,
     earlier: &[Hole<'b, B>],
-    found: &[&'v str],
+    pieces: &[&'v str],
     place: usize,
 ) -> Option<&'v str>
     requires known { AllKnown values.now earlier.now }
-    requires found { all_shown found.now ≡ values_in values.now earlier.now }
+    requires pieces { all_shown pieces.now ≡ woven values.now earlier.now }
     ensures { option_map (λ value. value.now) result
         ≡ option_map bytes_of (value_of values.now name.now.items) }
 {
     if let Some(hole) = earlier.get(place) {
         if hole.name == *name {
-            return Some(found[place]);
+            return Some(pieces[2 * place + 1]);
         }
     }
     match values.get(name) {
@@ -46,43 +46,27 @@ fn value_of<'v, 'b, B: Backend, S: BuildHasher>(
     }
 }
 
-/// The value of each hole. Each different name is looked up once.
-fn values_of<'v, 'b, B: Backend, S: BuildHasher>(
+/// The text before each hole, and its value. Each different name is looked up once.
+fn pieces_of<'v, 'b, B: Backend, S: BuildHasher>(
     alloc: Global,
-    template: &Template<'b, B>,
+    template: &'v Template<'b, B>,
     values: &'v Values<'b, B, S>,
 ) -> Result<Vec<&'v str>, TemplateFault<'b, B>>
     ensures known { IfOk result (λ _. AllKnown values.now template.now.holes.items) }
-    ensures found { IfOk result (λ found. all_shown found.items
-        ≡ values_in values.now template.now.holes.items) }
+    ensures pieces { IfOk result (λ pieces. all_shown pieces.items
+        ≡ woven values.now template.now.holes.items) }
     ensures fault { IfErr result (FillFails values.now template.now.holes.items) }
 {
-    let mut found = Vec::with_capacity(alloc, template.holes.len())?;
+    let count = template.holes.len().saturating_mul(2).saturating_add(1);
+    let mut pieces = Vec::with_capacity(alloc, count)?;
     for (place, hole) in template.holes.iter().enumerate() {
         let of_name = template.earlier_places.get(place).copied().unwrap_or(place);
         let earlier = &template.holes[..place];
-        let Some(value) = value_of(values, &hole.name, earlier, found.as_slice(), of_name) else {
+        let Some(value) = value_of(values, &hole.name, earlier, pieces.as_slice(), of_name) else {
             return Err(unknown(alloc, &hole.name));
         };
-        found.push(value)?;
-    }
-    Ok(found)
-}
-
-/// The text before each hole, and its value.
-fn pieces_of<'v, 'b, B: Backend>(
-    alloc: Global,
-    holes: &'v [Hole<'b, B>],
-    found: &[&'v str],
-) -> Result<Vec<&'v str>, AllocError>
-    requires { length found.now ≡ length holes.now }
-    ensures { IfOk result (λ pieces. all_shown pieces.items ≡ woven holes.now (all_shown found.now)) }
-{
-    let count = holes.len().saturating_mul(2).saturating_add(1);
-    let mut pieces = Vec::with_capacity(alloc, count)?;
-    for (place, hole) in holes.iter().enumerate() {
         pieces.push(hole.before.as_str())?;
-        pieces.push(found[place])?;
+        pieces.push(value)?;
     }
     Ok(pieces)
 }
@@ -98,8 +82,7 @@ pub fn fill<'v, 'b, B: Backend, S: BuildHasher>(
         ≡ filled values.now template.now.holes.items ++ template.now.rest.items) }
     ensures fault { IfErr result (FillFails values.now template.now.holes.items) }
 {
-    let found = values_of(alloc, template, values)?;
-    let mut pieces = pieces_of(alloc, template.holes.as_slice(), found.as_slice())?;
+    let mut pieces = pieces_of(alloc, template, values)?;
     pieces.push(template.rest.as_str())?;
     Ok(HipStr::concat_slices(alloc, pieces.as_slice())?)
 }

@@ -1,8 +1,27 @@
-use Rattle.std.proofs.Common.{arith}
-use Rattle.hip_uses.proofs.Templates.{pieces-more}
+use Rattle.std.proofs.Common.{◌≡◌, ◌∙◌, List, subst, take, take_all, arith}
+use Rattle.hip_uses.specs.Template.{AllKnown, FillFails}
+use Rattle.hip_uses.specs.declared.template.Hole.{Hole}
+use Rattle.hip_uses.proofs.Templates.{fails-first, hole-fails, known-more, none-known, some-known, woven-more}
 use Rattle.hip_uses.proofs.template.filling.pieces_of.Goals as goal
 
 pub loop-place-preserved : goal.loop-place-preserved
-loop-place-preserved g c =
-    pieces-more c.args.holes.now c.args.found.now c.loop-place.place c.index-holes-place.result c.as_str.result _ c.loop-place.pieces.items c.push.new.self.items c.push-in-loop-place.new.self.items
-    (omega arith) c.requires c.index-holes-place.is c.as_str.ensures.items c.loop-place.invariant c.in_ok-push.ensures.items c.in_ok-push-2.ensures.items
+loop-place-preserved g c = record {
+  known = known-more c.args.values.now c.deref-hole-items.result.now c.loop-place.place c.hole-item.result (omega arith) c.hole-item.is (some-known c.in-Some.value.now _ c.in-Some.ensures) c.loop-place.invariant.known;
+  pieces = woven-more c.args.values.now c.deref-hole-items.result.now c.loop-place.place c.hole-item.result c.as_str.result c.in-Some.value c.loop-place.pieces.items c.push.new.self.items c.push-in-loop-place.new.self.items
+      (omega arith) c.hole-item.is c.as_str.ensures.items c.in-Some.ensures c.loop-place.invariant.pieces c.in_ok-push.ensures.items c.in_ok-push-2.ensures.items;
+}
+
+pub returns-in_default-clause-fault : goal.returns-in_default-clause-fault
+returns-in_default-clause-fault g c =
+    let AHole : Type 0 = Hole g.row.B.Denot g.row.B-Sole.Denot g.row.B-Extent.Denot in
+    let hole = c.hole-item.result in
+    subst (λ (holes : List AHole). FillFails c.args.values.now holes c.unknown.result) c.deref-hole-items.ensures.value
+    (fails-first c.args.values.now c.deref-hole-items.result.now c.loop-place.place hole c.unknown.result (omega arith) c.hole-item.is c.loop-place.invariant.known
+    (hole-fails c.args.values.now hole c.unknown.result (none-known _ c.in_default.ensures) c.unknown.ensures))
+
+pub returns-clause-known : goal.returns-clause-known
+returns-clause-known g c =
+    let AHole : Type 0 = Hole g.row.B.Denot g.row.B-Sole.Denot g.row.B-Extent.Denot in
+    let items = c.deref-hole-items.result.now in
+    let whole : take c.loop-place.place items ≡ items = take_all c.loop-place.place items (omega arith) in
+    subst (λ (holes : List AHole). AllKnown c.args.values.now holes) (whole ∙ c.deref-hole-items.ensures.value) c.loop-place.invariant.known

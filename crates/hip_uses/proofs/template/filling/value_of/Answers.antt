@@ -1,11 +1,11 @@
 use Rattle.std.proofs.Common.{arith}
 use Rattle.std.specs.Cmp.Lexicographic.{same_text}
-use Rattle.hip_uses.proofs.Templates.{value-again}
+use Rattle.hip_uses.proofs.Templates.{pieces-count, value-again}
 use Rattle.hip_uses.proofs.template.filling.value_of.Goals as goal
 
 pub returns-then-eq : goal.returns-then-eq
 returns-then-eq g c =
     let hole = c.in-Some.hole.now in
     let lookup = c.in-Some.ensures.lookup in
-    value-again c.args.values.now c.args.earlier.now c.args.place hole c.args.found.now _ c.args.name.now.items (omega (arith, lookup.3.0)) lookup.1 c.requires.found c.requires.known
+    value-again c.args.values.now c.args.earlier.now c.args.place hole c.args.pieces.now _ c.args.name.now.items (omega (arith, lookup.3.0)) lookup.1 c.requires.pieces c.requires.known
     (same_text hole.name.items c.args.name.now.items c.if-eq.ensures)
