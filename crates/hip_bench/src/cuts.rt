@@ -16,7 +16,7 @@ enum Cut {
     StripPrefix,
 }
 
-/// What is left of a line.
+/// The part of a line that a cut leaves.
 #[inline(always)]
 fn left<'b>(
     line: &HipStr<'b, Rc>,

@@ -36,7 +36,7 @@ fn read(alloc: Global, input: &[u8], rounds: u64) -> Option<u64> {
     Some(sum)
 }
 
-/// The same as a text.
+/// Each round reads a form, as a text.
 fn read_text(alloc: Global, input: &[u8], rounds: u64) -> Option<u64> {
     let mut sum = 0;
     for round in 0..rounds {

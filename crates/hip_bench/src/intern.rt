@@ -7,8 +7,8 @@ use std::alloc::Global;
 use std::collections::{BTreeMap, HashMap};
 use std::hash::Hash;
 
-// What a text promises of its hash and its order is much to prove with, so a map is asked where nothing is known of its keys but that they
-// have them.
+// The contracts of a text's hash and order are long, and dear to prove with. So a map is called where nothing is known of its keys but
+// their bounds.
 
 /// A map from words to their numbers, which are given out from zero.
 trait Numbers<K: Drop>: Drop {

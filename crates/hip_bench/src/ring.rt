@@ -1,4 +1,4 @@
-//! What the workloads have in common: the checksum, and the ring that keeps values alive.
+//! The checksum of the workloads, and the ring that keeps their values alive.
 ghost use Rattle.std.specs.Prelude.{◌<◌};
 
 use hipstr::Backend;

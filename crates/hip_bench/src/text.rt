@@ -137,7 +137,7 @@ fn read(alloc: Global, input: &[u8], rounds: u64) -> Option<u64> {
     Some(sum)
 }
 
-/// The same, repaired.
+/// Like [`read`], where a unit without a partner becomes U+FFFD.
 fn read_lossy(alloc: Global, input: &[u8], rounds: u64) -> Option<u64> {
     let units = units(alloc, input)?;
     let mut sum = 0;
