@@ -1,5 +1,5 @@
-//! What the tests ask of a byte string: its calls, by their own names. A name with more behind it is that call of one kind of range, of so
-//! many pieces, or with one closure. The methods say nothing of their answers, so that a test knows nothing but what it compares.
+//! The calls of a byte string that the tests make, by their own names. A longer name is that call with one kind of range, with a number of
+//! pieces, or with one closure. The methods have no contracts, so that a test knows nothing but what it compares.
 use super::faults::{Part, Tried};
 use hip_bytes::{GrowFault, Kind, Meter, RefMut, Source};
 use std::alloc::{AllocError, Global};

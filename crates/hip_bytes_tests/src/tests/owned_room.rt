@@ -1,4 +1,4 @@
-//! What the owner of one handle copies as it grows, and what room it has then.
+//! The bytes that the owner of one handle copies as it grows, and the room that it has then.
 use super::bytes::Bytes;
 use super::suite::{Suite, run_on_unique};
 use super::support::{LETTERS, must};
