@@ -1,4 +1,4 @@
-//! What runs the lists of commands (`sessions`), the texts that are cut once (`cuts`) and those that are taken apart (`ways`).
+//! Runs the lists of commands (`sessions`), the texts that are cut once (`cuts`) and those that are taken apart (`ways`).
 use super::cuts::{Cut, parted, stripped, trimmed};
 use super::sessions::{
     Row, Session, borrowed_pieces, cases, cuts, empty, four_pushes, many_bytes, pieces, pushed,
@@ -13,7 +13,7 @@ use std::alloc::Global;
 use std::ops::Bound;
 use std::process::Abort;
 
-/// What commands answer. What `run` promises is left here: a function that knows it is dear, and a test compares.
+/// The answers of commands. It drops the contract of `run`: a function that knows it is dear to prove, and a test compares.
 fn answers_to<'b, B: Backend>(
     rt: &impl Abort,
     alloc: Global,
@@ -327,7 +327,7 @@ fn a_sole_owner_is_written_in_place(rt: HostRuntime) {
     in_place::<Unique>(&rt, rt.alloc());
 }
 
-/// What an owner that no other shares copies as it grows.
+/// The bytes that an owner which no other shares copies as it grows.
 #[test]
 fn a_full_room_doubles(rt: HostRuntime) {
     doubles(&rt, rt.alloc());

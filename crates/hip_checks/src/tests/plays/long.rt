@@ -49,7 +49,7 @@ fn taken_off(rt: HostRuntime) {
     }
 }
 
-/// What stands behind some plain bytes of a literal, and what is printed of it; nothing where the line is none.
+/// The bytes that follow some plain bytes of a literal, and how they are printed; nothing where the line is no command.
 const BEHIND_PLAIN: &[(&str, &str)] = &[
     ("\"", "\""),
     ("\\\"\"", "\\\"\""),
