@@ -56,7 +56,7 @@ fn value(alloc: Global, numbers: &mut Numbers) -> Result<String, AllocError> {
     Ok(value)
 }
 
-/// What stands between two holes, with a mark that isn't a hole's in every fourth.
+/// The text between two holes. About one in four has braces that are no hole.
 fn between(alloc: Global, numbers: &mut Numbers) -> Result<String, AllocError> {
     let mut text = String::from_str(alloc, "<p>")?;
     for _ in 0..numbers.below(24) {

@@ -10,7 +10,7 @@ const LISTS: usize = 10_000;
 
 const LISTS_OF_SCRIPT: usize = 4000;
 
-/// What stands in literals.
+/// The characters of literals, as they stand in a script.
 const CHARACTERS: &[&str] = &[
     "a",
     "b",

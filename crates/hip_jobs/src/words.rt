@@ -96,7 +96,7 @@ pub(crate) fn number(
     )
 }
 
-/// The same of words and lines that are there.
+/// Like [`number`], with words and lines that are made already.
 fn number_all<'w>(
     alloc: Global,
     rounds: usize,
