@@ -95,7 +95,7 @@ fn agrees<R: RangesBack + Drop>(rt: &impl Abort, text: &str, mut ranges: R, ends
     }
 }
 
-/// The same from each end, and from both in turn.
+/// Calls [`agrees`] with each end, and with both in turn.
 fn agrees_each_way(rt: &impl Abort, text: &str) {
     for ends in [Ends::Front, Ends::Back, Ends::InTurn] {
         agrees(rt, text, SplitAsciiWhitespace::new(text), ends);
