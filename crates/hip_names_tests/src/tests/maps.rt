@@ -6,7 +6,7 @@ use std::collections::{BTreeMap, HashMap, HashSet};
 use std::hash::Hash;
 use std::process::Abort;
 
-/// What a hash map says of a key, once it has 7 under another.
+/// The value of `sought` in a hash map that has 7 under `key`.
 fn found<K: Hash + Eq + Drop>(
     alloc: Global,
     key: K,
@@ -17,7 +17,7 @@ fn found<K: Hash + Eq + Drop>(
     Ok(ages.get(sought).copied())
 }
 
-/// What an ordered map says of it.
+/// The value of `sought` in an ordered map that has 7 under `key`.
 fn found_in_order<K: Ord + Drop>(
     alloc: Global,
     key: K,

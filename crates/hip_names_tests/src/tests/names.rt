@@ -1,4 +1,4 @@
-//! What hipstr's own tests ask of OS strings and of paths, each by its own calls.
+//! hipstr's own tests of OS strings and of paths, each by its own calls.
 use super::handle::Handle;
 use super::name::{Name, OsStr};
 use super::support::{are_equal, must, text_of};
@@ -173,7 +173,7 @@ fn into_texts<N: Name>(rt: &impl Abort, alloc: Global) {
     }
 }
 
-/// What is lent is shown and given, anything else is handed back, equal to a clone that was made before.
+/// Lent bytes are shown and handed out; any others are handed back, equal to a clone that was made before.
 fn borrows<N: Name>(rt: &impl Abort, alloc: Global) {
     for (way, text, kind) in WAYS {
         let name = made::<N>(rt, alloc, *way, text);
@@ -311,7 +311,7 @@ fn debugs<N: Name>(rt: &impl Abort, alloc: Global) {
     assert_eq!(rt; said.as_str(), "\"abc\"");
 }
 
-/// What is lent is copied, anything else stays where it lies.
+/// Lent bytes are copied, any others stay where they lie.
 fn owns<N: Name>(rt: &impl Abort, alloc: Global) {
     for (way, text, kind) in WAYS {
         let name = made::<N>(rt, alloc, *way, text);
