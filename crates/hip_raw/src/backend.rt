@@ -83,7 +83,7 @@ pub trait Backend: Drop + Sized {
         ensures capacity { result ≡ capacity self.now }
         ensures fits { length (items self.now) ≤ capacity self.now };
 
-    /// What is written in place, unless the owner is shared.
+    /// The owner's bytes and room, for writing in place; `None` where the owner is shared.
     fn writable(&mut self) -> Option<&mut Self::Sole>
         ensures* writes_back { sem 𝓛
             (LendsIf Self.row Self.Sole.row self.entry result (with_sole self.old) self.old) }

@@ -51,7 +51,7 @@ fn fill_zeros(cells: &mut Cells<u8>, base: Base<u8>, from: usize, count: usize)
     }
 }
 
-// The same by two stores of `width`, which may overlap.
+// Like [`fill_zeros`], by two stores of `width` places, which may overlap.
 #[inline(always)]
 fn fill_ends(cells: &mut Cells<u8>, base: Base<u8>, from: usize, count: usize, width: usize)
     requires base { base.ptr ≡ cells.old.at }
@@ -67,7 +67,7 @@ fn fill_ends(cells: &mut Cells<u8>, base: Base<u8>, from: usize, count: usize, w
     fill_zeros(cells, base, from + (count - width), width);
 }
 
-// The same by the widest stores, which for a few places cost less than a call of the C library.
+// Like [`fill_zeros`], but sets fewer than 32 places by one or two stores, which cost less than a call of the C library.
 #[inline(always)]
 fn fill_range(cells: &mut Cells<u8>, base: Base<u8>, from: usize, count: usize)
     requires base { base.ptr ≡ cells.old.at }
@@ -230,7 +230,7 @@ impl Buffer {
         answer
     }
 
-    // The same where room has to be taken: twice what it then holds.
+    // Like [`Buffer::append`], where memory has to be allocated: room for twice the bytes that it then holds.
     #[cold]
     #[inline(never)]
     fn append_grown(

@@ -18,7 +18,7 @@ pub struct Inline<const N: usize, L: Length<N> = usize> {
     row: Row<N, L>,
 }
 
-// What a clone copies whole.
+// The array and the length of an [`Inline`], which a clone copies whole.
 #[derive(Clone, Copy)]
 struct Row<const N: usize, L: Length<N>> {
     // It has no bytes. It aligns the others, so that they are moved by whole words.
@@ -215,7 +215,7 @@ impl<const N: usize, L: Length<N>> Inline<N, L> {
         }
     }
 
-    /// The same bytes again. The value is copied whole, as by a move, and its length is counted.
+    /// A copy of the value, made whole, as by a move. The meter counts the bytes that it holds.
     #[inline]
     pub fn clone_metered(&self, meter: &mut Meter) -> Self
         ensures items { result ≡ self.now }

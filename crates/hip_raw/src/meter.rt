@@ -163,7 +163,7 @@ pub fn extend_counted(
     ensures refused_copies_nothing { OnErr result (meter.new ≡ meter.old) }
 {
     if vec.capacity() - vec.len() < addition.len() {
-        // What a call that isn't inlined is lent lies in memory; so the caller's meter isn't lent to it.
+        // A call that isn't inlined keeps in memory what it is lent, so it gets a meter of its own.
         let mut apart = Meter::new();
         let outcome = extend_grown(vec, addition, &mut apart);
         meter.add(&apart);
@@ -173,7 +173,7 @@ pub fn extend_counted(
     Ok(())
 }
 
-// The same where room has to be taken.
+// Like [`extend_counted`], where the vector has to grow.
 #[cold]
 #[inline(never)]
 fn extend_grown(vec: &mut Vec<u8>, addition: &[u8], meter: &mut Meter) -> Result<(), AllocError>
