@@ -9,7 +9,7 @@
 //! - `blocks`: comparisons and ASCII case, which go by blocks of bytes.
 //! - `support`: the ends of a test that a call brings about.
 //!
-//! What costs the check and what saves it is told in `hip_bytes_tests`.
+//! `hip_bytes_tests` tells what costs time in a check of tests, and how to save it.
 #![tactic(auto)]
 
 #[cfg(test)]

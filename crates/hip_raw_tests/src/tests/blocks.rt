@@ -117,7 +117,7 @@ fn two_bytes_differ(rt: HostRuntime) {
     }
 }
 
-/// So many bytes from the front.
+/// The first `len` bytes, or all where there are fewer.
 fn front_of(bytes: &[u8; COMPARED], len: usize) -> &[u8] {
     &bytes[..len.min(COMPARED)]
 }
