@@ -170,7 +170,7 @@ fn told<H: Handle>(rt: &impl Abort, alloc: Global, trial: Trial, telling: Tellin
     refused
 }
 
-/// What a handle without bytes is seen as.
+/// The place and the capacity of a handle without bytes.
 const EMPTY: Place = ((true, false, false), 23);
 
 fn lent<H: Handle>(rt: &impl Abort, alloc: Global, trial: Trial, lending: Lending) -> bool {
@@ -231,7 +231,7 @@ fn are_on_both<S: Handle, U: Handle>(rt: &impl Abort, alloc: Global, calls: &[Ca
     }
 }
 
-/// The same of tables of calls.
+/// Like [`are_on_both`], for the calls of several tables.
 pub(crate) fn on_both<S: Handle, U: Handle>(rt: &impl Abort, alloc: Global, tables: &[&[Call]]) {
     for calls in tables {
         are_on_both::<S, U>(rt, alloc, calls);

@@ -21,7 +21,7 @@ fn without<T: Copy + Drop>(rt: &impl Abort, alloc: Global, items: &[T], at: usiz
     rest
 }
 
-/// What commands answer where memory is ample.
+/// The answers of commands where memory is ample.
 fn answers_of<'b, B: Backend>(
     rt: &impl Abort,
     alloc: Global,
@@ -53,7 +53,7 @@ fn is_same<B: Backend>(slot: &Slot<'_, B>, other: &Slot<'_, B>) -> bool {
         && slot.capacity() == other.capacity()
 }
 
-/// What may differ in two pools.
+/// The difference that two pools may have.
 #[derive(Clone, Copy)]
 enum Apart {
     Nothing,
@@ -96,7 +96,7 @@ fn are_same<B: Backend>(rt: &impl Abort, pool: &Pool<'_, B>, other: &Pool<'_, B>
     }
 }
 
-/// What may differ where a request was refused: in the slot of a `Mutate`, if there is one.
+/// The difference that a refused request may leave: in the slot of a `Mutate`, if there is one.
 fn apart_by(commands: &[Command<'static>], refused_at: usize) -> Apart {
     for (i, command) in commands.iter().enumerate() {
         if let Command::Mutate(slot, _) = command {

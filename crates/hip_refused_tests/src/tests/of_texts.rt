@@ -181,7 +181,7 @@ impl<B: Backend> Handle for HipStr<'static, B> {
     }
 }
 
-/// What is cut of a text, or the last of what is taken out of it.
+/// The part of a text that a call cuts out, or the last one where it gives several.
 fn cut_of<B: Backend>(
     text: &HipStr<'static, B>,
     alloc: Global,
