@@ -16,7 +16,7 @@ use hipstr::End;
 use std::alloc::Global;
 use std::str;
 
-/// What the lines of a script name by its place.
+/// The lists that the lines of a script refer to by positions.
 #[derive(Drop)]
 pub(crate) struct Buffers {
     /// The bytes of literals that have escapes.
@@ -25,7 +25,7 @@ pub(crate) struct Buffers {
     pub(crate) chars: Vec<char>,
     /// The ends of all walks.
     pub(crate) ends: Vec<End>,
-    /// What few lines say, one after another.
+    /// The arguments that few lines have, one after another.
     pub(crate) rares: Vec<Rare>,
 }
 
@@ -116,7 +116,7 @@ impl Buffers {
         Ok(())
     }
 
-    /// What a literal says.
+    /// The value of a literal, as `quote` asks for it.
     fn quoted<'l>(&mut self, quote: Quote, literal: Literal<'l>) -> Result<Quoted<'l>, LineFault>
         requires { LiteralWithin self.old.bytes.items literal }
         ensures ok { IfOk result (λ quoted. QuotesAs (quoted_as quote (literal_in self.old.bytes.items literal.entry))
