@@ -6,7 +6,7 @@ use hip_cuts::{Backend, HipStr, IterWrapper, Rc, TextCuts, Unique};
 use std::alloc::{AllocError, Global};
 use std::process::Abort;
 
-/// What a walk gives.
+/// The answer of a walk's `next`: a position and a piece.
 pub(crate) type Found<'b, B> = Option<(usize, Result<HipStr<'b, B>, AllocError>)>;
 
 /// Whether this text was found at this place, or nothing was.

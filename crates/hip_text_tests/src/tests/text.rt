@@ -1,6 +1,5 @@
-//! What the tests ask of a text, of its bytes, and of the error of bytes that aren't one: their calls, by their own names. A name with more
-//! behind it is that call of one kind of range, or of its guard. The methods say nothing of their answers, so that a test knows nothing but
-//! what it compares.
+//! The calls that the tests make on a text, on its bytes, and on the error of bytes that aren't one, by their own names. A longer name is
+//! that call with one kind of range, or of its guard. The methods have no contracts, so that a test knows nothing but what it compares.
 use super::faults::{Part, RangeFault, Refusal};
 use hip_text::{BytesFault, GrowFault, Kind, Meter, Utf16Fault};
 use std::alloc::{AllocError, Global};
