@@ -14,8 +14,8 @@
 //! Byte strings and texts are written to a [`ByteSink`] and read from a [`ByteSource`] in the form of Borsh; these, and their
 //! implementors, stand here. All four types are made JSON values of the crate serde_json, and made of them.
 //!
-//! What the clauses of `run` say in words is defined in `specs/`: `Slot` (the machine's state), `Step` (one command: its fault, its
-//! answer, what it leaves, its cost) and `Run` (many commands).
+//! The words of `run`'s clauses are defined in `specs/`: `Slot` (the machine's state), `Step` (one command: its fault, its answer, what it
+//! leaves, its cost) and `Run` (many commands).
 #![tactic(auto)]
 
 pub mod bits;
