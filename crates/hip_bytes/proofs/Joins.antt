@@ -131,7 +131,7 @@ fits_where : (fits : Bool) (before most : ℕ) → (fits ≡ true → before ≤
 fits_where true before most h = ap (λ b. b && true) (le-leb before most (h refl))
 fits_where false before most h = and_false (nat_le before most)
 
--- what fits after more came, fitted before
+-- a length that fits the limit fitted it before it grew
 pub fits_before : (before after most : ℕ) → before ≤ after → (nat_le before most && nat_le after most) ≡ nat_le after most
 fits_before before after most grown = fits_where (nat_le after most) before most (λ e. omega (arith, leb-true after most e))
 
@@ -142,7 +142,7 @@ spilled_once true false fits is = omega arith
 spilled_once false true fits is = absurd (cc)
 spilled_once false false fits is = omega arith
 
--- what was refused for memory is longer than a handle
+-- an addition that was refused for memory is longer than a handle holds in itself
 pub refused_long : (in_handle : Bool) (len more : ℕ) → in_handle ≡ nat_le len INLINE_CAPACITY → (in_handle ≡ true → INLINE_CAPACITY < more) → len ≤ more → INLINE_CAPACITY < more
 refused_long true len more place short grown = short refl
 refused_long false len more place short grown = omega (arith, leb-false len INLINE_CAPACITY (sym place), grown)

@@ -1,4 +1,4 @@
--- What a call that changes a handle may answer, and what it leaves of the handle. A refused one leaves all as it was.
+-- The answers of calls that change a handle, and the handle that they leave. A refused call leaves all as it was.
 use Rattle.std.specs.Prelude.{◌≡◌, ℕ, ◌-◌, ◌<◌, ◌≤◌, Bool, false, List, [], ◌∷◌, ◌++◌, length, take, min, Option, Some, None, Result, Ok, Err}
 use Rattle.hip_bytes.specs.Handle.{Handle}
 use Rattle.hip_bytes.specs.Kinds.{cut_kind, kept_capacity, owned_kind, PushedKind, HasCapacity}

@@ -52,7 +52,7 @@ write_cost shares Borrowed len = times_copied shares len
 write_cost true Allocated len = len
 write_cost false Allocated len = 0
 
--- the same of a handle: bytes that are inline or borrowed have nothing that grows
+-- like `pot` of hip_raw, of a handle: bytes that are inline or borrowed have nothing that grows
 abbrev pub pot_of : Kind → ℕ → ℕ → ℕ
 pot_of Inline len capacity = 0
 pot_of Borrowed len capacity = 0

@@ -18,7 +18,7 @@ bytes_of slice = slice.now
 abbrev pub joined : List ℕ → List (Bor (List ℕ)) → List ℕ
 joined sep slices = join_by bytes_of sep slices
 
--- what stands before the slice at a position
+-- the separator before the slice at a position; nothing before the first
 abbrev pub gap_at : ℕ → List ℕ → List ℕ
 gap_at zero sep = []
 gap_at (suc i) sep = sep

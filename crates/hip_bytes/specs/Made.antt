@@ -1,4 +1,4 @@
--- What a call that makes a handle may answer. A refusal says where memory may be wanted.
+-- The answers of calls that make a handle. A refusal says where memory may be wanted.
 use Rattle.std.specs.Prelude.{◌≡◌, ℕ, ◌*◌, ◌^◌, ◌<◌, ◌≤◌, Bool, List, length, Option, Result, Ok, Err}
 use Rattle.std.specs.List.{join_by, repeat}
 use Rattle.hip_raw.specs.Meter.{RisesAtLeast, RisesAtMost}

@@ -1,5 +1,5 @@
--- What a call may answer that hands a value's bytes to a closure, in a vector or a `String`, and makes the value that of what the closure
--- leaves there.
+-- The answers of calls that hand a value's bytes to a closure, in a vector or a `String`, and make the value that of the bytes that the
+-- closure leaves there.
 use Rattle.std.specs.Prelude.{◌≡◌, ◌+◌, ℕ, List, length, Result, Ok, Err}
 use Rattle.std.specs.Borrow.{MutBor}
 use Rattle.std.specs.Fn.{Once, FnOnceReturnsAtMut, FnOnceTakesAtMut}

@@ -1,4 +1,4 @@
--- What a call that slices may answer.
+-- The answers of calls that slice.
 use Rattle.std.specs.Prelude.{◌≡◌, ℕ, length, Bool, Some, None, Result, Ok, Err, is_none, if◌then◌else◌}
 use Rattle.std.specs.Range.Bound.{start_index, end_index}
 use Rattle.std.specs.declared.ops.Bound.{Bound}
