@@ -15,11 +15,11 @@ use Rattle.hip_match.specs.Runs.{lines}
 abbrev pub Texts : Type 0
 Texts = List (List ℕ)
 
--- those of a line
+-- the bytes of each field of a line
 abbrev pub fields_of : ℕ → List ℕ → Texts
 fields_of separator line = parts line (split (char_ends (λ c. c == separator) line) (length line))
 
--- and those of each line of a text
+-- the records of a text, one for each line
 abbrev pub records_of : ℕ → List ℕ → List Texts
 records_of separator text = map (fields_of separator) (parts text (lines text))
 
@@ -29,7 +29,7 @@ AreFields source [] fields = fields ≡ []
 AreFields source (text ∷ texts) [] = ⊥
 AreFields source (text ∷ texts) (field ∷ fields) = IsPart source field text × AreFields source texts fields
 
--- and so are those of each record
+-- each record's handles are parts of the source with the bytes of its fields
 abbrev pub AreRecords : Handle → List Texts → List (Vec Handle Global) → Type 0
 AreRecords source [] records = records ≡ []
 AreRecords source (texts ∷ more) [] = ⊥
@@ -40,12 +40,12 @@ abbrev pub fields_cost : Bool → Kind → Texts → ℕ
 fields_cost shares kind [] = 0
 fields_cost shares kind (text ∷ texts) = cut_cost shares kind (length text) + fields_cost shares kind texts
 
--- and those of all lines
+-- the bytes that the fields of all lines copy at most
 abbrev pub records_cost : Bool → Kind → List Texts → ℕ
 records_cost shares kind [] = 0
 records_cost shares kind (texts ∷ more) = fields_cost shares kind texts + records_cost shares kind more
 
--- what a reader of records has still to give: the records of a text, as the bytes of their fields
+-- the records that a reader has still to give: those of a text, as the bytes of their fields
 pub record RecordsLeft : Type 0 where
   pub source : Handle
   pub rest : List Texts
