@@ -1,4 +1,4 @@
--- What holds of the characters of a text and of the places where sets of characters occur.
+-- Laws of the characters of a text and of the places where sets of characters occur.
 use Rattle.std.specs.Prelude.{◌≡◌, ℕ, ◌+◌, ◌-◌, ◌<◌, ◌≤◌, Bool, true, false, ◌&&◌, None, Some, List, [], ◌∷◌, ◌++◌, length, take, drop, slice_index}
 use Rattle.std.proofs.Common.{sym, ◌∙◌, ap, subst, arith, ⊎_elim, length-append, length-drop, get_or-drop, add-zero, length-take-le, take-append-drop, append_assoc}
 use Rattle.std.proofs.lemmas.Bool.{cond-true, cond-false, cases_Bool, cases_lt, and_parts, and_from, false≢true}

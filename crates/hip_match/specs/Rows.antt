@@ -163,7 +163,7 @@ pub split_ascii_whitespace-row : split_ascii_whitespace (97 ∷ 11 ∷ 98 ∷ []
 unfolding leftmost_from char_at chars
 split_ascii_whitespace-row = refl
 
--- so is U+2003
+-- U+2003 is white space too
 pub split_whitespace-wide : split_whitespace (226 ∷ 128 ∷ 131 ∷ 97 ∷ []) ≡ ((3, 4) ∷ [])
 unfolding leftmost_from char_at chars
 split_whitespace-wide = refl
