@@ -1,4 +1,4 @@
--- What a call that makes the JSON string of a path may answer (RFC 8259: a string is a text). A value is seen as serde_json's `Data` sees it.
+-- The answers of calls that make the JSON string of a path (RFC 8259: a string is a text). A value is seen as serde_json's `Data` sees it.
 use Rattle.std.specs.Prelude.{◌≡◌, ℕ, List, Result, Ok, Err, IsUtf8}
 use Rattle.serde_json.specs.Data.{string}
 use Rattle.serde_json.specs.View.{view}
