@@ -1,8 +1,8 @@
--- What clauses see of a reader or writer that fails at one call.
+-- A reader or writer that fails at one call, as clauses see it.
 use Rattle.std.specs.Prelude.{ℕ}
 use Rattle.hip_raw.specs.declared.fuse.Fuse.{Fuse}
 
--- what it stands around
+-- the reader or writer that the fuse stands around
 abbrev pub inner_of : {T : Type 0} → Fuse T → T
 inner_of fuse = fuse.inner
 
