@@ -90,7 +90,7 @@ spelled-lone u us (c ∷ cs) small apart spells later =
       flat_map-cons encode_utf16 c cs ∙ ap (λ xs. xs ++ flat_map encode_utf16 cs) (ap encode_utf16 (sym here) ∙ encode-unit u small) ∙ ap (λ xs. u ∷ xs) more.1,
     )
 
--- the same of the first unit and the next, where it holds of fewer
+-- units encode the characters that they spell, by the first unit and the next one, where fewer units do
 spelled-next : (n u : ℕ) (us cs : List ℕ) → ((vs ds : List ℕ) → length vs ≤ n → All IsUnit vs → Spells vs ds → Encodes vs ds)
     → length us ≤ n → All IsUnit (u ∷ us) → Spells (u ∷ us) cs → Pair u (get_or us 0 0) ⊎ (Pair u (get_or us 0 0) → ⊥) → Encodes (u ∷ us) cs
 spelled-next n u us cs fewer fits fit spells (inr apart) =

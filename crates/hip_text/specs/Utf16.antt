@@ -1,4 +1,4 @@
--- What a call that reads units of UTF-16 as a text may answer (Unicode's UTF-16; Rust's `char::decode_utf16`).
+-- The answers of calls that read units of UTF-16 as a text (Unicode's UTF-16; Rust's `char::decode_utf16`).
 use Rattle.std.specs.Prelude.{◌≡◌, ◌↔◌, ◌+◌, ◌<◌, ◌≤◌, ℕ, suc, List, [], ◌∷◌, ◌++◌, map, length, Option, Some, None, Result, Ok, Err, refl}
 use Rattle.std.specs.Char.Escape.{encode_utf16}
 use Rattle.std.specs.Char.Utf16.{utf16_chars}
