@@ -59,7 +59,7 @@ pub end-of-end : (text rest before mark behind : List ℕ) → IsEnd text rest �
 end-of-end text rest before mark behind end joined =
     (end.0 ++ (before ++ mark), end.1 ∙ ap (λ (l : List ℕ). end.0 ++ l) (joined ∙ sym (append_assoc before mark behind)) ∙ sym (append_assoc end.0 (before ++ mark) behind))
 
--- what lies before the first occurrence of a text and behind it
+-- the texts before and behind the first occurrence of a text
 pub parted-at : (mark text : List ℕ) (m : ℕ × ℕ) → StartsFirst (text_ends mark text) 0 m → IsCut text m × IsParted mark text (slice_range text 0 m.0) (drop m.1 text)
 unfolding text_ends
 parted-at mark text m found =
@@ -88,7 +88,7 @@ pub mark-fits : (mark text rest before behind shown : List ℕ) (n : ℕ) → le
 mark-fits mark text rest before behind shown n two is parted same size =
     omega (arith, two, size, ap length same, ap length is.1, length-append is.0 rest, ap length parted.joined, length-append before (mark ++ behind), length-append mark behind)
 
--- what lies before such a mark
+-- the text before such a mark
 pub mark-lies : (mark text rest before behind part shown : List ℕ) (n : ℕ) → length mark ≡ 2 → IsUtf8 mark → IsEnd text rest → IsParted mark rest before behind
     → part ≡ before → shown ≡ behind → IsUtf8 shown → n ≡ length text → LiesBefore text part (n - length shown - 2)
 mark-lies mark text rest before behind part shown n two mark_utf8 is parted part_is same utf8 size = record {
@@ -99,7 +99,7 @@ mark-lies mark text rest before behind part shown n two mark_utf8 is parted part
   utf8 = IsUtf8-append mark behind mark_utf8 (subst IsUtf8 same utf8);
 }
 
--- what lies behind a mark
+-- the text behind a mark
 pub behind-lies : (text behind shown : List ℕ) (n : ℕ) → IsEnd text behind → shown ≡ behind → n ≡ length text → LiesBefore text shown n
 behind-lies text behind shown n end same size =
     subst (λ (l : List ℕ). LiesBefore text l n) (sym same) (subst (λ (k : ℕ). LiesBefore text behind k) (sym size) (end-lies text behind end))
@@ -110,7 +110,7 @@ opening-utf8 = IsUtf8-from_ascii opening (search rules)
 pub closing-utf8 : IsUtf8 closing
 closing-utf8 = IsUtf8-from_ascii closing (search rules)
 
--- the same hole, of other handles
+-- a hole is the first of a text where its handles have the bytes before it and of its name
 pub same-hole : {B S P : Type 0} (text before name : List ℕ) (behind : List ℕ) (hole : Hole B S P) (after : Bor (List ℕ)) → IsParted opening text before behind → IsParted closing behind name after.now
     → hole.before.items ≡ before → hole.name.items ≡ name → FirstHole text (Ok (Some (hole, after)))
 same-hole text before name behind hole after opens closes is_before is_name = (

@@ -1,4 +1,4 @@
--- What a table is: the bytes of its header and of its rows.
+-- A table: the bytes of its header and of its rows.
 use Rattle.std.specs.Prelude.{◌≡◌, ◌≢◌, ◌⊎◌, ℕ, ◌+◌, ◌<◌, ◌≤◌, List, [], ◌∷◌, length, map, slice_get, Some}
 use Rattle.hipstr.specs.Handle.{Handle}
 use Rattle.hip_uses.specs.declared.fault.TableFault.{TableFault}

@@ -1,4 +1,4 @@
--- What a template is, as it is written and as it is filled.
+-- A template, as it is written and as it is filled.
 use Rattle.std.specs.Prelude.{◌≡◌, ℕ, ◌+◌, nat_eq, List, [], ◌∷◌, ◌++◌, length, Option, None, Some, Result, Ok, Err, IsSome, All, codes, map, if◌then◌else◌}
 use Rattle.std.specs.List.{flat_map}
 use Rattle.std.specs.Map.{lookup}
@@ -33,11 +33,11 @@ hole_written hole = hole.before.items ++ (opening ++ (hole.name.items ++ closing
 abbrev pub written : {B S P : Type 0} → List (Hole B S P) → List ℕ
 written holes = flat_map hole_written holes
 
--- what goes under a name
+-- the value under a name
 abbrev pub value_of : List (Handle × Handle) → List ℕ → Option Handle
 value_of values name = lookup (λ key. pointwise nat_eq name key.items) values
 
--- what goes under a name once this value goes under that one
+-- the value under a name once another value is set
 abbrev pub value_with : List (Handle × Handle) → List ℕ → Handle → List ℕ → Option Handle
 value_with values name value other = if pointwise nat_eq name other then Some value else value_of values other
 
@@ -56,7 +56,7 @@ value_in values hole = option_map_or bytes_of (value_of values hole.name.items) 
 abbrev pub values_in : {B S P : Type 0} → List (Handle × Handle) → List (Hole B S P) → List (List ℕ)
 values_in values holes = map (value_in values) holes
 
--- what lies before each hole, and behind it its value
+-- the text before each hole, and behind it the hole's value
 abbrev pub woven : {B S P : Type 0} → List (Hole B S P) → List (List ℕ) → List (List ℕ)
 woven [] values = []
 woven (hole ∷ holes) [] = []

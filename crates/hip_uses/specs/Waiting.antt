@@ -1,4 +1,4 @@
--- What a queue is seen as: the bytes of the messages that wait, and how many may.
+-- A queue as contracts see it: the bytes of the messages that wait, and how many may.
 use Rattle.std.specs.Prelude.{◌≡◌, ℕ, ◌<◌, List, [], ◌∷◌, ◌++◌, length, map}
 use Rattle.hipstr.specs.Handle.{Handle}
 
