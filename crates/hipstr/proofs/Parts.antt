@@ -181,7 +181,7 @@ drop-next default (part ∷ parts) (suc i) within = drop-next default parts i (o
 next-is : (i : ℕ) → suc i ≡ i + 1
 next-is i = omega arith
 
--- the same, where a loop counts on
+-- like `empties-next`, where a loop counts on
 pub empties-on : (slots : List SlotState) (i : ℕ) (slot : SlotState) → i < length slots → slot ≡ empty_slot → take i slots ≡ replicate i empty_slot
     → take (i + 1) (slice_set slots i slot) ≡ replicate (i + 1) empty_slot
 empties-on slots i slot within is so_far = subst (λ n. take n (slice_set slots i slot) ≡ replicate n empty_slot) (next-is i) (empties-next slots i slot within is so_far)

@@ -37,7 +37,8 @@ abbrev pub PushesArePaid : Bool → List SlotState → Command → List SlotStat
 PushesArePaid shares old command new before after =
     shares ≡ false → MatchOption (pushed_onto_owner old command) (Unit {0}) (λ added. after + pots new ≤ before + pots old + 3 * added)
 
--- what a step adds to the amortised cost: such a push three times its addition, any other command its cost and what the pots rise by
+-- a step's addition to the amortised cost: such a push three times the bytes that it adds, any other command its cost and what the pots
+-- rise by
 abbrev pub CostsAmortised : Bool → List SlotState → Command → List SlotState → ℕ → Type 0
 CostsAmortised shares old command new amortised =
     MatchOption (pushed_onto_owner old command) ((cost : ℕ) × Costs shares old command cost × (amortised ≡ cost + rises old new)) (λ added. amortised ≡ 3 * added)

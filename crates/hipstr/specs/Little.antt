@@ -7,7 +7,7 @@ use Rattle.hipstr.specs.Step.{drawn_of}
 use Rattle.hipstr.specs.declared.command.Command.{Command}
 use Rattle.hipstr.specs.declared.command.Command.TheVariants.{Clone, Slice, Trim, TrimMatches, Strip, Pieces, Once}
 
--- what a command makes parts of, and how many: a clone, a slice, a trim and a strip make one
+-- the handle that a command makes parts of, and the number of parts: a clone, a slice, a trim and a strip make one
 abbrev pub parts_made : List SlotState → Command → Option (Handle × ℕ)
 parts_made slots (Clone s t) = Some (slot_at slots s, 1)
 parts_made slots (Slice s t low high) = Some (slot_at slots s, 1)

@@ -7,7 +7,7 @@ use Rattle.hip_bytes.specs.declared.kind.TheConstants.{INLINE_CAPACITY}
 use Rattle.hipstr.specs.declared.pool.Slot.{Slot}
 use Rattle.hipstr.specs.declared.pool.Slot.TheVariants.{Bytes, Text}
 
--- what a slot of a pool is to the machine
+-- a slot of a pool, as the machine sees it
 pub record SlotState : Type 0 where
   pub is_text : Bool
   pub handle : Handle

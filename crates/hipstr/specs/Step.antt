@@ -92,7 +92,7 @@ slots_fault slots first count = if nat_le (first + count) (length slots) then No
 abbrev pub overlap_fault : ℕ → ℕ → ℕ → Option Reason
 overlap_fault s first count = if nat_le first s && nat_lt s (first + count) then Some Overlap else None
 
--- what comes from one end alone
+-- the fault of asking the other end of pieces that come from one end alone
 abbrev pub one_end_fault : Bool → Option Reason
 one_end_fault is_asked = if is_asked then Some OneEnd else None
 
@@ -289,12 +289,12 @@ SlotPops old (Char c) new = (old.is_text ≡ true) × (new.is_text ≡ true) × 
 SlotPops old Nothing new = (old.handle.items ≡ []) × (new ≡ old)
 SlotPops old answer new = ⊥
 
--- what is made at most where there is something to make
+-- the cost of something that there may be
 abbrev pub option_cost : {A : Type 0} → (A → ℕ) → Option A → ℕ
 option_cost cost None = 0
 option_cost cost (Some a) = cost a
 
--- what a Mutate copies at most: all bytes out of the slot, and in again
+-- the bytes that a Mutate copies at most: all out of the slot, and in again
 abbrev pub mutate_cost : Bool → ℕ → ℕ → ℕ
 mutate_cost shares len added = len + (if shares then INLINE_CAPACITY else len + added)
 
@@ -323,7 +323,7 @@ copies_of shares slots (Once s t u end pattern) =
 -- any other copies none
 copies_of shares slots command = 0
 
--- what is copied unless there is a fault, and then none
+-- the bytes that are copied, none where there is a fault
 abbrev pub unless : Option Reason → ℕ → ℕ
 unless fault copied = if is_none fault then copied else 0
 
@@ -331,7 +331,7 @@ unless fault copied = if is_none fault then copied else 0
 abbrev pub cost_of : Bool → List SlotState → Command → ℕ
 cost_of shares slots command = unless (fault_of slots command) (copies_of shares slots command)
 
--- so many bytes does a command copy at most: a trim as many as the part that it leaves, any other its cost
+-- the bytes that a command copies at most: a trim as many as the part that it leaves has, any other its cost
 abbrev pub Costs : Bool → List SlotState → Command → ℕ → Type 0
 Costs shares slots (Trim s t side) cost =
     MatchOption (fault_of slots (Trim s t side))
