@@ -6,10 +6,10 @@ use hipstr::bytes::HipByt;
 use hipstr::{Backend, Rc, Unique};
 use std::alloc::Global;
 
-/// How many bytes the values have that are cloned, cut and written.
+/// The number of bytes of the values that are cloned, cut and written.
 const LONG: usize = 1024;
 
-/// How many bytes an inline value has, and a short part.
+/// The number of bytes of an inline value, and of a short part.
 const SHORT: usize = 10;
 
 /// A copy of the first bytes of the input.

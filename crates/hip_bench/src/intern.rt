@@ -15,7 +15,7 @@ trait Numbers<K: Drop>: Drop {
     /// The number under which a word stands in the map, where it is put if it isn't there.
     fn number(&mut self, word: K) -> Option<u64>;
 
-    /// How many words there are.
+    /// The number of words.
     fn count(&self) -> u64;
 }
 

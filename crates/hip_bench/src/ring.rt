@@ -5,7 +5,7 @@ use hipstr::Backend;
 use hipstr::bytes::HipByt;
 use std::alloc::{AllocError, Global};
 
-/// How many values a ring keeps.
+/// The number of values that a ring keeps.
 const PLACES: u64 = 64;
 
 /// The bytes in a mebibyte.

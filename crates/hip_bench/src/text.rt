@@ -6,7 +6,7 @@ use hipstr::string::HipStr;
 use std::alloc::Global;
 use std::str;
 
-/// How many positions of characters the slices begin at.
+/// The number of positions of characters that slices begin at.
 const STARTS: usize = 1010;
 
 /// The positions of the first characters of a text.
