@@ -151,7 +151,7 @@ impl<'b, B: Backend> HipByt<'b, B> {
         self.push_slice_metered(alloc, &[byte], meter)
     }
 
-    /// Keeps the first bytes, as many as are told, or all where there are no more.
+    /// Keeps the first `len` bytes, or all where there are fewer.
     #[inline]
     pub fn truncate(&mut self, len: usize)
         ensures shortened { IsShortened self.old self.new len }
@@ -177,7 +177,7 @@ impl<'b, B: Backend> HipByt<'b, B> {
         }
     }
 
-    /// Lets go of all bytes.
+    /// Removes all bytes.
     #[inline]
     pub fn clear(&mut self)
         ensures shortened { IsShortened self.old self.new 0 }
