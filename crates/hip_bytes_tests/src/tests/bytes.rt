@@ -113,7 +113,7 @@ pub trait Bytes: Source + Hash + Ord + fmt::Debug {
 
     fn slice_to(&self, alloc: Global, end: usize) -> Part<Self>;
 
-    /// Of an inclusive range.
+    /// `slice` of an inclusive range.
     fn slice_through(&self, alloc: Global, start: usize, last: usize) -> Part<Self>;
 
     fn slice_full(&self, alloc: Global) -> Result<Self, AllocError>;
@@ -122,7 +122,7 @@ pub trait Bytes: Source + Hash + Ord + fmt::Debug {
 
     fn slice_unchecked(&self, alloc: Global, range: Range<usize>) -> Part<Self>;
 
-    /// Of an inclusive range that has no start.
+    /// `slice_unchecked` of an inclusive range that has no start.
     fn slice_unchecked_through(&self, alloc: Global, last: usize) -> Part<Self>;
 
     fn slice_unchecked_metered(

@@ -173,7 +173,7 @@ fn unchecked_slices<H: Bytes>(rt: &impl Abort, alloc: Global) {
     part_is(rt, handle.slice_unchecked_through(alloc, 1), b"ab");
 }
 
-/// Of 23 bytes each is copied into the new handle.
+/// A slice of 23 bytes copies each into the new handle.
 fn short_slice<H: Bytes>(rt: &impl Abort, alloc: Global) {
     let letters = must(rt, H::from_slice(alloc, LETTERS));
     let mut meter = Meter::new();
@@ -183,7 +183,7 @@ fn short_slice<H: Bytes>(rt: &impl Abort, alloc: Global) {
     assert_eq!(rt; meter.copied(), 23);
 }
 
-/// Of 24 bytes none is copied where owners are shared, and the slice outlives what it was cut from.
+/// A slice of 24 bytes copies none where owners are shared, and outlives the handle that it was cut from.
 fn long_slice<H: Bytes>(rt: &impl Abort, alloc: Global) {
     let letters = must(rt, H::from_slice(alloc, LETTERS));
     let mut meter = Meter::new();

@@ -79,7 +79,7 @@ fn a_vector_goes_in_and_out(rt: HostRuntime) {
     run_on_unique::<GoesInAndOut>(&rt, rt.alloc());
 }
 
-/// Appends that fit, and a loan for writing, take no memory: the capacity stays.
+/// Appends that fit, and a loan for writing, allocate nothing: the capacity stays.
 struct IsFilled;
 
 impl Suite for IsFilled {
