@@ -55,7 +55,7 @@ fn between_digits<'b, B: Backend>(
     parts(alloc, text, digits)
 }
 
-/// How many fields a line has.
+/// The number of fields of a line.
 fn count_fields<'b, B: Backend>(alloc: Global, line: &HipStr<'b, B>) -> Result<usize, AllocError>
     ensures { IfOk result
         (λ count. count

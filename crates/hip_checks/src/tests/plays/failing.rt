@@ -75,7 +75,7 @@ impl Read for Starved {
     }
 }
 
-/// Want of memory is told as such, whoever wants it.
+/// A refusal of memory is told as such, whoever asked for it.
 #[test]
 fn starved_reader(rt: HostRuntime) {
     let mut out = Vec::new(rt.alloc());
