@@ -96,7 +96,7 @@ impl<'h, S: Source, I: Ranges> Pieces<'h, S, I> {
     }
 }
 
-/// A clone gives the pieces once more. It wants memory only where a clone of the ranges may, which is where one of their pattern may.
+/// A clone gives the pieces once more. It may allocate only where a clone of the ranges may: where a clone of their pattern may.
 impl<'h, S: Source, I: CloneRanges> Clone for Pieces<'h, S, I> {
     ghost is_clone = { λ pieces copy. copy ≡ pieces };
 
@@ -188,7 +188,7 @@ impl<'h, 'b, B: Backend, I: Unnumbered> Pieces<'h, HipStr<'b, B>, I> {
 }
 
 impl<'h, 'b, B: Backend, I: Unnumbered + Drop> Pieces<'h, HipStr<'b, B>, I> {
-    /// All pieces that are left, in a vector, which wants memory besides what the pieces want.
+    /// All pieces that are left, in a vector, which is allocated besides what the pieces allocate.
     pub fn collect(self) -> Result<Vec<HipStr<'b, B>>, AllocError>
         ensures { IfOk result (λ pieces. AreParts self.entry.source self.entry.rest pieces.items) }
     {
@@ -291,7 +291,7 @@ impl<'h, 'b, B: Backend, P: Pattern> Pieces<'h, HipStr<'b, B>, MatchIndices<'h, 
         self.first_match(meter)
     }
 
-    /// All matches that are left, in a vector, which wants memory besides what the pieces want.
+    /// All matches that are left, in a vector, which is allocated besides what the pieces allocate.
     pub fn collect(self) -> Result<Vec<(usize, HipStr<'b, B>)>, AllocError>
         ensures { IfOk result
             (λ matches. AreMatches self.entry.source self.entry.rest matches.items) }
@@ -392,7 +392,7 @@ impl<'h, 'b, B: Backend, P: ReversePattern> Pieces<'h, HipStr<'b, B>, RMatchIndi
         self.first_match(meter)
     }
 
-    /// All matches that are left, in a vector, which wants memory besides what the pieces want.
+    /// All matches that are left, in a vector, which is allocated besides what the pieces allocate.
     pub fn collect(self) -> Result<Vec<(usize, HipStr<'b, B>)>, AllocError>
         ensures { IfOk result
             (λ matches. AreMatches self.entry.source self.entry.rest matches.items) }

@@ -11,7 +11,7 @@ use hip_match::ranges::{Ranges, RangesBack};
 use hip_text::{Backend, HipStr, Meter};
 use std::alloc::{AllocError, Global};
 
-/// The pieces of a source at the ranges that `I` gives, each with its position: what a function holds that made the ranges by a closure.
+/// The pieces of a source at the ranges that `I` gives, each with its position. A function that made the ranges by a closure holds these.
 #[derive(Drop)]
 pub struct PiecesAt<'h, S, I> {
     source: &'h S,

@@ -58,7 +58,7 @@ pub trait TextCuts<B: Backend>: Source {
         ensures rest { result.rest
             ≡ found_in (Self.handle self.now) split_terminator (P.ends pattern) };
 
-    /// At most `count` parts, of which the last of so many runs on to the end.
+    /// At most `count` parts. Where there are `count`, the last of them runs on to the end.
     fn splitn<'h, P: Pattern>(
         &'h self,
         alloc: Global,
@@ -111,7 +111,7 @@ pub trait TextCuts<B: Backend>: Source {
         ensures rest { result.rest
             ≡ found_in (Self.handle self.now) rsplit_terminator (P.ends pattern) };
 
-    /// At most `count` parts from the end, of which the last of so many runs on to the front.
+    /// At most `count` parts from the end. Where there are `count`, the last of them runs on to the front.
     fn rsplitn<'h, P: ReversePattern>(
         &'h self,
         alloc: Global,
