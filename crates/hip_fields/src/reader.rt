@@ -19,7 +19,7 @@ pub struct Records<'h, S: Source, I: Ranges> {
     source: &'h S,
     lines: I,
     separator: char,
-    /// How many fields the last record had.
+    /// The number of fields of the last record.
     room: usize,
 }
 
@@ -132,7 +132,7 @@ impl<'h, 'b, B: Backend, I: Ranges + Drop> Records<'h, HipStr<'b, B>, I> {
     }
 }
 
-/// How many fields were drawn.
+/// The number of fields that were drawn.
 fn count_of<T, E>(drawn: &Result<Vec<T>, E>) -> usize {
     match drawn {
         Ok(fields) => fields.len(),
