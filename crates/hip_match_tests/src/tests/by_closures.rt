@@ -71,7 +71,7 @@ fn capturing_closure(rt: HostRuntime) {
     );
 }
 
-// That `wanted` alone passes.
+// Answers by which `wanted` alone passes.
 fn chosen_for(wanted: char) -> Chosen
     ensures { (c : ℕ) → IsScalar c → answer_at result.answers c ≡ (c == wanted) }
 {

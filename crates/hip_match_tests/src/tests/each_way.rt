@@ -48,7 +48,7 @@ pub(crate) fn each_drawn() -> &'static [Drawn] {
 /// The matches, drawn from the front and the back in turn.
 const LEFTMOST: &[(usize, usize)] = &[(0, 2), (8, 10), (2, 4), (5, 7)];
 
-/// The rightmost matches, drawn so.
+/// The rightmost matches, drawn from the front and the back in turn.
 const RIGHTMOST: &[(usize, usize)] = &[(8, 10), (0, 2), (5, 7), (2, 4)];
 
 /// Each walk over matches, with the matches drawn from the front and the back in turn.
@@ -83,7 +83,7 @@ fn draws_by_turns<R: RangesBack + Drop>(rt: &impl Abort, mut ranges: R, want: &[
     assert_eq!(rt; &drawn[..4], want);
 }
 
-/// Asserts what a walk over matches draws so.
+/// Asserts which matches a walk draws from the front and the back in turn.
 pub(crate) fn matches_by_turns<P: OneChar>(
     rt: &impl Abort,
     kind: Walk,

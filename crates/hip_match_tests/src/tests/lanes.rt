@@ -118,7 +118,7 @@ fn one_space_at_each_place(rt: HostRuntime) {
     }
 }
 
-/// Of each kind, alone and in runs, beside bytes that are near to them: vertical tab, zero, those of characters past ASCII.
+/// White space of each kind, alone and in runs, beside bytes that are near to it: vertical tab, zero, those of characters past ASCII.
 const MIXED: &str =
     "a b\tc\nd\x0Ce\rf\x0Bg  h\r\n\r\nвеч\u{a0}ер \u{85}\u{2003} no\0 white\x08space\x0E!\x1F here   but\x7F \u{109}\u{10a}\u{10c}\u{10d}\u{120} there \
     \t\t\t\t and\nwhat\nfollows is\none\x0Cword\ra\tline\u{3000}日本 語 and a last one  of words that go on over the end of\tblocks ";
