@@ -42,7 +42,7 @@ const BYTES: &[(&[u8], &[u8])] = &[
     ),
 ];
 
-/// How many bytes there are, and the first four of their form by the same crate, before the bytes themselves.
+/// A number of bytes, and the first four of their form by the same crate, before the bytes themselves.
 const LENGTHS: &[(usize, [u8; 4])] = &[
     (255, [255, 0, 0, 0]),
     (256, [0, 1, 0, 0]),

@@ -64,13 +64,13 @@ pub trait Name: Handle + Source + Hash + Ord + fmt::Debug {
     /// By each `From`: to the other type, from it to a byte string, and back.
     fn there_and_back(self) -> Self;
 
-    /// Of a text that is lent for a while.
+    /// `into_owned` of a text that is lent for a while.
     fn borrowed_into_owned(alloc: Global, text: &str) -> Result<Self, AllocError>;
 
-    /// Of an OS string.
+    /// `with_capacity` and `push` of an OS string.
     fn with_capacity_push(alloc: Global, capacity: usize, text: &str) -> Result<Self, AllocError>;
 
-    /// Of the byte string.
+    /// `into_cow` of the byte string.
     fn into_cow(self, alloc: Global) -> Result<CowSlice<'static, u8>, AllocError>;
 
     /// Whether the text is this, by `str_eq`, and where it lies.

@@ -20,7 +20,7 @@ const STARS: &str = "******************************************";
 #[derive(Clone, Copy)]
 enum Way {
     Taken,
-    /// Of a string that has room for 42 bytes.
+    /// Taken over from a string with room for 42 bytes.
     TakenWithRoom,
     Copied,
     Lent,
@@ -49,7 +49,7 @@ fn made<N: Name>(rt: &impl Abort, alloc: Global, way: Way, text: &'static str) -
     }
 }
 
-/// Of a string that had room for so many bytes.
+/// A name that takes over a string with room for `room` bytes.
 fn taken<N: Name>(rt: &impl Abort, alloc: Global, room: usize, text: &str) -> N {
     let mut string = must(rt, String::with_capacity(alloc, room));
     must(rt, string.push_str(text));
@@ -94,7 +94,7 @@ fn plain<N: Name>(rt: &impl Abort) {
     is(rt, N::borrowed("0123456789"), "0123456789", Kind::Borrowed);
 }
 
-/// How many bytes are copied, and where they lie then.
+/// A number of bytes that are copied, and where they lie then.
 const LENGTHS: &[(usize, Kind)] = &[
     (0, Kind::Inline),
     (1, Kind::Inline),
@@ -384,7 +384,7 @@ fn on_paths<N: Name>(rt: &impl Abort, alloc: Global) {
     hostile::of_paths::<N>(rt);
 }
 
-// That a name is what the tests ask of it costs seconds, and more in a function that is generic in the backend.
+// The proof that a type is a `Name` costs seconds, and more in a function that is generic in the backend.
 
 #[test]
 fn os_strings_are_handles_of_bytes(rt: HostRuntime) {
