@@ -17,7 +17,7 @@ pub enum Appended {
     Memory,
 }
 
-// Cuts the vector to `keep` bytes and puts the addition behind them. Room is taken first, so a refusal changes nothing.
+// Cuts the vector to `keep` bytes and puts the addition behind them. Room is reserved first, so a refusal changes nothing.
 #[inline(always)]
 pub(crate) fn append_to(
     vec: &mut Vec<u8>,

@@ -92,7 +92,7 @@ fn fill_range(cells: &mut Cells<u8>, base: Base<u8>, from: usize, count: usize)
 impl Buffer {
     ghost use Rattle.hip_raw.specs.BufferLends.{LendsBuffer};
 
-    /// No bytes, and room for so many.
+    /// No bytes, with room for `capacity`.
     #[inline]
     pub(crate) fn with_capacity(alloc: Global, capacity: usize) -> Result<Self, AllocError>
         ensures items { IfOk result (λ made. made.items ≡ []) }
@@ -125,7 +125,7 @@ impl Buffer {
         Ok(buffer)
     }
 
-    /// How many bytes it can hold with no new memory.
+    /// The number of bytes that it can hold without allocating.
     #[inline]
     pub(crate) fn capacity(&self) -> usize
         ensures capacity { result ≡ self.now.capacity }
@@ -196,7 +196,7 @@ impl Buffer {
         fill_at(self.as_mut_slice(), keep, addition, meter);
     }
 
-    /// Cuts to `keep` bytes and puts the addition behind them. Room is taken before anything changes.
+    /// Cuts to `keep` bytes and puts the addition behind them. Room is reserved before anything changes.
     #[inline(always)]
     pub(crate) fn append(
         &mut self,

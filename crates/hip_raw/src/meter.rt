@@ -31,7 +31,7 @@ impl Meter {
         Meter { copied: 0 }
     }
 
-    /// How many bytes were counted.
+    /// The number of bytes that were counted.
     #[inline]
     pub fn copied(&self) -> u128
         ensures { result ≡ self.now }
@@ -104,8 +104,8 @@ pub(crate) fn fill_at(room: &mut [u8], at: usize, bytes: &[u8], meter: &mut Mete
     at
 }
 
-// Copies the first `width` bytes, where there are so many, and hands back what is left and where it goes. Where `width` is a constant
-// that is a single move.
+// Copies the first `width` bytes, if there are that many, and answers the position behind them and the bytes that are left. Where `width`
+// is a constant, that is a single move.
 #[inline(always)]
 fn fill_width<'a>(
     room: &mut [u8],
