@@ -75,7 +75,7 @@ fn is_by_length<B: Backend>(slot: &Slot<'_, B>, bytes: &[u8]) -> bool {
             }
 }
 
-/// Whether two slots at a position hold the same, save what may differ.
+/// Whether two slots at a position hold the same, but for what may differ.
 fn is_alike<B: Backend>(slot: &Slot<'_, B>, other: &Slot<'_, B>, at: usize, apart: Apart) -> bool {
     let is_like = match apart {
         Apart::Room(t) if t == at => is_by_length(slot, other.as_bytes()),
@@ -87,7 +87,7 @@ fn is_alike<B: Backend>(slot: &Slot<'_, B>, other: &Slot<'_, B>, at: usize, apar
     is_same(slot, other) || is_like && slot.is_text() == other.is_text()
 }
 
-/// Asserts that two pools hold the same, save what may differ.
+/// Asserts that two pools hold the same, but for what may differ.
 fn are_same<B: Backend>(rt: &impl Abort, pool: &Pool<'_, B>, other: &Pool<'_, B>, apart: Apart) {
     for i in 0..SLOTS {
         let slot = must(rt, pool.slot(i).ok_or("no slot"));

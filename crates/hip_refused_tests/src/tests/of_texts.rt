@@ -60,7 +60,8 @@ impl<B: Backend> Handle for HipStr<'static, B> {
     fn copy(&self, rt: &impl Abort, alloc: Global, copying: Copying) -> Result<Self, AllocError> {
         match copying {
             Copying::Clone => self.clone(alloc),
-            // That the whole is a range of the text is found out first, which takes memory as the slice does.
+            // Whether the whole is a range of the text is tested first, which allocates as the
+            // slice does.
             Copying::Slice => match self.try_slice(alloc, ..) {
                 Ok(_) => self.slice(alloc, ..),
                 Err(_) => Err(AllocError),

@@ -1,4 +1,4 @@
-//! A script, played to a writer that takes no memory: whatever request is refused, that is the fault that is told.
+//! A script, played to a writer that doesn't allocate: whatever request is refused, that is the fault that is told.
 use super::refusing::{each, refuse, was_refused};
 use hip_script::PlayFault;
 use hip_script::play::play;

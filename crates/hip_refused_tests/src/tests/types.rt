@@ -1,4 +1,4 @@
-//! The calls of each type that can take memory.
+//! The calls of each type that may allocate.
 use super::calls::{Call, on_both};
 use super::handle::{Change, Conversion, Copying, Cut, Lending, Making, Taking, Telling};
 use hipstr::bytes::HipByt;
