@@ -15,9 +15,9 @@ use std::str;
 pub(crate) enum Aside {
     /// Prints the slot's bytes.
     Show(usize),
-    /// Prints how many bytes were copied so far.
+    /// Prints the number of bytes that were copied so far.
     Copied,
-    /// Prints the records of the slot's text, whose fields lie between such characters.
+    /// Prints the records of the slot's text, whose fields lie between these characters.
     Fields(usize, char),
 }
 

@@ -114,14 +114,14 @@ pub(crate) enum Follows {
     CountAndPattern,
 }
 
-/// A name, what it tells to do, and the words that follow it.
+/// A name, its verb, and the kinds of the words that follow it.
 pub(crate) type Row = (&'static str, (Verb, &'static [Word]));
 
 const LITERAL: Word = Word::Quoted(Quote::Bytes);
 
 const SEPARATOR: Word = Word::Quoted(Quote::Char);
 
-/// Every line that there is, by the first letter of its name.
+/// All lines that there are, by the first letters of their names.
 static ROWS: [Row; 34] = [
     ("borrow", (Verb::Borrow, &[Target, LITERAL])),
     ("bytes", (Verb::Bytes, &[Target])),

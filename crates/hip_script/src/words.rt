@@ -115,7 +115,7 @@ impl<'l> Words<'l> {
     }
 }
 
-/// Where the first space stands. Words are short, so a look at each byte costs less than a search.
+/// The position of the first space. Words are short, so a look at each byte costs less than a search.
 fn space_at(text: &[u8]) -> Option<usize>
     ensures { IsFirstByte (is_byte 32) text.now result }
 {
