@@ -13,14 +13,14 @@ use hip_cuts::hip_match::split::Split;
 use hip_cuts::{Backend, HipStr, PiecesAt, Rc, TextCuts, Unique, Walk};
 use std::alloc::{AllocError, Global};
 
-/// That the digits pass.
+/// Answers by which the digits pass.
 fn chosen_digits() -> Chosen
     ensures { (c : ℕ) → IsScalar c → answer_at result.answers c ≡ is_ascii_digit c }
 {
     choose_by(&())
 }
 
-/// That `wanted` alone passes.
+/// Answers by which `wanted` alone passes.
 pub(crate) fn chosen_for(wanted: char) -> Chosen
     ensures { (c : ℕ) → IsScalar c → answer_at result.answers c ≡ (c == wanted) }
 {

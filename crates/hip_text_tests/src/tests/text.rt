@@ -121,7 +121,7 @@ pub trait Text: Hash + Ord + Drop {
     /// With a lent text of `Unique`.
     fn cmp_with(&self, other: &str) -> Ordering;
 
-    /// Of two texts that are lent for a while.
+    /// `cmp` of two texts that are lent for a while.
     fn cmp_borrowed(left: &str, right: &str) -> Ordering;
 }
 
