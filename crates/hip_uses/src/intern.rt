@@ -61,7 +61,7 @@ impl<'b, B: Backend, S: BuildHasher> Interner<'b, B, S> {
         }
     }
 
-    /// How many different texts there are.
+    /// The number of different texts.
     pub fn len(&self) -> usize
         ensures { result ≡ length self.now }
     {

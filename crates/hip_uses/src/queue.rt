@@ -14,7 +14,7 @@ use std::alloc::{AllocError, Global};
 use std::collections::VecDeque;
 use std::marker::Model;
 
-/// The messages that one subscriber has still to receive: at most so many, with room for all of them.
+/// The messages that one subscriber has still to receive: at most a number that is fixed, with room for all of them.
 #[derive(Drop)]
 pub struct Queue<'b, B: Backend> {
     messages: VecDeque<HipByt<'b, B>>,
@@ -36,7 +36,7 @@ impl<'b, B: Backend> Model for Queue<'b, B> {
 }
 
 impl<'b, B: Backend> Queue<'b, B> {
-    /// A queue of at most so many messages.
+    /// A queue of at most `limit` messages.
     pub fn new(alloc: Global, limit: usize) -> Result<Self, AllocError>
         ensures { IfOk result (λ queue. queue ≡ record { messages = []; limit = limit }) }
     {

@@ -12,7 +12,7 @@ use hipstr::string::HipStr;
 use std::alloc::{AllocError, Global};
 use std::hash::BuildHasher;
 
-/// That nothing goes under this name.
+/// The fault of a name that has no value.
 fn unknown<'b, B: Backend>(alloc: Global, name: &HipStr<'b, B>) -> TemplateFault<'b, B>
     ensures { IsUnknown name.now.items result }
 {
@@ -87,7 +87,7 @@ fn pieces_of<'v, 'b, B: Backend>(
     Ok(pieces)
 }
 
-/// The text of a template with each hole filled. Each different name is looked up once, and memory for the text is asked for once.
+/// The text of a template with each hole filled. Each different name is looked up once, and the text is allocated once.
 pub fn fill<'v, 'b, B: Backend, S: BuildHasher>(
     alloc: Global,
     template: &'v Template<'b, B>,

@@ -5,7 +5,7 @@ use std::alloc::{AllocError, Global};
 use std::collections::BTreeMap;
 use std::hash::{BuildHasher, BuildHasherDefault, FoldHasher};
 
-/// For each hole the place of the last one before it of its name, or its own where there is none.
+/// For each hole the position of the last earlier hole with its name, or its own where there is none.
 ///
 /// The names are kept in the order of their hashes, which are compared in one step, and names that share a hash in the order of their
 /// bytes. So no choice of names makes this quadratic, though the hash has a fixed seed.
