@@ -1,5 +1,5 @@
--- Borsh's form of a list of bytes, and what a call that writes or reads one may answer. (The specification at borsh.io: a `u32` is four
--- bytes, the least first; a dynamic container is its length as a `u32` and then its items; a text's form is that of its bytes.)
+-- Borsh's form of a list of bytes, and the answers of calls that write or read one. (The specification at borsh.io: a `u32` is four bytes,
+-- the least first; a dynamic container is its length as a `u32` and then its items; a text's form is that of its bytes.)
 use Rattle.std.specs.Prelude.{◌≡◌, ℕ, ◌+◌, ◌-◌, ◌^◌, ◌<◌, ◌≤◌, ◌⊎◌, List, [], ◌∷◌, ◌++◌, length, drop, Option, Some, Result, Ok, Err, codes, refl}
 use Rattle.std.specs.Int.{w32, to_le_bytes, from_le_bytes}
 use Rattle.std.specs.Io.KnownBytes.{Appends, Consumes, IsAtEnd, Keeps}
@@ -14,7 +14,7 @@ use Rattle.hip_bytes.specs.declared.kind.TheConstants.{INLINE_CAPACITY}
 abbrev pub borsh_form : List ℕ → List ℕ
 borsh_form items = to_le_bytes w32 (length items) ++ items
 
--- how long the form is that begins with these bytes: four, and as many as these four say
+-- the length of the form that begins with these bytes: four, and as many as these four say
 abbrev pub form_length : List ℕ → ℕ
 form_length bytes = 4 + from_le_bytes w32 bytes
 
@@ -45,7 +45,7 @@ BorshReads old new (Err Memory) =
 BorshReads old new (Err TooLong) = ⊥
 BorshReads old new (Err NotUtf8) = ⊥
 
--- how many reads have failed: Io tells of one that did, and of no other; any other answer tells that none did
+-- the number of reads that failed: Io tells of one that did, and of no other; any other answer tells that none did
 abbrev pub CountsReads : {T : Type 0} → Result T BorshFault → ℕ → ℕ → Type 0
 CountsReads (Ok done) old new = new ≡ old
 CountsReads (Err Io) old new = new ≡ one_more old
@@ -54,7 +54,7 @@ CountsReads (Err TooLong) old new = new ≡ old
 CountsReads (Err Truncated) old new = new ≡ old
 CountsReads (Err NotUtf8) old new = new ≡ old
 
--- how many writes have failed, like `CountsReads`; Io may also tell of a write that took no byte, as only a sink that is full does
+-- the number of writes that failed, like `CountsReads`; Io may also tell of a write that took no byte, as only a sink that is full does
 abbrev pub CountsWrites : {T : Type 0} → Result T BorshFault → Type 0 → ℕ → ℕ → Type 0
 CountsWrites (Err Io) Full old new = (new ≡ one_more old) ⊎ (Full × (new ≡ old))
 CountsWrites (Ok done) Full old new = new ≡ old
