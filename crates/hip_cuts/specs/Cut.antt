@@ -89,7 +89,7 @@ PartsIfAnyCosts shares None source before after = after ≡ before
 PartsIfAnyCosts shares (Some (front, back)) source before after =
     RisesAtMost before after (part_cost shares source front + part_cost shares source back)
 
--- these at the ranges that are found in the source
+-- the part, or the parts, at the ranges that are found in the source
 abbrev pub StripAnswers : {T E : Type 0} → (T → Handle) → FindsOne → Ends → Handle → Result (Option T) E → Type 0
 StripAnswers shown strip ends source result = PartIfAny shown (found_in source strip ends) source result
 
