@@ -35,12 +35,12 @@ AreRecords source [] records = records ≡ []
 AreRecords source (texts ∷ more) [] = ⊥
 AreRecords source (texts ∷ more) (fields ∷ records) = AreFields source texts fields.items × AreRecords source more records
 
--- how many bytes the fields of a line copy at most: what its parts cost
+-- the greatest number of bytes that the fields of a line copy: the cost of its parts
 abbrev pub fields_cost : Bool → Kind → Texts → ℕ
 fields_cost shares kind [] = 0
 fields_cost shares kind (text ∷ texts) = cut_cost shares kind (length text) + fields_cost shares kind texts
 
--- the bytes that the fields of all lines copy at most
+-- the greatest number of bytes that the fields of all lines copy
 abbrev pub records_cost : Bool → Kind → List Texts → ℕ
 records_cost shares kind [] = 0
 records_cost shares kind (texts ∷ more) = fields_cost shares kind texts + records_cost shares kind more
