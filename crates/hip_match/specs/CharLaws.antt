@@ -56,7 +56,7 @@ starts_char t i utf8 cut lt =
     let rest = IsUtf8-drop t i utf8 cut in
     starts_with t i rest cut rest.0 rest.1.0 rest.1.1 lt
 
--- and none at the end
+-- no character starts at the end
 pub char_at-end : (t : List ℕ) (i : ℕ) → length t ≤ i → char_at t i ≡ None
 unfolding char_at
 char_at-end t i ge =

@@ -19,7 +19,7 @@ pub occurs-over : text_ends (97 ∷ 97 ∷ []) (97 ∷ 97 ∷ 97 ∷ []) 1 ≡ S
 unfolding text_ends
 occurs-over = refl
 
--- and not at 2
+-- "aa" doesn't occur in "aaa" at 2
 pub occurs-not : text_ends (97 ∷ 97 ∷ []) (97 ∷ 97 ∷ 97 ∷ []) 2 ≡ None
 unfolding text_ends
 occurs-not = refl
@@ -34,7 +34,7 @@ pub leftmost-overlapping : leftmost (text_ends (97 ∷ 97 ∷ []) (97 ∷ 97 ∷
 unfolding text_ends leftmost_from
 leftmost-overlapping = refl
 
--- and from the end the rightmost
+-- of two matches that overlap the rightmost counts from the end
 pub rightmost-overlapping : rightmost (text_ends (97 ∷ 97 ∷ []) (97 ∷ 97 ∷ 97 ∷ [])) 3 ≡ ((1, 3) ∷ [])
 unfolding text_ends rightmost_from start_among
 rightmost-overlapping = refl
@@ -158,7 +158,7 @@ pub split_whitespace-row : split_whitespace (97 ∷ 11 ∷ 98 ∷ []) ≡ ((0, 1
 unfolding leftmost_from char_at chars
 split_whitespace-row = refl
 
--- and no ASCII white space
+-- U+000B is no ASCII white space
 pub split_ascii_whitespace-row : split_ascii_whitespace (97 ∷ 11 ∷ 98 ∷ []) ≡ ((0, 3) ∷ [])
 unfolding leftmost_from char_at chars
 split_ascii_whitespace-row = refl
