@@ -6,7 +6,7 @@ use Rattle.serde_json.specs.declared.value.Value.{Value}
 use Rattle.hip_bytes.specs.declared.json_fault.JsonFault.{JsonFault}
 use Rattle.hip_bytes.specs.declared.json_fault.JsonFault.TheVariants.{Memory, NotUtf8, NotJsonString, NotJsonBytes, NotJsonUnix}
 
--- bytes that are UTF-8 are made a string, or that wanted memory; any others are refused
+-- bytes that are UTF-8 are made a string, or memory was refused; any others are refused
 abbrev pub JsonPathAnswers : List ℕ → Result Value JsonFault → Type 0
 JsonPathAnswers path (Ok value) = IsUtf8 path × (view value ≡ string path)
 JsonPathAnswers path (Err NotUtf8) = ¬ (IsUtf8 path)
