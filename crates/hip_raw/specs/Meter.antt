@@ -21,7 +21,7 @@ count_from-full = refl
 abbrev pub RisesAtLeast : ℕ → ℕ → ℕ → Type 0
 RisesAtLeast old new least = count_from old least ≤ new
 
--- it has counted just `n` bytes
+-- a meter that stood at `old` stands at `new`: it has counted just `n` bytes
 pub record RisesBy (old new n : ℕ) : Type 0 where
   pub at_most : new ≤ old + n
   pub at_least : RisesAtLeast old new n
