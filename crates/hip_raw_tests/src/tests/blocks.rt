@@ -35,7 +35,7 @@ fn plainly_ordered(a: &[u8], b: &[u8]) -> Ordering {
     a.len().cmp(&b.len())
 }
 
-/// How many bytes both begin with alike, as a plain loop tells it.
+/// The length of the prefix that both have in common, by a plain loop.
 fn plainly_common(a: &[u8], b: &[u8]) -> usize {
     let mut common = 0usize;
     for (x, y) in a.iter().zip(b) {
