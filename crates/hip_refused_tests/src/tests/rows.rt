@@ -15,7 +15,7 @@ fn many<B: Backend>(rt: &impl Abort, alloc: Global) -> HipStr<'static, B> {
     must(rt, fields)
 }
 
-/// How many pieces there are of 30 bytes, and of none, and how many of all that were drawn.
+/// The number of pieces of 30 bytes, of those of none, and of all that were drawn.
 fn drawn<B: Backend>(
     text: &HipStr<'_, B>,
     alloc: Global,

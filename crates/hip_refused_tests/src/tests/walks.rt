@@ -39,7 +39,7 @@ const WALKS: &[Walk] = &[
     Walk::Placed(Placed::PiecesAt),
 ];
 
-/// How many items a walk gave, and how many of them were errors.
+/// The number of items that a walk gave, and of those that were errors.
 #[derive(Clone, Copy)]
 struct Tally {
     items: usize,
