@@ -49,7 +49,7 @@ printed_show slots s =
 abbrev pub fields_fault : List SlotState → ℕ → Option Reason
 fields_fault slots s = option_or (slot_fault slots s) (not_text_fault (state_at slots s))
 
--- the records of a slot's text, or why there are none. Memory may be wanted where it has a line
+-- the records of a slot's text, or why there are none. A text that has a line may need memory
 abbrev pub RecordsText : List SlotState → ℕ → ℕ → List ℕ → Type 0
 RecordsText slots s separator text =
     (text ≡ printed_records (records_of separator (slot_at slots s).items))
@@ -59,7 +59,7 @@ abbrev pub FieldsText : List SlotState → ℕ → ℕ → List ℕ → Type 0
 FieldsText slots s separator text =
     MatchOption (fields_fault slots s) (RecordsText slots s separator text) (λ reason. text ≡ printed_answer (Refused reason))
 
--- and what they copy at most
+-- the greatest number of bytes that the records of a slot's text copy
 abbrev pub fields_cost : Bool → List SlotState → ℕ → ℕ → ℕ
 fields_cost shares slots s separator =
     unless (fields_fault slots s) (records_cost shares (slot_at slots s).kind (records_of separator (slot_at slots s).items))
@@ -75,7 +75,7 @@ Writes shares old (SayFields s separator) text new =
     × (new ≡ record { slots = old.slots; least = old.least; most = old.most + fields_cost shares old.slots s separator })
 Writes shares old line text new = Answers shares old line text new
 
--- and for some lines, one after another
+-- the text that may be written for some lines, one after another, and the state behind them
 abbrev pub WritesAll : Bool → State → List Spoken → List ℕ → State → Type 0
 WritesAll shares old [] text new = (text ≡ []) × (new ≡ old)
 WritesAll shares old (line ∷ lines) text new =

@@ -121,7 +121,7 @@ pub record DecodesLiteral (read : Option (List ℕ × List ℕ)) (after old new 
   pub read_is : read ≡ Some (bytes, after)
   pub stands : LiteralIs literal bytes old new
 
--- these were added to a buffer, and stand there
+-- these items were added to a buffer, and the span tells where
 pub record AddsSpan {A : Type 0} (more old new : List A) (span : Span) : Type 0 where
   pub added : new ≡ old ++ more
   pub start : span.start ≡ length old
