@@ -31,7 +31,7 @@ abbrev pub CloneErrorAnswers : {E : Type 0} → Utf8Failure → Result Utf8Failu
 CloneErrorAnswers error (Ok copy) = Holds copy.bytes error.bytes.kind error.bytes.items × (copy.cause ≡ error.cause)
 CloneErrorAnswers error (Err refused) = error.bytes.kind ≡ Allocated
 
--- bytes that are UTF-8 are made a text, by length, or so many wanted memory
+-- bytes that are UTF-8 are made a text, by length, or memory for them was refused
 abbrev pub ReadAnswers : List ℕ → Result Handle BytesFault → Type 0
 ReadAnswers bytes (Ok text) = IsUtf8 bytes × HoldsByLength text bytes
 ReadAnswers bytes (Err NotUtf8) = ¬ (IsUtf8 bytes)

@@ -27,7 +27,7 @@ IsBehind unit after rest =
 abbrev pub IsUnpaired : ℕ → List ℕ → Type 0
 IsUnpaired unit after = (later : List (Option ℕ)) × (utf16_chars (unit ∷ after) ≡ None ∷ later)
 
--- units that spell characters are made a text of them, by length, or that wanted memory
+-- units that spell characters are made a text of them, by length, or memory was refused
 abbrev pub Utf16Answers : List ℕ → Result Handle Utf16Fault → Type 0
 Utf16Answers units (Ok text) = (cs : List ℕ) × Spells units cs × HoldsByLength text (encode_utf8_all cs)
 Utf16Answers units (Err (Unpaired i)) = IsFirstUnpaired units i
