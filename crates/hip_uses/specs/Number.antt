@@ -31,7 +31,7 @@ interned texts text = interned_from (number_of text texts) texts text
 abbrev pub StandOnce : List (List ℕ) → Type 0
 StandOnce texts = (number : ℕ) (text : List ℕ) → slice_get texts number ≡ Some text → number_of text texts ≡ Some number
 
--- with these too, one after another
+-- the texts once these too are interned, one after another
 abbrev pub all_interned : List (List ℕ) → List (List ℕ) → List (List ℕ)
 all_interned texts [] = texts
 all_interned texts (word ∷ words) = all_interned (interned texts word) words

@@ -49,7 +49,7 @@ hole_filled values hole = hole.before.items ++ option_map_or bytes_of (value_of 
 abbrev pub all_shown : List (Bor (List ℕ)) → List (List ℕ)
 all_shown texts = map (λ text. text.now) texts
 
--- the bytes of what goes into a hole
+-- the bytes of a hole's value
 abbrev pub value_in : {B S P : Type 0} → List (Handle × Handle) → Hole B S P → List ℕ
 value_in values hole = option_map_or bytes_of (value_of values hole.name.items) []
 
@@ -65,7 +65,7 @@ woven (hole ∷ holes) (value ∷ values) = hole.before.items ∷ value ∷ wove
 abbrev pub filled : {B S P : Type 0} → List (Handle × Handle) → List (Hole B S P) → List ℕ
 filled values holes = flat_map (hole_filled values) holes
 
--- something goes under each name
+-- each name has a value
 abbrev pub AllKnown : {B S P : Type 0} → List (Handle × Handle) → List (Hole B S P) → Type 0
 AllKnown values holes = All (λ hole. IsSome (value_of values hole.name.items)) holes
 
@@ -95,19 +95,19 @@ FirstHole text (Ok (Some (hole, after))) =
     (behind : List ℕ) × IsParted opening text hole.before.items behind × IsParted closing behind hole.name.items after.now
 FirstHole text (Err fault) = ParseFails text fault
 
--- the name is told, or want of memory
+-- the fault tells this name, or that memory was refused
 abbrev pub IsUnknown : {B S P : Type 0} → List ℕ → TemplateFault B S P → Type 0
 IsUnknown name (Unclosed text) = ⊥
 IsUnknown name (Unknown unknown) = unknown.items ≡ name
 IsUnknown name Memory = Unit {0}
 
--- the hole has this name, and nothing goes under it
+-- the hole has this name, which has no value
 abbrev pub HoleFails : {B S P : Type 0} → List (Handle × Handle) → Hole B S P → TemplateFault B S P → Type 0
 HoleFails values hole (Unclosed text) = ⊥
 HoleFails values hole (Unknown name) = (value_of values name.items ≡ None) × (hole.name.items ≡ name.items)
 HoleFails values hole Memory = Unit {0}
 
--- the first hole that can't be filled has this name, and nothing goes under it
+-- the first hole that can't be filled has this name, which has no value
 abbrev pub FillFails : {B S P : Type 0} → List (Handle × Handle) → List (Hole B S P) → TemplateFault B S P → Type 0
 FillFails values holes (Unclosed text) = ⊥
 FillFails {B} {S} {P} values holes (Unknown name) =

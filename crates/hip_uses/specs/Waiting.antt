@@ -19,6 +19,6 @@ HasRoom queue = length queue.messages < queue.limit
 abbrev pub with_message : List ℕ → Waiting → Waiting
 with_message message queue = record { messages = queue.messages ++ message ∷ []; limit = queue.limit }
 
--- each of the queues with it
+-- each of the queues with the message at its end
 abbrev pub all_with : List ℕ → List Waiting → List Waiting
 all_with message queues = map (with_message message) queues
