@@ -16,9 +16,9 @@ parts_made slots (TrimMatches s t side pattern) = Some (slot_at slots s, 1)
 parts_made slots (Strip s t end pattern) = Some (slot_at slots s, 1)
 parts_made slots (Once s t u end pattern) = Some (slot_at slots s, 2)
 parts_made slots (Pieces s how script first) = Some (slot_at slots s, length (drawn_of slots s how script.now))
--- no other makes any
+-- no other command makes parts
 parts_made slots command = None
 
--- such a cost is little
+-- the parts that a command makes copy little
 abbrev pub CopiesLittle : List SlotState → Command → ℕ → Type 0
 CopiesLittle slots command cost = MatchOption (parts_made slots command) (Unit {0}) (λ made. IsLittle made.0 made.1 cost)

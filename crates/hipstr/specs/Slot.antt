@@ -24,7 +24,7 @@ empty_slot = record { is_text = false; handle = record { kind = Inline; items = 
 abbrev pub state_at : List SlotState → ℕ → SlotState
 state_at slots i = slice_index_or slots i empty_slot
 
--- its handle, and whether it is a text
+-- the handle of the slot at a position, and whether it is a text
 abbrev pub slot_at : List SlotState → ℕ → Handle
 slot_at slots i = (state_at slots i).handle
 

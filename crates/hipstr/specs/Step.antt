@@ -166,7 +166,7 @@ fault_of slots (Len t) = slot_fault slots t
 fault_of slots (Kind t) = slot_fault slots t
 fault_of slots (Capacity t) = slot_fault slots t
 
--- a command without a fault may be refused for want of memory
+-- a command without a fault may be refused for lack of memory
 abbrev pub MayNeedMemory : Bool → List SlotState → Command → Type 0
 MayNeedMemory shares slots (Copy t bytes) = INLINE_CAPACITY < length bytes.now
 MayNeedMemory shares slots (Room t capacity) = INLINE_CAPACITY < capacity
@@ -267,7 +267,7 @@ Step shares old command answer new =
     MatchOption (fault_of old command) (Performs shares old command answer new) (λ reason. (answer ≡ Refused reason) × (new ≡ old))
 
 -- A call on one slot may answer this, and go on from the old slot to the new: its fault; or that it is done, and then the slot is a text or
--- bytes, of whose handle P holds; or want of memory where it may want some. Where it is refused the slot is as it was.
+-- bytes, of whose handle P holds; or that memory was refused, where it may need some. Where it is refused the slot is as it was.
 abbrev pub SlotAnswers : Option Reason → Type 0 → Bool → (Handle → Type 0) → SlotState → Result Answer Reason → SlotState → Type 0
 SlotAnswers fault Needs is_text P old (Ok answer) new = (fault ≡ None) × (answer ≡ Done) × (new.is_text ≡ is_text) × P new.handle
 SlotAnswers fault Needs is_text P old (Err reason) new = MatchOption fault ((reason ≡ Memory) × Needs) (λ first. reason ≡ first) × (new ≡ old)
@@ -298,7 +298,7 @@ option_cost cost (Some a) = cost a
 abbrev pub mutate_cost : Bool → ℕ → ℕ → ℕ
 mutate_cost shares len added = len + (if shares then INLINE_CAPACITY else len + added)
 
--- how many bytes a command without a fault copies at most. What a trim copies, `Costs` says
+-- the greatest number of bytes that a command without a fault copies, but for a trim, of which `Costs` tells
 abbrev pub copies_of : Bool → List SlotState → Command → ℕ
 copies_of shares slots (Inline t bytes) = length bytes.now
 copies_of shares slots (Copy t bytes) = times_copied shares (length bytes.now)
@@ -327,7 +327,7 @@ copies_of shares slots command = 0
 abbrev pub unless : Option Reason → ℕ → ℕ
 unless fault copied = if is_none fault then copied else 0
 
--- the cost of a command: how many bytes it copies at most; one with a fault copies none
+-- the cost of a command: the greatest number of bytes that it copies; one with a fault copies none
 abbrev pub cost_of : Bool → List SlotState → Command → ℕ
 cost_of shares slots command = unless (fault_of slots command) (copies_of shares slots command)
 
