@@ -5,7 +5,7 @@ use hipstr::Rc;
 use hipstr::string::{HipStr, TextCuts};
 use std::alloc::{AllocError, Global};
 
-/// The characters that stand around what a line says.
+/// The characters on both sides of a line's content.
 const MARGINS: &[char] = &['-', ' ', '\t'];
 
 /// How a line is cut.

@@ -130,7 +130,7 @@ fn append<B: Backend>(value: &mut HipByt<B>, alloc: Global, addition: &[u8]) -> 
     if added { Some(()) } else { None }
 }
 
-/// Each round adds bytes so.
+/// Each round adds bytes through the vector that is lent.
 #[inline(always)]
 fn appends<B: Backend>(alloc: Global, input: &[u8], rounds: u64) -> Option<u64> {
     let mut value = copied::<B>(alloc, input, LONG)?;

@@ -7,7 +7,7 @@ use std::alloc::Global;
 use std::collections::{BTreeMap, HashMap};
 use std::hash::Hash;
 
-// The contracts of a text's hash and order are long, and dear to prove with. So a map is called where nothing is known of its keys but
+// The contracts of a text's hash and order are long, and costly to prove with. So a map is called where nothing is known of its keys but
 // their bounds.
 
 /// A map from words to their numbers, which are given out from zero.
