@@ -162,20 +162,20 @@ pub trait Bytes: Source + Hash + Ord + fmt::Debug {
 
     fn cmp_slice(&self, other: &[u8]) -> Ordering;
 
-    /// With a lent value of `Unique`.
+    /// `eq_with` a lent value of `Unique`.
     fn eq_with(&self, other: &'static [u8]) -> bool;
 
-    /// With a lent value of `Unique`.
+    /// `cmp_with` a lent value of `Unique`.
     fn cmp_with(&self, other: &'static [u8]) -> Ordering;
 
     fn as_mut_slice(&mut self) -> Option<&mut [u8]>;
 
     fn to_mut_slice(&mut self, alloc: Global) -> Result<&mut [u8], AllocError>;
 
-    /// With the closure that reverses the bytes.
+    /// `with_mut_slice` with the closure that reverses the bytes.
     fn with_mut_slice_reverse(&mut self) -> Option<()>;
 
-    /// With the closure that makes the letters capitals.
+    /// `with_to_mut_slice_metered` with the closure that makes the letters capitals.
     fn with_to_mut_slice_metered_uppercase(
         &mut self,
         alloc: Global,

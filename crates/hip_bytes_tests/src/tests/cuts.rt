@@ -130,7 +130,7 @@ fn stays<H: Bytes>(rt: &impl Abort, alloc: Global, mut handle: H) {
     );
 }
 
-/// On bytes that another handle shares, and on room in which nothing stands.
+/// A push of nothing, on bytes that another handle shares, and on room in which nothing stands.
 fn nothing_is_pushed<H: Bytes>(rt: &impl Abort, alloc: Global) {
     let letters = must(rt, H::from_slice(alloc, LETTERS));
     stays(rt, alloc, must(rt, letters.clone(alloc)));
