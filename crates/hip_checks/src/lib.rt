@@ -5,7 +5,7 @@
 //! - `sessions`: lists of commands. `cuts`: texts that are cut once. `ways`: each way to take a text apart. These are tables.
 //! - `runs`: all of them on both backends of hipstr, the ways by every script of up to six ends.
 //! - `own_backend`: the same on a backend that a user wrote.
-//! - `not_a_command`: what is told of a line that is no command. `support` is what ends a test.
+//! - `not_a_command`: the message for a line that is no command. `support` has the ends of a test.
 //! - `plays`: scripts, bad lines, and readers and writers that fail, by `hip_script::play`.
 //! - `uses`: template, tokens, queue, interner and table.
 //! - `user`: functions of a pattern and over a closure, and a struct that keeps a walk, by the names of hipstr alone.

@@ -117,7 +117,7 @@ fn failure_around_the_buffer(rt: HostRuntime) -> Result<(), Fail> {
     Ok(())
 }
 
-/// From and to what is lent, with bytes that were there before.
+/// A script from a lent reader to a lent writer, which has bytes already.
 #[test]
 fn lent(rt: HostRuntime) -> Result<(), Fail> {
     let mut reader = &b"new 0\nlen 0\n"[..];

@@ -151,7 +151,7 @@ fn kind_rows() -> &'static [Row] {
             "borrow 0 \"abc\"\nclone 0 1\nkind 1\npush 1 \"\"\nkind 1\ncopied\n",
             "done\ndone\nborrowed\ndone\nborrowed\n0\n",
         ),
-        // Nor does it change an allocated value that another shares, or room in which nothing stands.
+        // Nor does a push of nothing change a shared allocated value, or room in which nothing stands.
         (
             "copy 0 \"abcdefghijklmnopqrstuvwxyz\"\nclone 0 1\npush 1 \"\"\nkind 1\nlen 1\nroom 2 42\npush 2 \"\"\nkind 2\nlen 2\n",
             "done\ndone\ndone\nallocated\n26\ndone\ndone\nallocated\n0\n",
