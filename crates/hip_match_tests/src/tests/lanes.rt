@@ -10,7 +10,7 @@ use std::str;
 /// The longest text.
 const LONGEST: usize = 130;
 
-/// By the list of Rust's documentation, without the vertical tab.
+/// Whether a byte is ASCII white space by the list of Rust's documentation, which lacks the vertical tab.
 fn is_space(byte: u8) -> bool {
     match byte {
         b' ' | b'\t' | b'\n' | b'\x0C' | b'\r' => true,
@@ -34,7 +34,7 @@ fn first_run(bytes: &[u8], from: usize, to: usize) -> Option<(usize, usize)> {
     start.map(|start| (start, to))
 }
 
-/// The last.
+/// Like [`first_run`], the last run.
 fn last_run(bytes: &[u8], from: usize, to: usize) -> Option<(usize, usize)> {
     let mut last = None;
     let mut start = None;
