@@ -178,7 +178,7 @@ fn forms_stand_one_behind_another(rt: HostRuntime) {
     one_behind_another::<HipByt<'static, Unique>, HipStr<'static, Unique>>(&rt, rt.alloc());
 }
 
-/// To a writer and from a reader of the standard library.
+/// Forms that are written to a writer and read from a reader of the standard library.
 #[test]
 fn by_writers_and_readers(rt: HostRuntime) {
     let mut form = Vec::new(rt.alloc());

@@ -28,7 +28,7 @@ fn found_in_order<K: Ord + Drop>(
     Ok(ages.get(sought).copied())
 }
 
-/// Whether a set has it, once it has two.
+/// Whether a set of two keys has `sought`.
 fn is_in_set<K: Hash + Eq + Drop>(
     alloc: Global,
     first: K,
@@ -41,7 +41,7 @@ fn is_in_set<K: Hash + Eq + Drop>(
     Ok(set.contains(sought))
 }
 
-/// Asserts what a hash map and an ordered one say of a key, where they have another, and a set that has two.
+/// Asserts whether `sought` is found in a hash map and an ordered one that have another key, and in a set that has two.
 fn is_told<K: Hash + Ord + Drop>(
     rt: &impl Abort,
     alloc: Global,

@@ -115,7 +115,7 @@ fn lengths<N: Name>(rt: &impl Abort, alloc: Global) {
     }
 }
 
-/// A long one gives its vector, any other is handed back.
+/// A long name gives its vector, any other is handed back.
 fn gives_vector<N: Name>(rt: &impl Abort, outcome: Result<Vec<u8>, N>, text: &str, kind: Kind) {
     match outcome {
         Ok(vec) => assert_eq!(rt; (vec.as_slice(), kind), (text.as_bytes(), Kind::Allocated)),
@@ -126,7 +126,7 @@ fn gives_vector<N: Name>(rt: &impl Abort, outcome: Result<Vec<u8>, N>, text: &st
     }
 }
 
-/// By each call that gives one.
+/// Vectors by each call that gives one.
 fn into_vectors<N: Name>(rt: &impl Abort, alloc: Global) {
     for (way, text, kind) in WAYS {
         let name = made::<N>(rt, alloc, *way, text);
@@ -254,7 +254,7 @@ const GROWN: &[Grown] = &[
     ),
 ];
 
-/// To paths a part is added.
+/// Like [`GROWN`], for paths, to which a part is added.
 const GROWN_PATHS: &[Grown] = &[
     (
         Way::Lent,
