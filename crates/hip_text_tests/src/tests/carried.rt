@@ -60,7 +60,7 @@ fn has<T: Text>(rt: &impl Abort, bytes: T::Bytes, text: &str, kind: Kind) {
     assert_eq!(rt; (bytes.as_slice(), bytes.kind()), (text.as_bytes(), kind));
 }
 
-/// By the call of that name, and by `From`.
+/// A text becomes bytes by the call of that name, and by `From`.
 fn into_bytes<T: Text>(rt: &impl Abort, alloc: Global) {
     for (way, text, kind) in WAYS {
         has::<T>(

@@ -217,7 +217,7 @@ fn is_kept<T: Text>(rt: &impl Abort, bytes: T::Bytes, kind: Kind) {
     );
 }
 
-/// Lent, alone, and with an owner that has room.
+/// Bytes that aren't UTF-8: lent, alone, and with an owner that has room.
 fn not_utf8<T: Text>(rt: &impl Abort, alloc: Global) {
     is_kept::<T>(rt, T::Bytes::borrowed(b"abc\xFF"), Kind::Borrowed);
     let bytes = must(rt, T::Bytes::from_slice(alloc, b"abc\xFF"));

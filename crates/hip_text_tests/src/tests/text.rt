@@ -113,12 +113,12 @@ pub trait Text: Hash + Ord + Drop {
 
     fn str_eq(&self, other: &str) -> bool;
 
-    /// With a lent text of `Unique`.
+    /// `eq_with` a lent text of `Unique`.
     fn eq_with(&self, other: &str) -> bool;
 
     fn str_cmp(&self, other: &str) -> Ordering;
 
-    /// With a lent text of `Unique`.
+    /// `cmp_with` a lent text of `Unique`.
     fn cmp_with(&self, other: &str) -> Ordering;
 
     /// `cmp` of two texts that are lent for a while.

@@ -49,7 +49,7 @@ fn allocated(rt: HostRuntime) {
     are::<Unique>(&rt, rt.alloc(), &copied(&rt, rt.alloc()), wanted);
 }
 
-/// None copies any of a borrowed text.
+/// No field copies a byte of a borrowed text.
 #[test]
 fn borrowed(rt: HostRuntime) {
     let wanted = (Kind::Borrowed, Kind::Borrowed, 0);
