@@ -36,7 +36,7 @@ field-next source all old new text done items field first is pushed so_far more 
     subst (λ (fields : List Handle). AreFields source all fields) (sym (ap (λ (fields : List Handle). fields ++ more) pushed ∙ append_assoc done (field ∷ []) more))
     (so_far (field ∷ more) (subst (λ (texts : List (List ℕ)). AreFields source texts (field ∷ more)) (sym first) (is, are)))
 
--- what is left costs as much less
+-- the rest of the fields costs as much less
 pub field-cost : (shares : Bool) (kind : Kind) (old new : List (List ℕ)) (text : List ℕ) (len before after : ℕ)
     → old ≡ text ∷ new → len ≡ length text → RisesAtMost before after (cut_cost shares kind len)
     → (before ≤ after) × (after + fields_cost shares kind new ≤ before + fields_cost shares kind old)
