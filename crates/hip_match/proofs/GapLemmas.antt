@@ -40,7 +40,7 @@ module _ (belongs : ℕ → Bool) (t : List ℕ) (from to : ℕ) (w : IsWindow t
       let holds : a < b = (chars.one a b is).holds in
       ⊎_elim (λ (lt : a < to). absurd (none-some b (sym (none a le lt) ∙ is))) (λ (ge : to ≤ a). omega arith) (cases_lt a to)
 
-  -- and none behind the last
+  -- no occurrence lies behind the last
   pub quiet_behind : (at : ℕ) → EndsLast e to (at, at + 1) → at < from → IsQuiet e from to
   quiet_behind at last lt a b is le = let holds : a < b = (chars.one a b is).holds in last.last a b is (omega arith)
 
@@ -80,7 +80,7 @@ module _ (belongs : ℕ → Bool) (t : List ℕ) (from to : ℕ) (w : IsWindow t
   pub no_run : to ≤ from → nonempty (parts belongs t from to) ≡ []
   no_run empty = ap nonempty (only_part (λ a b is le. let holds : a < b = (chars.one a b is).holds in omega arith)) ∙ nonempty-dropped (from, to) [] empty
 
--- what is found by the table of white space
+-- the places that the table of white space finds
 module _ (rows : List ℕ) (same : in_rows rows ≡ is_ascii_whitespace) (t bytes : List ℕ) (from to : ℕ) (w : IsWindow t from to) (value : bytes ≡ t) where
   test : (c : ℕ) → in_rows rows c ≡ is_ascii_whitespace c
   test c = ap (λ (p : ℕ → Bool). p c) same

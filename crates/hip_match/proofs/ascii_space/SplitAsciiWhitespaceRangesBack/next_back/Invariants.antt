@@ -5,7 +5,7 @@ use Rattle.hip_match.specs.Ready.{IsWindow}
 use Rattle.hip_match.specs.Runs.{nonempty}
 use Rattle.hip_match.proofs.ascii_space.SplitAsciiWhitespaceRangesBack.next_back.Given as goal
 
--- it is ready, and only empty parts were passed
+-- the walk is ready, and only empty parts were passed
 abbrev pub invariant-loop-self : goal.invariant-loop-self
 invariant-loop-self l =
     let text = l.self.text.now in
