@@ -63,7 +63,7 @@ lone-character u c read from = by-place (dec_le 0xE000 u) where
   by-place (yes past) = past
   by-place (no before) = let none : None ≡ Some c = sym (lone-none u from (lt_of_not-le before)) ∙ read in absurd (cc)
 
--- what holds of units and the characters that they spell
+-- units and the characters that they spell: each is a character, and their UTF-16 is the units
 abbrev Encodes : List ℕ → List ℕ → Type 0
 Encodes units cs = All IsCharacter cs × (flat_map encode_utf16 cs ≡ units)
 
