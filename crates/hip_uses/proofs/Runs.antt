@@ -16,7 +16,7 @@ pub within_more : (P : ℕ → Type 0) (start end : ℕ) → ((k : ℕ) → star
 within_more P start end before here k low high =
     ⊎_elim (λ (lt : k < end). before k low lt) (λ (ge : end ≤ k). let same : end ≡ k = omega arith in subst P same here) (cases_lt k end)
 
--- what isn't ASCII belongs to a word
+-- a byte that isn't ASCII belongs to a word
 high_byte : (byte : ℕ) → 128 ≤ byte → class_of byte ≡ Word
 high_byte byte high = grind arith
 

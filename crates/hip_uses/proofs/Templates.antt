@@ -54,7 +54,7 @@ value-again {B} {S} {P} values holes i hole found d name low here all known same
     there None some = absurd (false≢true some)
     there (Some handle) some = refl
 
--- what was found, and what wasn't
+-- a name that has a value is known, and one that has none isn't
 pub some-known : (value : List ℕ) (o : Option Handle) → Some value ≡ option_map bytes_of o → IsSome o
 some-known value None is = absurd cc
 some-known value (Some handle) is = refl
@@ -133,7 +133,7 @@ pub handed_on : {T F : Type 0} (P : F → Type 0) (result : Result T F) (fault :
 handed_on P (Ok value) fault handed holds = absurd handed
 handed_on P (Err e) fault handed holds = subst P (sym handed) holds
 
--- what a map gives, by its value
+-- a map's answer, by its value
 pub by-value : (result : Option (Bor Handle)) (found : Option Handle) → option_copied result ≡ found → MatchOption result (found ≡ None) (λ value. found ≡ Some value.now)
 by-value None found is = sym is
 by-value (Some value) found is = sym is
@@ -150,7 +150,7 @@ set-more (Ok done) before after old name value is updated =
       either false other = refl
 set-more (Err error) before after old name value is refused = tt
 
--- what follows the first hole is shorter
+-- the text behind the first hole is shorter
 pub hole-shorter : {B S P : Type 0} (text : List ℕ) (hole : Hole B S P) (after : Bor (List ℕ)) → FirstHole text (Ok (Some (hole, after))) → length after.now < length text
 hole-shorter text hole after cut =
     let behind = cut.0 in
@@ -176,7 +176,7 @@ written-more template rest holes more hole after so_far cut pushed =
     ap (λ l. l ++ after.now) (ap written pushed ∙ sym (flat_map_more hole_written [] holes hole)) ∙ append_assoc (written holes) (hole_written hole) after.now
     ∙ ap (λ l. written holes ++ l) (hole-and-after rest hole after cut) ∙ so_far
 
--- what the rest is parsed to, behind one hole more
+-- a template is parsed as its rest is, behind one hole more
 pub parsed-more : {B S P : Type 0} (template rest : List ℕ) (holes more : List (Hole B S P)) (hole : Hole B S P) (after : Bor (List ℕ))
     → ((later : List (Hole B S P)) (last : List ℕ) → IsParsed rest later last → IsParsed template (holes ++ later) last)
     → FirstHole rest (Ok (Some (hole, after))) → more ≡ holes ++ hole ∷ []
@@ -185,7 +185,7 @@ parsed-more {B} {S} {P} template rest holes more hole after so_far cut pushed la
     subst (λ (l : List (Hole B S P)). IsParsed template l last) (sym (ap (λ l. l ++ later) pushed ∙ append_assoc holes (hole ∷ []) later))
     (so_far (hole ∷ later) last (cut.0, after.now, cut.1, cut.2, parsed))
 
--- what can't be cut of the end of a template can't be cut of it
+-- where the end of a template can't be parsed, neither can the template
 pub fails-more : {B S P : Type 0} (front rest template : List ℕ) (fault : TemplateFault B S P) → front ++ rest ≡ template → ParseFails rest fault → ParseFails template fault
 fails-more front rest template (Unclosed text) whole fails =
     (front ++ fails.0, sym whole ∙ ap (λ l. front ++ l) fails.1 ∙ sym (append_assoc front fails.0 (opening ++ text.items)), fails.2)
