@@ -6,8 +6,8 @@ pub record Waiting : Type 0 where
   pub messages : List (List ℕ)
   pub limit : ℕ
 
-abbrev pub bytes_of : Handle → List ℕ
-bytes_of message = message.items
+abbrev pub message_bytes : Handle → List ℕ
+message_bytes message = message.items
 
 abbrev pub IsFull : Waiting → Type 0
 IsFull queue = length queue.messages ≡ queue.limit

@@ -24,12 +24,12 @@ pub struct Queue<'b, B: Backend> {
 impl<'b, B: Backend> Model for Queue<'b, B> {
     ghost use Rattle.std.specs.Prelude.{◌≤◌, length, map};
     ghost use Rattle.std.specs.VecDeque.{deque_capacity};
-    ghost use Rattle.hip_uses.specs.Waiting.{Waiting, bytes_of};
+    ghost use Rattle.hip_uses.specs.Waiting.{Waiting, message_bytes};
 
     ghost Value = { Waiting };
 
     ghost view = { λ queue.
-        record { messages = map bytes_of queue.messages.items; limit = queue.limit } };
+        record { messages = map message_bytes queue.messages.items; limit = queue.limit } };
 
     ghost invariant = { λ queue. (length queue.messages.items ≤ queue.limit)
         × (queue.limit ≤ deque_capacity queue.messages) };
