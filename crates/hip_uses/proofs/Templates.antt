@@ -13,7 +13,7 @@ use Rattle.std.specs.Option.{option_map_or}
 use Rattle.hipstr.specs.Join.{joined}
 use Rattle.hipstr.specs.Handle.{Handle}
 use Rattle.hip_uses.proofs.Pushed.{All-more}
-use Rattle.hip_uses.specs.Number.{bytes_of, same_text}
+use Rattle.hip_uses.specs.Number.{text_bytes, same_text}
 use Rattle.hip_uses.specs.Template.{AllKnown, all_shown, FillFails, FirstHole, HoleFails, IsParsed, IsUnknown, ParseFails, closing, filled, hole_written, opening, value_in, value_of, values_in, value_with, woven, written}
 use Rattle.hip_uses.specs.declared.template.Hole.{Hole}
 use Rattle.hip_uses.specs.declared.fault.TemplateFault.{TemplateFault}
@@ -21,14 +21,14 @@ use Rattle.hip_uses.specs.declared.fault.TemplateFault.TheVariants.{Unclosed, Un
 
 -- the value of one hole more
 pub values-more : {B S P : Type 0} (values : List (Handle × Handle)) (holes : List (Hole B S P)) (i : ℕ) (hole : Hole B S P) (value : Bor (List ℕ)) (found more : List (Bor (List ℕ)))
-    → i < length holes → hole ≡ get_or holes i hole → all_shown found ≡ values_in values (take i holes) → Some value.now ≡ option_map bytes_of (value_of values hole.name.items)
+    → i < length holes → hole ≡ get_or holes i hole → all_shown found ≡ values_in values (take i holes) → Some value.now ≡ option_map text_bytes (value_of values hole.name.items)
     → more ≡ found ++ value ∷ [] → all_shown more ≡ values_in values (take (i + 1) holes)
 values-more values holes i hole value found more lt here so_far is pushed =
     ap all_shown pushed ∙ map-append (λ (text : Bor (List ℕ)). text.now) found (value ∷ []) ∙ ap (λ l. l ++ value.now ∷ []) so_far
     ∙ ap (λ v. values_in values (take i holes) ++ v ∷ []) (value-is value.now (value_of values hole.name.items) is ∙ ap (value_in values) here)
     ∙ sym (map-append (value_in values) (take i holes) (get_or holes i hole ∷ [])) ∙ ap (values_in values) (sym (take_more holes i hole lt))
   where
-    value-is : (value : List ℕ) (o : Option Handle) → Some value ≡ option_map bytes_of o → value ≡ option_map_or bytes_of o []
+    value-is : (value : List ℕ) (o : Option Handle) → Some value ≡ option_map text_bytes o → value ≡ option_map_or text_bytes o []
     value-is value None is = absurd cc
     value-is value (Some handle) is = cc
 
@@ -40,7 +40,7 @@ as-many values holes found are =
 -- the value of an earlier hole of this name
 pub value-again : {B S P : Type 0} (values : List (Handle × Handle)) (holes : List (Hole B S P)) (i : ℕ) (hole : Hole B S P) (found : List (Bor (List ℕ))) (d : Bor (List ℕ)) (name : List ℕ)
     → i < length holes → hole ≡ get_or holes i hole → all_shown found ≡ values_in values holes → AllKnown values holes → hole.name.items ≡ name
-    → Some (get_or found i d).now ≡ option_map bytes_of (value_of values name)
+    → Some (get_or found i d).now ≡ option_map text_bytes (value_of values name)
 value-again {B} {S} {P} values holes i hole found d name low here all known same =
     let Now : Bor (List ℕ) → List ℕ = λ text. text.now in
     let Value : Hole B S P → List ℕ = λ h. value_in values h in
@@ -48,18 +48,18 @@ value-again {B} {S} {P} values holes i hole found d name low here all known same
     let shown : (get_or found i d).now ≡ value_in values hole =
     sym (get_or-map Now found i d [] within) ∙ ap (λ (l : List (List ℕ)). get_or l i []) all ∙ get_or-map Value holes i hole [] low ∙ ap Value (sym here) in
     let some : IsSome (value_of values hole.name.items) = subst (λ (h : Hole B S P). IsSome (value_of values h.name.items)) (sym here) (known i hole low) in
-    ap (λ (v : List ℕ). Some v) shown ∙ there (value_of values hole.name.items) some ∙ ap (λ (n : List ℕ). option_map bytes_of (value_of values n)) same
+    ap (λ (v : List ℕ). Some v) shown ∙ there (value_of values hole.name.items) some ∙ ap (λ (n : List ℕ). option_map text_bytes (value_of values n)) same
   where
-    there : (o : Option Handle) → IsSome o → Some (option_map_or bytes_of o []) ≡ option_map bytes_of o
+    there : (o : Option Handle) → IsSome o → Some (option_map_or text_bytes o []) ≡ option_map text_bytes o
     there None some = absurd (false≢true some)
     there (Some handle) some = refl
 
 -- a name that has a value is known, and one that has none isn't
-pub some-known : (value : List ℕ) (o : Option Handle) → Some value ≡ option_map bytes_of o → IsSome o
+pub some-known : (value : List ℕ) (o : Option Handle) → Some value ≡ option_map text_bytes o → IsSome o
 some-known value None is = absurd cc
 some-known value (Some handle) is = refl
 
-pub none-known : (o : Option Handle) → None ≡ option_map bytes_of o → o ≡ None
+pub none-known : (o : Option Handle) → None ≡ option_map text_bytes o → o ≡ None
 none-known None is = refl
 none-known (Some handle) is = absurd cc
 

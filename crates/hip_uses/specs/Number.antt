@@ -4,8 +4,8 @@ use Rattle.std.specs.List.{AllZip}
 use Rattle.std.specs.Cmp.Lexicographic.{pointwise}
 use Rattle.hipstr.specs.Handle.{Handle}
 
-abbrev pub bytes_of : Handle → List ℕ
-bytes_of text = text.items
+abbrev pub text_bytes : Handle → List ℕ
+text_bytes text = text.items
 
 -- whether two handles are the same text, of whichever kind
 abbrev pub same_text : Handle → Handle → Bool

@@ -8,7 +8,7 @@ use Rattle.std.specs.Cmp.Lexicographic.{pointwise}
 use Rattle.std.specs.Str.{IsUtf8}
 use Rattle.hipstr.specs.Handle.{Handle}
 use Rattle.hipstr.specs.Parted.{IsParted, Lacks}
-use Rattle.hip_uses.specs.Number.{bytes_of}
+use Rattle.hip_uses.specs.Number.{text_bytes}
 use Rattle.hip_uses.specs.declared.template.Hole.{Hole}
 use Rattle.hip_uses.specs.declared.fault.TemplateFault.{TemplateFault}
 use Rattle.hip_uses.specs.declared.fault.TemplateFault.TheVariants.{Unclosed, Unknown, Memory}
@@ -43,7 +43,7 @@ value_with values name value other = if pointwise nat_eq name other then Some va
 
 -- a hole that is filled, with what lies before it
 abbrev pub hole_filled : {B S P : Type 0} → List (Handle × Handle) → Hole B S P → List ℕ
-hole_filled values hole = hole.before.items ++ option_map_or bytes_of (value_of values hole.name.items) []
+hole_filled values hole = hole.before.items ++ option_map_or text_bytes (value_of values hole.name.items) []
 
 -- the bytes of lent texts, one by one
 abbrev pub all_shown : List (Bor (List ℕ)) → List (List ℕ)
@@ -51,7 +51,7 @@ all_shown texts = map (λ text. text.now) texts
 
 -- the bytes of a hole's value
 abbrev pub value_in : {B S P : Type 0} → List (Handle × Handle) → Hole B S P → List ℕ
-value_in values hole = option_map_or bytes_of (value_of values hole.name.items) []
+value_in values hole = option_map_or text_bytes (value_of values hole.name.items) []
 
 abbrev pub values_in : {B S P : Type 0} → List (Handle × Handle) → List (Hole B S P) → List (List ℕ)
 values_in values holes = map (value_in values) holes

@@ -1,7 +1,7 @@
 //! Templates that are filled.
 ghost use Rattle.std.specs.Prelude.{◌≡◌, ◌++◌, IfErr, IfOk, length};
 ghost use Rattle.std.specs.Option.{option_map};
-ghost use Rattle.hip_uses.specs.Number.{bytes_of};
+ghost use Rattle.hip_uses.specs.Number.{text_bytes};
 ghost use Rattle.hip_uses.specs.Template.{AllKnown, all_shown, filled, value_of, values_in, woven};
 ghost use Rattle.hip_uses.specs.Template.{FillFails, IsUnknown};
 
@@ -33,7 +33,7 @@ fn value_of<'v, 'b, B: Backend, S: BuildHasher>(
     requires known { AllKnown values.now earlier.now }
     requires found { all_shown found.now ≡ values_in values.now earlier.now }
     ensures { option_map (λ value. value.now) result
-        ≡ option_map bytes_of (value_of values.now name.now.items) }
+        ≡ option_map text_bytes (value_of values.now name.now.items) }
 {
     if let Some(hole) = earlier.get(place) {
         if hole.name == *name {
