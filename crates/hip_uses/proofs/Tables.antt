@@ -7,8 +7,8 @@ use Rattle.std.proofs.lemmas.List.{get_or-map, length-map}
 use Rattle.std.proofs.lemmas.Option.{same_Some, slice_get-get_or, slice_get-map, slice_get_past, slice_get_read}
 use Rattle.std.specs.declared.alloc.Global.{Global}
 use Rattle.hipstr.specs.Handle.{Handle}
-use Rattle.hip_fields.specs.Records.{AreFields, AreRecords, FirstRecord, RecordsLeft}
-use Rattle.hip_uses.specs.Cells.{Cells, HasCell, HasCellAt, HasNoCell, HasNoCellAt, IsFirstAt, IsRagged, Texts, texts_of}
+use Rattle.hip_fields.specs.Records.{AreFields, AreRecords, FirstRecord, RecordsLeft, Texts}
+use Rattle.hip_uses.specs.Cells.{Cells, HasCell, HasCellAt, HasNoCell, HasNoCellAt, IsFirstAt, IsRagged, texts_of}
 
 -- the bytes of the fields of a record
 abbrev pub row_of : Vec Handle Global → Texts
