@@ -45,8 +45,8 @@ abbrev pub slot_fault : List SlotState → ℕ → Option Reason
 slot_fault slots i = if nat_lt i (length slots) then None else Some NoSlot
 
 -- a range that the slot doesn't have, which for a text has to begin and end at boundaries
-abbrev pub range_fault : List SlotState → ℕ → Bound ℕ → Bound ℕ → Option Reason
-range_fault slots s low high =
+abbrev pub slot_range_fault : List SlotState → ℕ → Bound ℕ → Bound ℕ → Option Reason
+slot_range_fault slots s low high =
     if text_at slots s
     then option_map text_reason_of (text_slice_fault low high (slot_at slots s).items)
     else option_map reason_of (slice_fault low high (length (slot_at slots s).items))
@@ -130,7 +130,7 @@ fault_of slots (Copy t bytes) = slot_fault slots t
 fault_of slots (Room t capacity) = slot_fault slots t
 fault_of slots (Clone s t) = option_or (slot_fault slots s) (slot_fault slots t)
 fault_of slots (Slice s t low high) =
-    option_or (slot_fault slots s) (option_or (slot_fault slots t) (range_fault slots s low high))
+    option_or (slot_fault slots s) (option_or (slot_fault slots t) (slot_range_fault slots s low high))
 fault_of slots (Push t bytes) = option_or (slot_fault slots t) (addition_fault (state_at slots t) bytes.now)
 fault_of slots (Pop t) = slot_fault slots t
 fault_of slots (Truncate t n) = option_or (slot_fault slots t) (end_fault (state_at slots t) n)
