@@ -7,7 +7,7 @@ use Rattle.hip_text.specs.Made.{IsPart}
 use Rattle.hip_text.specs.Meter.{RisesAtMost}
 use Rattle.hip_bytes.specs.declared.kind.Kind.{Kind}
 use Rattle.hip_match.specs.Characters.{char_ends}
-use Rattle.hip_match.specs.Joined.{parts}
+use Rattle.hip_match.specs.Joined.{parts_at}
 use Rattle.hip_match.specs.Pieces.{split}
 use Rattle.hip_match.specs.Runs.{lines}
 
@@ -17,11 +17,11 @@ Texts = List (List ℕ)
 
 -- the bytes of each field of a line
 abbrev pub fields_of : ℕ → List ℕ → Texts
-fields_of separator line = parts line (split (char_ends (λ c. c == separator) line) (length line))
+fields_of separator line = parts_at line (split (char_ends (λ c. c == separator) line) (length line))
 
 -- the records of a text, one for each line
 abbrev pub records_of : ℕ → List ℕ → List Texts
-records_of separator text = map (fields_of separator) (parts text (lines text))
+records_of separator text = map (fields_of separator) (parts_at text (lines text))
 
 -- the handles are parts of the source with these bytes, one after another
 abbrev pub AreFields : Handle → Texts → List Handle → Type 0

@@ -1,7 +1,7 @@
 //! Records, drawn one after another.
 ghost use Rattle.std.specs.Prelude.{◌≡◌, [], map, IfOk, IsOk};
 ghost use Rattle.hip_text.specs.Meter.{RisesAtMost};
-ghost use Rattle.hip_match.specs.Joined.{parts};
+ghost use Rattle.hip_match.specs.Joined.{parts_at};
 ghost use Rattle.hip_fields.specs.Records.{AreRecords, FirstRecord, FirstRecordCosts};
 ghost use Rattle.hip_fields.specs.Records.{fields_of, records_cost, records_of};
 
@@ -25,7 +25,7 @@ pub struct Records<'h, S: Source, I: Ranges> {
 
 impl<'h, S: Source, I: Ranges> Model for Records<'h, S, I> {
     ghost use Rattle.std.specs.Prelude.{◌≡◌, map};
-    ghost use Rattle.hip_match.specs.Joined.{parts};
+    ghost use Rattle.hip_match.specs.Joined.{parts_at};
     ghost use Rattle.hip_fields.specs.Records.{RecordsLeft, fields_of};
 
     ghost Value = { RecordsLeft };
@@ -33,7 +33,7 @@ impl<'h, S: Source, I: Ranges> Model for Records<'h, S, I> {
     ghost view = { λ records. record {
       source = S.handle records.source.now;
       rest = map (fields_of records.separator)
-          (parts (S.handle records.source.now).items (I.rest records.lines));
+          (parts_at (S.handle records.source.now).items (I.rest records.lines));
     } };
 
     ghost invariant = { λ records. I.ready records.lines
@@ -48,7 +48,7 @@ impl<'h, S: Source, I: Ranges> Records<'h, S, I> {
         requires text { I.text lines ≡ (S.handle source.now).items }
         ensures source { result.source ≡ S.handle source.now }
         ensures rest { result.rest
-            ≡ map (fields_of separator) (parts (S.handle source.now).items (I.rest lines)) }
+            ≡ map (fields_of separator) (parts_at (S.handle source.now).items (I.rest lines)) }
     {
         Records {
             source,

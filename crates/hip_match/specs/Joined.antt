@@ -2,8 +2,8 @@
 use Rattle.std.specs.Prelude.{ℕ, List, [], ◌∷◌, ◌++◌, map, slice_range}
 
 -- the bytes of the text in each range
-abbrev pub parts : List ℕ → List (ℕ × ℕ) → List (List ℕ)
-parts text ranges = map (λ r. slice_range text r.0 r.1) ranges
+abbrev pub parts_at : List ℕ → List (ℕ × ℕ) → List (List ℕ)
+parts_at text ranges = map (λ r. slice_range text r.0 r.1) ranges
 
 -- the lists, one after another
 abbrev pub together : List (List ℕ) → List ℕ
