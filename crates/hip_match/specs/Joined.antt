@@ -11,7 +11,7 @@ together [] = []
 together (x ∷ xs) = x ++ together xs
 
 -- the lists, with a separator between each two
-abbrev pub joined : List ℕ → List (List ℕ) → List ℕ
-joined sep [] = []
-joined sep (x ∷ []) = x
-joined sep (x ∷ y ∷ ys) = x ++ (sep ++ joined sep (y ∷ ys))
+abbrev pub rejoined : List ℕ → List (List ℕ) → List ℕ
+rejoined sep [] = []
+rejoined sep (x ∷ []) = x
+rejoined sep (x ∷ y ∷ ys) = x ++ (sep ++ rejoined sep (y ∷ ys))

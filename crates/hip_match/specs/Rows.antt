@@ -12,7 +12,7 @@ use Rattle.hip_match.specs.Pieces.{split, split_inclusive, split_terminator, spl
 use Rattle.hip_match.specs.Runs.{split_whitespace, split_ascii_whitespace, lines}
 use Rattle.hip_match.specs.Trims.{IsSequence, strip_prefix, strip_suffix, split_once, rsplit_once}
 use Rattle.hip_match.specs.Draw.{draw, left_by}
-use Rattle.hip_match.specs.Joined.{parts_at, joined, together}
+use Rattle.hip_match.specs.Joined.{parts_at, rejoined, together}
 
 -- "aa" occurs in "aaa" at 0 and at 1
 pub occurs-over : text_ends (97 ∷ 97 ∷ []) (97 ∷ 97 ∷ 97 ∷ []) 1 ≡ Some 3
@@ -213,7 +213,7 @@ left_by-row = refl
 pub parts-row : parts_at (97 ∷ 44 ∷ 98 ∷ []) ((0, 1) ∷ (2, 3) ∷ []) ≡ ((97 ∷ []) ∷ (98 ∷ []) ∷ [])
 parts-row = refl
 
-pub joined-row : joined (44 ∷ []) ((97 ∷ []) ∷ (98 ∷ []) ∷ []) ≡ (97 ∷ 44 ∷ 98 ∷ [])
+pub joined-row : rejoined (44 ∷ []) ((97 ∷ []) ∷ (98 ∷ []) ∷ []) ≡ (97 ∷ 44 ∷ 98 ∷ [])
 joined-row = refl
 
 pub together-row : together ((97 ∷ 44 ∷ []) ∷ (98 ∷ []) ∷ []) ≡ (97 ∷ 44 ∷ 98 ∷ [])

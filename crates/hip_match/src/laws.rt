@@ -3,7 +3,7 @@ ghost use Rattle.std.specs.Prelude.{◌≡◌, ◌+◌, ◌++◌, ℕ, List, len
 ghost use Rattle.std.specs.Char.{is_whitespace, is_ascii_whitespace};
 ghost use Rattle.hip_match.specs.Characters.{char_ends};
 ghost use Rattle.hip_match.specs.Draw.{draw, fronts, backs, left_by};
-ghost use Rattle.hip_match.specs.Joined.{joined, parts_at, together};
+ghost use Rattle.hip_match.specs.Joined.{rejoined, parts_at, together};
 ghost use Rattle.hip_match.specs.Leftmost.{IsLeftmost, leftmost};
 ghost use Rattle.hip_match.specs.Occurrence.{EndsMatchStarts};
 ghost use Rattle.hip_match.specs.Pieces.{split, split_inclusive, split_terminator, splitn, rsplit, rsplit_terminator, rsplitn};
@@ -40,7 +40,7 @@ pub fn one_char_reverses<P: OneChar>(pattern: &P, text: &str)
 
 /// The pieces of a split by a text, joined with it, give the source; the pieces that end with it give the source as they are.
 pub fn join_undoes_split(text: &str, separator: &str)
-    ensures split { joined separator.now
+    ensures split { rejoined separator.now
         (parts_at text.now (split (text_ends separator.now text.now) (length text.now))) ≡ text.now }
     ensures inclusive { together
         (parts_at text.now (split_inclusive (text_ends separator.now text.now) (length text.now)))
@@ -49,7 +49,7 @@ pub fn join_undoes_split(text: &str, separator: &str)
 
 /// Like `join_undoes_split`, but by a character.
 pub fn join_undoes_split_by_char(text: &str, separator: char)
-    ensures split { joined (encode_utf8 separator)
+    ensures split { rejoined (encode_utf8 separator)
         (parts_at text.now (split (char_ends (λ c. c == separator) text.now) (length text.now)))
         ≡ text.now }
     ensures inclusive { together
