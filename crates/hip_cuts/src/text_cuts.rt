@@ -12,7 +12,7 @@ ghost use Rattle.hip_cuts.specs.Cut.{OnceAnswers, OnceCosts, StripAnswers, Strip
 ghost use Rattle.hip_cuts.specs.Cut.{PartIfAny, PartIfAnyCosts, PartsIfAny, PartsIfAnyCosts};
 ghost use Rattle.hip_cuts.specs.Walks.{GoesOver};
 
-use crate::pieces::{Pieces, Source};
+use crate::pieces::{PieceSource, Pieces};
 use crate::pieces_at::PiecesAt;
 use crate::walk::Walk;
 use hip_match::lines::Lines;
@@ -29,7 +29,7 @@ use std::alloc::{AllocError, Global};
 
 /// How a text is taken apart: by the calls of Rust's `str`, whose pieces are texts of the same kind of handle. Each is the source's part
 /// at its range, so on a backend that shares owners it copies at most the bytes that a handle holds in itself, and none of a borrowed text.
-pub trait TextCuts<B: Backend>: Source {
+pub trait TextCuts<B: Backend>: PieceSource {
     /// The parts between the occurrences of `pattern`, one more than there are occurrences.
     fn split<'h, P: Pattern>(&'h self, alloc: Global, pattern: P) -> Pieces<'h, Self, Split<'h, P>>
         requires { P.can_search pattern }

@@ -8,14 +8,14 @@ ghost use Rattle.hip_fields.specs.Records.{fields_of, records_cost, records_of};
 use crate::line::fields_between;
 use hip_cuts::hip_match::lines::Lines;
 use hip_cuts::hip_match::ranges::Ranges;
-use hip_cuts::{Backend, HipStr, Meter, Source};
+use hip_cuts::{Backend, HipStr, Meter, PieceSource};
 use std::alloc::{AllocError, Global};
 use std::marker::Model;
 
 /// The records of a text that are still to come, one for each of the lines that `I` gives. Seen as the text and the bytes of these
 /// records' fields.
 #[derive(Drop)]
-pub struct Records<'h, S: Source, I: Ranges> {
+pub struct Records<'h, S: PieceSource, I: Ranges> {
     source: &'h S,
     lines: I,
     separator: char,
@@ -23,7 +23,7 @@ pub struct Records<'h, S: Source, I: Ranges> {
     room: usize,
 }
 
-impl<'h, S: Source, I: Ranges> Model for Records<'h, S, I> {
+impl<'h, S: PieceSource, I: Ranges> Model for Records<'h, S, I> {
     ghost use Rattle.std.specs.Prelude.{◌≡◌, map};
     ghost use Rattle.hip_match.specs.Joined.{parts_at};
     ghost use Rattle.hip_fields.specs.Records.{RecordsLeft, fields_of};
@@ -40,7 +40,7 @@ impl<'h, S: Source, I: Ranges> Model for Records<'h, S, I> {
         × (I.text records.lines ≡ (S.handle records.source.now).items) };
 }
 
-impl<'h, S: Source, I: Ranges> Records<'h, S, I> {
+impl<'h, S: PieceSource, I: Ranges> Records<'h, S, I> {
     /// The records of `source`, one for each of `lines`, which are ranges of it.
     #[inline]
     pub(crate) fn over(source: &'h S, lines: I, separator: char) -> Self
