@@ -33,7 +33,7 @@ impl Numbers {
     }
 }
 
-/// The first eight bytes of such words.
+/// The first eight bytes of words that share one hash.
 fn heads(length: usize) -> impl Iterator<Item = [u8; 8]> {
     let state = SEED.wrapping_add(length as u64);
     let multiples = (0..SMALL).map(move |k| (k.wrapping_mul(GREAT) ^ state).to_le_bytes());
@@ -50,7 +50,7 @@ fn ends(numbers: &mut Numbers) -> HashMap<u64, Vec<Vec<u8>>> {
     ends
 }
 
-/// What four bytes of a word's end leave of `SMALL`, as the bits from `shift` on of its last eight bytes.
+/// The remainder by `SMALL` of four bytes of a word's end, as the bits from `shift` on of its last eight bytes.
 fn remainder(bytes: &[u8], shift: u32) -> u64 {
     let number = u64::from(u32::from_le_bytes(bytes.try_into().unwrap())) << shift;
     (number ^ MULTIPLIER & 0xffff_ffff << shift) % SMALL

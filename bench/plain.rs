@@ -1,4 +1,4 @@
-//! What a workload asks of a byte string, of a plain vector, and of hipstr in Rust.
+//! The calls that workloads make on a byte string: those of a plain vector, and of hipstr in Rust.
 use std::ops::Range;
 
 /// A byte string. `'a` is how long the bytes live that it may lend.

@@ -28,7 +28,7 @@ fn now() -> f64 {
     time[0] as f64 * 1e9 + time[1] as f64
 }
 
-/// What is walked over.
+/// The kind of a walk.
 #[derive(Clone, Copy)]
 enum Walk {
     Split,
@@ -43,7 +43,7 @@ enum Walk {
     AsciiWordsBack,
 }
 
-/// What it is walked over by.
+/// The pattern of a walk.
 #[derive(Clone, Copy)]
 enum By {
     Text(&'static str),

@@ -4,7 +4,7 @@ use std::collections::{BTreeMap, HashMap};
 
 const MEBIBYTE: u64 = 1 << 20;
 
-/// What a workload reads.
+/// The input of a workload.
 #[derive(Clone, Copy)]
 pub enum Input {
     Row,

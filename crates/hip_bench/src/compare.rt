@@ -41,7 +41,7 @@ pub(crate) fn number_of(order: Ordering) -> u64 {
     }
 }
 
-/// Each round adds how the values of a pair stand to each other.
+/// Each round adds the order of the values of each pair.
 #[inline(always)]
 fn ordered(alloc: Global, input: &[u8], len: usize, rounds: u64) -> Option<u64> {
     let pairs = pairs(alloc, input, len)?;

@@ -5,7 +5,7 @@ use hipstr::Rc;
 use hipstr::string::{HipStr, TextCuts};
 use std::alloc::{AllocError, Global};
 
-/// The characters that stand around what a line says.
+/// The characters on both sides of a line's content.
 const MARGINS: &[char] = &['-', ' ', '\t'];
 
 /// How a line is cut.
@@ -16,7 +16,7 @@ enum Cut {
     StripPrefix,
 }
 
-/// What is left of a line.
+/// The part of a line that a cut leaves.
 #[inline(always)]
 fn left<'b>(
     line: &HipStr<'b, Rc>,

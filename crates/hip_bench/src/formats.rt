@@ -36,7 +36,7 @@ fn read(alloc: Global, input: &[u8], rounds: u64) -> Option<u64> {
     Some(sum)
 }
 
-/// The same as a text.
+/// Each round reads a form, as a text.
 fn read_text(alloc: Global, input: &[u8], rounds: u64) -> Option<u64> {
     let mut sum = 0;
     for round in 0..rounds {
@@ -47,7 +47,7 @@ fn read_text(alloc: Global, input: &[u8], rounds: u64) -> Option<u64> {
     Some(sum)
 }
 
-/// How many items an array has, and the sum of its numbers.
+/// The number of items of an array, and the sum of its numbers.
 fn added(value: &Value) -> Option<(usize, u64)> {
     let items = value.as_array()?;
     let mut sum = 0u64;

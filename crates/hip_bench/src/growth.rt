@@ -4,7 +4,7 @@ use hipstr::bytes::HipByt;
 use hipstr::{Backend, Rc, Unique};
 use std::alloc::Global;
 
-/// How many bytes a row of the input has, from which the pushed ones are taken in turn.
+/// The number of bytes of a row of the input, from which the pushed ones are taken in turn.
 const ROW: u64 = 4096;
 
 /// Each round pushes a mebibyte, byte by byte.

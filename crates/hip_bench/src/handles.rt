@@ -6,10 +6,10 @@ use hipstr::bytes::HipByt;
 use hipstr::{Backend, Rc, Unique};
 use std::alloc::Global;
 
-/// How many bytes the values have that are cloned, cut and written.
+/// The number of bytes of the values that are cloned, cut and written.
 const LONG: usize = 1024;
 
-/// How many bytes an inline value has, and a short part.
+/// The number of bytes of an inline value, and of a short part.
 const SHORT: usize = 10;
 
 /// A copy of the first bytes of the input.
@@ -130,7 +130,7 @@ fn append<B: Backend>(value: &mut HipByt<B>, alloc: Global, addition: &[u8]) -> 
     if added { Some(()) } else { None }
 }
 
-/// Each round adds bytes so.
+/// Each round adds bytes through the vector that is lent.
 #[inline(always)]
 fn appends<B: Backend>(alloc: Global, input: &[u8], rounds: u64) -> Option<u64> {
     let mut value = copied::<B>(alloc, input, LONG)?;

@@ -7,15 +7,15 @@ use std::alloc::Global;
 use std::collections::{BTreeMap, HashMap};
 use std::hash::Hash;
 
-// What a text promises of its hash and its order is much to prove with, so a map is asked where nothing is known of its keys but that they
-// have them.
+// The contracts of a text's hash and order are long, and costly to prove with. So a map is called where nothing is known of its keys but
+// their bounds.
 
 /// A map from words to their numbers, which are given out from zero.
 trait Numbers<K: Drop>: Drop {
     /// The number under which a word stands in the map, where it is put if it isn't there.
     fn number(&mut self, word: K) -> Option<u64>;
 
-    /// How many words there are.
+    /// The number of words.
     fn count(&self) -> u64;
 }
 

@@ -4,7 +4,7 @@ use hipstr::Rc;
 use hipstr::bytes::HipByt;
 use std::alloc::{AllocError, Global};
 
-/// What stands between the parts of a join.
+/// The separator of a join.
 const SEPARATOR: &[u8] = b", ";
 
 /// The input in parts of 16 bytes, lent.
@@ -47,7 +47,7 @@ fn concatenated(alloc: Global, input: &[u8], rounds: u64) -> Option<u64> {
     Some(sum)
 }
 
-/// The same with an iterator over the list.
+/// Like [`concatenated`], with an iterator over the list.
 fn concatenated_by_iterator(alloc: Global, input: &[u8], rounds: u64) -> Option<u64> {
     let parts = parts_of(alloc, input).ok()?;
     let mut sum = 0;
@@ -75,7 +75,7 @@ fn joined(alloc: Global, input: &[u8], rounds: u64) -> Option<u64> {
     Some(sum)
 }
 
-/// The same with an iterator over the list.
+/// Like [`joined`], with an iterator over the list.
 fn joined_by_iterator(alloc: Global, input: &[u8], rounds: u64) -> Option<u64> {
     let parts = parts_of(alloc, input).ok()?;
     let mut sum = 0;

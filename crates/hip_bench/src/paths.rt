@@ -15,7 +15,7 @@ fn paths<'b>(alloc: Global, input: &[u8]) -> Option<Vec<HipPath<'b, Rc>>> {
     Some(paths)
 }
 
-/// Each round adds how each path stands to the one behind it.
+/// Each round adds the order of each path and the one behind it.
 fn compared(alloc: Global, input: &[u8], rounds: u64) -> Option<u64> {
     let paths = paths(alloc, input)?;
     let mut sum = 0u64;

@@ -110,7 +110,7 @@ fn rounds_by<P: ReversePattern + Copy>(
     Some(ring.fold(sum))
 }
 
-/// The same by the characters that a closure passes, `,` and `;`.
+/// Like [`rounds_by`], with a closure that passes `,` and `;`.
 fn rounds_by_closure(
     alloc: Global,
     text: Option<HipStr<'_, Rc>>,

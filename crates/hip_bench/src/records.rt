@@ -23,7 +23,7 @@ fn draw_records<'h, 'b, I: Ranges + Drop>(
     Some(sum)
 }
 
-/// How many bytes texts have together.
+/// The number of bytes of all texts together.
 #[inline(always)]
 fn total_len(texts: &[HipStr<'_, Rc>]) -> u64 {
     let mut len = 0u64;

@@ -1,11 +1,11 @@
-//! What the workloads have in common: the checksum, and the ring that keeps values alive.
+//! The checksum of the workloads, and the ring that keeps their values alive.
 ghost use Rattle.std.specs.Prelude.{◌<◌};
 
 use hipstr::Backend;
 use hipstr::bytes::HipByt;
 use std::alloc::{AllocError, Global};
 
-/// How many values a ring keeps.
+/// The number of values that a ring keeps.
 const PLACES: u64 = 64;
 
 /// The bytes in a mebibyte.

@@ -6,7 +6,7 @@ use hipstr::string::HipStr;
 use std::alloc::Global;
 use std::str;
 
-/// How many positions of characters the slices begin at.
+/// The number of positions of characters that slices begin at.
 const STARTS: usize = 1010;
 
 /// The positions of the first characters of a text.
@@ -137,7 +137,7 @@ fn read(alloc: Global, input: &[u8], rounds: u64) -> Option<u64> {
     Some(sum)
 }
 
-/// The same, repaired.
+/// Like [`read`], where a unit without a partner becomes U+FFFD.
 fn read_lossy(alloc: Global, input: &[u8], rounds: u64) -> Option<u64> {
     let units = units(alloc, input)?;
     let mut sum = 0;

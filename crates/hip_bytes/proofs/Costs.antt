@@ -1,5 +1,4 @@
--- What the costs come to where owners are shared: a clone and a part copy no more bytes than a handle holds in itself, whatever the
--- kind and the length.
+-- The costs where owners are shared: a clone and a part copy no more bytes than a handle holds in itself, whatever the kind and the length.
 use Rattle.std.proofs.Common.{ℕ, ◌≤◌, true, arith}
 use Rattle.hip_bytes.specs.Cost.{clone_cost, cut_cost}
 use Rattle.hip_bytes.specs.declared.kind.Kind.{Kind}

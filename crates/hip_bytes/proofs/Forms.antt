@@ -1,4 +1,4 @@
--- What is written and read of a form, part by part.
+-- Forms that are written and read part by part.
 use Rattle.std.proofs.Common.{◌≡◌, ◌∙◌, ℕ, ◌+◌, ◌-◌, ◌^◌, ◌<◌, ◌≤◌, List, [], ◌∷◌, ◌++◌, Option, Some, None, Result, Ok, Err, length, drop, get_or, take, ap, append_assoc, arith, drop_at, length-append, length-take-le, le_refl, refl, subst, sym}
 use Rattle.std.proofs.KnownBytes.{Consumes-trans}
 use Rattle.std.proofs.Math.Seq.{drop-append_seam}
@@ -68,7 +68,7 @@ from_le-front (a ∷ b ∷ c ∷ d ∷ e ∷ more) rest l = absurd (omega arith)
 pub form-of : (head items : List ℕ) → length head ≡ 4 → ((i : ℕ) → get_or head i 0 < 256) → length items ≡ from_le_bytes w32 head → borsh_form items ≡ head ++ items
 form-of head items l small says = ap (λ front. front ++ items) (le_bytes_4 head (length items) l small says)
 
--- what was read of a form whose first four bytes weren't all there
+-- a read that ended within the first four bytes of a form
 pub read-head : {T : Type 0} (shown : T → List ℕ) (old new : Option (List ℕ)) (fault : BorshFault) → (fault ≡ Memory → ⊥)
     → MovesIn shown 4 old new (Err fault) → BorshReads old new (Err fault)
 read-head shown old new Memory never moved = absurd (never refl)
@@ -80,7 +80,7 @@ read-head shown old new NotUtf8 never moved = moved
 unfinished : (head taken : List ℕ) (len : ℕ) → length head ≡ 4 → len ≡ from_le_bytes w32 head → length taken < len → IsUnfinished (head ++ taken)
 unfinished head taken len l says short = omega (arith, length-append head taken, from_le-front head taken l)
 
--- what was read of a form whose first four bytes were there
+-- a read that had the first four bytes of a form, and ended behind them
 pub read-rest : {T : Type 0} (shown : T → List ℕ) (old mid new : Option (List ℕ)) (head : List ℕ) (len : ℕ) (fault : BorshFault)
     → Consumes old mid head → length head ≡ 4 → len ≡ from_le_bytes w32 head → (fault ≡ Memory → INLINE_CAPACITY < len)
     → MovesIn shown len mid new (Err fault) → BorshReads old new (Err fault)
@@ -100,7 +100,7 @@ pub read-form : (old mid new : Option (List ℕ)) (head items : List ℕ) (len :
 read-form old mid new head items len first second l small same says =
     subst (Consumes old new) (sym (form-of head items l small (same ∙ says))) (Consumes-trans _ _ _ _ _ first second)
 
--- the same where no handle was made of it
+-- like `read-form`, where memory for the handle was refused
 pub read-unmade : (old mid new : Option (List ℕ)) (head items : List ℕ) (len : ℕ) → Consumes old mid head → Consumes mid new items → length head ≡ 4
     → length items ≡ len → len ≡ from_le_bytes w32 head → INLINE_CAPACITY < len → BorshReads old new (Err Memory)
 read-unmade old mid new head items len first second l same says long =
@@ -118,7 +118,7 @@ read-further shown shown' old mid new bytes more len Io first within (taken, con
     (bytes ++ taken, Consumes-trans _ _ _ _ _ first consumed, omega (arith, length-append bytes taken))
 read-further shown shown' old mid new bytes more len NotUtf8 first within moved = moved
 
--- what a form says of its list, whatever follows it
+-- the length that the first four bytes of a form say, whatever follows it
 says-length : (items follow : List ℕ) → length items < 2 ^ 32 → from_le_bytes w32 (borsh_form items ++ follow) ≡ length items
 says-length items follow small = from_le-front (to_le_bytes w32 (length items)) (items ++ follow) refl ∙ from_le_bytes-to_le_bytes_4 (length items) small
 

@@ -25,7 +25,7 @@ joined-take_more f sep xs i d within =
     ap (join_by f sep) (take_more xs i d within) ∙ joined-snoc f sep (take i xs) (get_or xs i d)
     ∙ ap (λ gap. (join_by f sep (take i xs) ++ gap) ++ f (get_or xs i d)) (ap (λ k. gap_at k sep) (length-take-le i xs (omega arith)))
 
--- and how long that is
+-- the length of a join with one piece more
 pub length-joined-take_more : {A : Type 0} (f : A → List ℕ) (sep : List ℕ) (xs : List A) (i : ℕ) (d : A) → i < length xs
     → length (join_by f sep (take (i + 1) xs)) ≡ length (join_by f sep (take i xs)) + length (gap_at i sep) + length (f (get_or xs i d))
 length-joined-take_more f sep xs i d within =
@@ -99,7 +99,7 @@ length-joined f sep (x ∷ xs) =
     let others : length (x ∷ xs) - 1 ≡ length xs = omega arith in
     omega (arith, ap (λ n. n * length sep) others, length-flat_map-next f sep xs, length-append (f x) (flat_map (next f sep) xs), length-append (f x) (flat_map f xs))
 
--- and so long is a front of the pieces with one more
+-- the length of a front of the pieces with one more
 pub length-front : {A : Type 0} (f : A → List ℕ) (xs : List A) (i : ℕ) (d : A) → i < length xs
     → length (flat_map f (take (i + 1) xs)) ≡ length (flat_map f (take i xs)) + length (f (get_or xs i d))
 length-front f xs i d within =
@@ -118,7 +118,7 @@ pub gap-snoc : {A : Type 0} (sep : List ℕ) (xs : List A) (y : A) → sep ≡ g
 gap-snoc sep [] y = refl
 gap-snoc sep (x ∷ xs) y = refl
 
--- what holds of nothing and of the separator holds of each gap
+-- a property of nothing and of the separator is one of each gap
 pub kept-gap : (keeps : List ℕ → Type 0) (sep : List ℕ) (i : ℕ) → keeps [] → keeps sep → keeps (gap_at i sep)
 kept-gap keeps sep zero empty kept = empty
 kept-gap keeps sep (suc i) empty kept = kept
@@ -131,7 +131,7 @@ fits_where : (fits : Bool) (before most : ℕ) → (fits ≡ true → before ≤
 fits_where true before most h = ap (λ b. b && true) (le-leb before most (h refl))
 fits_where false before most h = and_false (nat_le before most)
 
--- what fits after more came, fitted before
+-- a length that fits the limit fitted it before it grew
 pub fits_before : (before after most : ℕ) → before ≤ after → (nat_le before most && nat_le after most) ≡ nat_le after most
 fits_before before after most grown = fits_where (nat_le after most) before most (λ e. omega (arith, leb-true after most e))
 
@@ -142,7 +142,7 @@ spilled_once true false fits is = omega arith
 spilled_once false true fits is = absurd (cc)
 spilled_once false false fits is = omega arith
 
--- what was refused for memory is longer than a handle
+-- an addition that was refused for memory is longer than a handle holds in itself
 pub refused_long : (in_handle : Bool) (len more : ℕ) → in_handle ≡ nat_le len INLINE_CAPACITY → (in_handle ≡ true → INLINE_CAPACITY < more) → len ≤ more → INLINE_CAPACITY < more
 refused_long true len more place short grown = short refl
 refused_long false len more place short grown = omega (arith, leb-false len INLINE_CAPACITY (sym place), grown)

@@ -23,7 +23,7 @@ pub length-repeat : (n : ℕ) (xs : List ℕ) → length (repeat n xs) ≡ n * l
 length-repeat zero xs = omega arith
 length-repeat (suc n) xs = omega (arith, length-append xs (repeat n xs), length-repeat n xs, suc-mul n (length xs))
 
--- its front is the list fewer times
+-- the front of a repetition is the list fewer times
 pub take-repeat : (m n : ℕ) (xs : List ℕ) → m ≤ n → take (m * length xs) (repeat n xs) ≡ repeat m xs
 take-repeat m n xs within =
     let whole : n ≡ m + (n - m) = omega arith in

@@ -1,5 +1,5 @@
--- Borsh's form of a list of bytes, and what a call that writes or reads one may answer. (The specification at borsh.io: a `u32` is four
--- bytes, the least first; a dynamic container is its length as a `u32` and then its items; a text's form is that of its bytes.)
+-- Borsh's form of a list of bytes, and the answers of calls that write or read one. (The specification at borsh.io: a `u32` is four bytes,
+-- the least first; a dynamic container is its length as a `u32` and then its items; a text's form is that of its bytes.)
 use Rattle.std.specs.Prelude.{◌≡◌, ℕ, ◌+◌, ◌-◌, ◌^◌, ◌<◌, ◌≤◌, ◌⊎◌, List, [], ◌∷◌, ◌++◌, length, drop, Option, Some, Result, Ok, Err, codes, refl}
 use Rattle.std.specs.Int.{w32, to_le_bytes, from_le_bytes}
 use Rattle.std.specs.Io.KnownBytes.{Appends, Consumes, IsAtEnd, Keeps}
@@ -14,7 +14,7 @@ use Rattle.hip_bytes.specs.declared.kind.TheConstants.{INLINE_CAPACITY}
 abbrev pub borsh_form : List ℕ → List ℕ
 borsh_form items = to_le_bytes w32 (length items) ++ items
 
--- how long the form is that begins with these bytes: four, and as many as these four say
+-- the length of the form that begins with these bytes: four, and as many as these four say
 abbrev pub form_length : List ℕ → ℕ
 form_length bytes = 4 + from_le_bytes w32 bytes
 
@@ -22,8 +22,8 @@ form_length bytes = 4 + from_le_bytes w32 bytes
 abbrev pub IsUnfinished : List ℕ → Type 0
 IsUnfinished bytes = length bytes < form_length bytes
 
--- what a sink had and has, by the answer of a call that writes the form of a list: the whole form went there, or, where a write failed or
--- took no byte, a beginning of it, or nothing, where the list is too long
+-- a sink before and after a call that writes the form of a list, by its answer: the whole form went there, or, where a write failed or took
+-- no byte, a beginning of it, or nothing, where the list is too long
 abbrev pub BorshWrites : {T : Type 0} → List ℕ → Option (List ℕ) → Option (List ℕ) → Result T BorshFault → Type 0
 BorshWrites items old new (Ok done) = (length items < 2 ^ 32) × Appends old new (borsh_form items)
 BorshWrites items old new (Err TooLong) = (2 ^ 32 ≤ length items) × Keeps old new
@@ -33,8 +33,8 @@ BorshWrites items old new (Err Memory) = ⊥
 BorshWrites items old new (Err Truncated) = ⊥
 BorshWrites items old new (Err NotUtf8) = ⊥
 
--- what a source had to come and has, by the answer of a call that reads a form: just the form was taken; or all that there was, a form that
--- lacks a byte; or, where a read failed, such a beginning; or, where more bytes than a handle itself holds wanted memory, a beginning or
+-- a source before and after a call that reads a form, by its answer: just the form was taken; or all that there was, a form that lacks a
+-- byte; or, where a read failed, such a beginning; or, where memory for more bytes than a handle itself holds was refused, a beginning or
 -- the whole form
 abbrev pub BorshReads : Option (List ℕ) → Option (List ℕ) → Result Handle BorshFault → Type 0
 BorshReads old new (Ok handle) = (length handle.items < 2 ^ 32) × HoldsByLength handle handle.items × Consumes old new (borsh_form handle.items)
@@ -45,7 +45,7 @@ BorshReads old new (Err Memory) =
 BorshReads old new (Err TooLong) = ⊥
 BorshReads old new (Err NotUtf8) = ⊥
 
--- how many reads have failed: Io tells of one that did, and of no other; any other answer tells that none did
+-- the number of reads that failed: Io tells of one that did, and of no other; any other answer tells that none did
 abbrev pub CountsReads : {T : Type 0} → Result T BorshFault → ℕ → ℕ → Type 0
 CountsReads (Ok done) old new = new ≡ old
 CountsReads (Err Io) old new = new ≡ one_more old
@@ -54,7 +54,7 @@ CountsReads (Err TooLong) old new = new ≡ old
 CountsReads (Err Truncated) old new = new ≡ old
 CountsReads (Err NotUtf8) old new = new ≡ old
 
--- the same of writes, where Io may also tell of one that took no byte, as only a sink that is full does
+-- the number of writes that failed, like `CountsReads`; Io may also tell of a write that took no byte, as only a sink that is full does
 abbrev pub CountsWrites : {T : Type 0} → Result T BorshFault → Type 0 → ℕ → ℕ → Type 0
 CountsWrites (Err Io) Full old new = (new ≡ one_more old) ⊎ (Full × (new ≡ old))
 CountsWrites (Ok done) Full old new = new ≡ old
@@ -63,7 +63,8 @@ CountsWrites (Err TooLong) Full old new = new ≡ old
 CountsWrites (Err Truncated) Full old new = new ≡ old
 CountsWrites (Err NotUtf8) Full old new = new ≡ old
 
--- what was written of a list to a sink that held bytes before, and then other bytes, is read as that list, and those are left
+-- the form that was written of a list, behind bytes that the sink held and before other bytes, is read as that list, and those other bytes
+-- are left
 abbrev pub BorshRoundTrip : List ℕ → List ℕ → Type 0
 BorshRoundTrip items follow =
     (old new : List ℕ) (left : Option (List ℕ)) (read : Handle) → BorshWrites {T = Unit {0}} items (Some old) (Some new) (Ok tt)

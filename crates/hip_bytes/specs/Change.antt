@@ -1,4 +1,4 @@
--- What a call that changes a handle may answer, and what it leaves of the handle. A refused one leaves all as it was.
+-- The answers of calls that change a handle, and the handle that they leave. A refused call leaves all as it was.
 use Rattle.std.specs.Prelude.{◌≡◌, ℕ, ◌-◌, ◌<◌, ◌≤◌, Bool, false, List, [], ◌∷◌, ◌++◌, length, take, min, Option, Some, None, Result, Ok, Err}
 use Rattle.hip_bytes.specs.Handle.{Handle}
 use Rattle.hip_bytes.specs.Kinds.{cut_kind, kept_capacity, owned_kind, PushedKind, HasCapacity}
@@ -13,7 +13,7 @@ pub record IsPushed (shares : Bool) (old new : Handle) (addition : List ℕ) : T
   pub unchanged : length addition ≡ 0 → new ≡ old
   pub kept : shares ≡ false → old.kind ≡ Allocated → old.capacity ≤ new.capacity
 
--- a push adds its items, or is refused where so many may want memory
+-- a push adds its items, or is refused where they may need memory
 abbrev pub PushAnswers : {T E : Type 0} → Bool → Handle → List ℕ → Result T E → Handle → Type 0
 PushAnswers shares old addition (Ok done) new = IsPushed shares old new addition
 PushAnswers shares old addition (Err error) new = PushNeedsMemory shares old.kind old.capacity (length old.items) (length addition) × (new ≡ old)
@@ -37,7 +37,7 @@ pub record IsRewritten (shares : Bool) (old new : Handle) (items : List ℕ) : T
   pub capacity : HasCapacity new.kind (length new.items) new.capacity
   pub kept : shares ≡ false → old.kind ≡ Allocated → new.capacity ≡ old.capacity
 
--- a call that writes over the items does so, or is refused where that may want memory
+-- a call that writes over the items does so, or is refused where that may need memory
 abbrev pub WriteAnswers : {T E : Type 0} → Bool → Handle → List ℕ → Result T E → Handle → Type 0
 WriteAnswers shares old items (Ok done) new = IsRewritten shares old new items
 WriteAnswers shares old items (Err error) new = WriteNeedsMemory shares old.kind (length old.items) × (new ≡ old)
@@ -50,7 +50,7 @@ pub record IsShrunk (old new : Handle) (room : ℕ) : Type 0 where
   pub kept : new.kind ≡ Allocated → min old.capacity room ≤ new.capacity
   pub shrunk : new.kind ≡ Allocated → new.capacity ≤ old.capacity
 
--- a call that gives room back does so, or is refused where that may want memory
+-- a call that gives room back does so, or is refused where that may need memory
 abbrev pub ShrinkAnswers : {T E : Type 0} → Handle → ℕ → Result T E → Handle → Type 0
 ShrinkAnswers old room (Ok done) new = IsShrunk old new room
 ShrinkAnswers old room (Err error) new = CutNeedsMemory old.kind room × (new ≡ old)

@@ -1,5 +1,5 @@
--- How many bytes a call copies at most, and where it may want memory, by the kind and the length that there are.
--- `shares` says whether owners are shared.
+-- The greatest number of bytes that a call copies, and where it may need memory, by the kind and the length that there are. `shares` says
+-- whether owners are shared.
 use Rattle.std.specs.Prelude.{◌≡◌, ℕ, ◌+◌, ◌*◌, ◌<◌, ◌≤◌, min, Bool, true, false, length, if◌then◌else◌, nat_le, refl}
 use Rattle.hip_raw.specs.Meter.{pot, unless_shared, times_copied}
 use Rattle.hip_bytes.specs.Handle.{Handle}
@@ -52,7 +52,7 @@ write_cost shares Borrowed len = times_copied shares len
 write_cost true Allocated len = len
 write_cost false Allocated len = 0
 
--- the same of a handle: bytes that are inline or borrowed have nothing that grows
+-- like `pot` of hip_raw, of a handle: bytes that are inline or borrowed have nothing that grows
 abbrev pub pot_of : Kind → ℕ → ℕ → ℕ
 pot_of Inline len capacity = 0
 pot_of Borrowed len capacity = 0
@@ -66,31 +66,31 @@ handle_pot handle = pot_of handle.kind (length handle.items) handle.capacity
 abbrev pub PushIsPaid : Bool → Handle → Handle → ℕ → ℕ → ℕ → Type 0
 PushIsPaid shares old new added before after = shares ≡ false → old.kind ≡ Allocated → after + handle_pot new ≤ before + handle_pot old + 3 * added
 
--- a part of `len` bytes may want memory
+-- a part of `len` bytes may need memory
 abbrev pub CutNeedsMemory : Kind → ℕ → Type 0
 CutNeedsMemory kind len = (kind ≡ Allocated) × (INLINE_CAPACITY < len)
 
--- `len` bytes put together on a handle of some capacity may want memory: on an owner that isn't shared where they pass it
+-- `len` bytes put together on a handle of some capacity may need memory: on an owner that isn't shared where they pass it
 abbrev pub GrowthNeedsMemory : Bool → Kind → ℕ → ℕ → Type 0
 GrowthNeedsMemory shares Inline capacity len = INLINE_CAPACITY < len
 GrowthNeedsMemory shares Borrowed capacity len = INLINE_CAPACITY < len
 GrowthNeedsMemory shares Allocated capacity len = shares ≡ false → capacity < len
 
--- a push of `added` bytes on `len` may want memory where the bytes together may; one of nothing doesn't
+-- a push of `added` bytes on `len` may need memory where the bytes together may; one of nothing doesn't
 abbrev pub PushNeedsMemory : Bool → Kind → ℕ → ℕ → ℕ → Type 0
 PushNeedsMemory shares kind capacity len added = (0 < added) × GrowthNeedsMemory shares kind capacity (len + added)
 
--- bytes that are made the handle's own may want memory
+-- bytes that are made the handle's own may need memory
 abbrev pub OwnNeedsMemory : Kind → ℕ → Type 0
 OwnNeedsMemory kind len = (kind ≡ Borrowed) × (INLINE_CAPACITY < len)
 
--- bytes that are written over may want memory
+-- bytes that are written over may need memory
 abbrev pub WriteNeedsMemory : Bool → Kind → ℕ → Type 0
 WriteNeedsMemory shares Inline len = ⊥
 WriteNeedsMemory shares Borrowed len = INLINE_CAPACITY < len
 WriteNeedsMemory shares Allocated len = shares ≡ true
 
--- a copy of the bytes with the same kind, but of lent ones by length, may want memory
+-- a copy of the bytes with the same kind, but of lent ones by length, may need memory
 abbrev pub CopyNeedsMemory : Kind → ℕ → Type 0
 CopyNeedsMemory Inline len = ⊥
 CopyNeedsMemory Borrowed len = INLINE_CAPACITY < len

@@ -6,7 +6,7 @@ use Rattle.hip_bytes.specs.declared.borsh_fault.BorshFault.TheVariants.{Memory, 
 use Rattle.hip_bytes.specs.declared.json_fault.JsonFault.{JsonFault}
 use Rattle.hip_bytes.specs.declared.json_fault.JsonFault.TheVariants.{Memory as no_memory, NotUtf8 as no_text, NotJsonString, NotJsonBytes, NotJsonUnix}
 
--- what the fault prints
+-- the message of the fault
 abbrev pub borsh_fault_text : BorshFault → List ℕ
 borsh_fault_text Memory = codes "out of memory"
 borsh_fault_text TooLong = codes "too long"
@@ -14,7 +14,7 @@ borsh_fault_text Truncated = codes "truncated"
 borsh_fault_text Io = codes "input or output failed"
 borsh_fault_text NotUtf8 = codes "not UTF-8"
 
--- what the fault prints
+-- the message of the fault
 abbrev pub json_fault_text : JsonFault → List ℕ
 json_fault_text no_memory = codes "out of memory"
 json_fault_text no_text = codes "not UTF-8"

@@ -1,4 +1,4 @@
--- What a list that is being made of others is. No public clause cites this module.
+-- A list that is being made of others. No public clause cites this module.
 use Rattle.std.specs.Prelude.{ℕ, Bool, true, false, List, if◌then◌else◌, ◌&&◌, not}
 use Rattle.hip_bytes.specs.declared.gathering.Place.{Place}
 use Rattle.hip_bytes.specs.declared.gathering.Place.TheVariants.{Handle, Vector}

@@ -1,4 +1,4 @@
--- What a clause sees of a handle. Bytes are a list of numbers below 256 (Rust's `[u8]`).
+-- A handle, as clauses see it. Bytes are a list of numbers below 256 (Rust's `[u8]`).
 use Rattle.std.specs.Prelude.{ℕ, List}
 use Rattle.hip_bytes.specs.declared.kind.Kind.{Kind}
 

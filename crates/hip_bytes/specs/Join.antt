@@ -18,7 +18,7 @@ bytes_of slice = slice.now
 abbrev pub joined : List ℕ → List (Bor (List ℕ)) → List ℕ
 joined sep slices = join_by bytes_of sep slices
 
--- what stands before the slice at a position
+-- the separator before the slice at a position; nothing before the first
 abbrev pub gap_at : ℕ → List ℕ → List ℕ
 gap_at zero sep = []
 gap_at (suc i) sep = sep
@@ -27,11 +27,11 @@ gap_at (suc i) sep = sep
 abbrev pub GivesAll : {I T A : Type 0} → (I → T → Type 0) → (T → Option A → T → Type 0) → I → (List A → Type 0) → Type 0
 GivesAll {I} {T} {A} into steps value P = (it : T) × (xs : List A) × into value it × Drains steps it xs × P xs
 
--- it gives these items first, and P holds of them
+-- like `GivesAll`, but the iterator may give more than these items
 abbrev pub GivesFirst : {I T A : Type 0} → (I → T → Type 0) → (T → Option A → T → Type 0) → I → (List A → Type 0) → Type 0
 GivesFirst {I} {T} {A} into steps value P = (it : T) × (xs : List A) × (later : T) × into value it × Yields steps it xs later × P xs
 
--- how many bytes a join of a result of `len` bytes copies at most
+-- the greatest number of bytes that a join of a result of `len` bytes copies
 abbrev pub join_cost : Bool → ℕ → ℕ
 join_cost shares len = times_copied shares len + INLINE_CAPACITY
 
@@ -46,7 +46,7 @@ repeated_kind kind len n = if is_plain len n then kind else by_length (n * len)
 abbrev pub repeat_cost : Bool → Kind → ℕ → ℕ → ℕ
 repeat_cost shares kind len n = if is_plain len n then clone_cost shares kind len else times_copied shares (n * len) + INLINE_CAPACITY
 
--- `len` bytes of a kind, `n` times, may want memory
+-- `len` bytes of a kind, `n` times, may need memory
 abbrev pub RepeatNeedsMemory : Kind → ℕ → ℕ → Type 0
 RepeatNeedsMemory kind len n = MatchBool (is_plain len n) (kind ≡ Allocated) (INLINE_CAPACITY < n * len)
 

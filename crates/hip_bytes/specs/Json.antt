@@ -1,4 +1,4 @@
--- The JSON forms of byte strings, texts and OS strings, and what a call that reads one may answer. (RFC 8259: an array of numbers, a string,
+-- The JSON forms of byte strings, texts and OS strings, and the answers of calls that read one. (RFC 8259: an array of numbers, a string,
 -- an object. A value is seen as serde_json's `Data` sees it, in the words of its look-ups.)
 use Rattle.std.specs.Prelude.{◌≡◌, ℕ, ◌<◌, List, [], ◌∷◌, ◌++◌, Option, Some, None, MatchOption, Result, Ok, Err, length, map, nat_lt, option_and_then, if◌then◌else◌, codes, refl}
 use Rattle.std.specs.Str.{bytes_eq}
@@ -48,7 +48,8 @@ only_unix (member key value (member other more later)) = None
 abbrev pub unix_of : Data → Option Data
 unix_of value = option_and_then only_unix (as_object value)
 
--- the items of an array are made a handle, by length, or more than it holds in itself wanted memory; or the first that is no byte is told
+-- the items of an array are made a handle, by length, or memory for more than it holds in itself was refused; or the first that is no byte
+-- is told
 abbrev pub JsonReadsItems : Items → Result Handle JsonFault → Type 0
 JsonReadsItems items (Ok handle) = AreBytes items handle.items × HoldsByLength handle handle.items
 JsonReadsItems items (Err Memory) = (bytes : List ℕ) × AreBytes items bytes × (INLINE_CAPACITY < length bytes)

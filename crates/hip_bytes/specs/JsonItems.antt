@@ -7,7 +7,7 @@ use Rattle.serde_json.specs.Data.{Items}
 use Rattle.hip_bytes.specs.declared.json_fault.JsonFault.{JsonFault}
 use Rattle.hip_bytes.specs.declared.json_fault.JsonFault.TheVariants.{NotJsonBytes}
 
--- what each is
+-- each item's byte, if it is one
 abbrev pub read_items : List Value → List (Option ℕ)
 read_items values = map (λ value. byte_of (view value)) values
 

@@ -1,4 +1,4 @@
--- What a call that makes a handle may answer. A refusal says where memory may be wanted.
+-- The answers of calls that make a handle. A refusal says where memory may be needed.
 use Rattle.std.specs.Prelude.{◌≡◌, ℕ, ◌*◌, ◌^◌, ◌<◌, ◌≤◌, Bool, List, length, Option, Result, Ok, Err}
 use Rattle.std.specs.List.{join_by, repeat}
 use Rattle.hip_raw.specs.Meter.{RisesAtLeast, RisesAtMost}
@@ -57,13 +57,13 @@ RepeatAnswers source n (Err Memory) = RepeatNeedsMemory source.kind (length sour
 RepeatAnswers source n (Err TooLong) = 2 ^ 64 ≤ n * length source.items
 
 -- a list that is put together of the pieces that an iterator gives, whose bytes are those that `shown` tells, by length. It is too long,
--- and may want memory, by what was given so far
+-- and may need memory, by what was given so far
 abbrev pub GatherAnswers : {I T A : Type 0} → (A → List ℕ) → (I → T → Type 0) → (T → Option A → T → Type 0) → I → List ℕ → Result Handle GrowFault → Type 0
 GatherAnswers shown into steps pieces sep (Ok handle) = HoldsByLength handle handle.items × GivesAll into steps pieces (λ given. handle.items ≡ join_by shown sep given)
 GatherAnswers shown into steps pieces sep (Err Memory) = GivesFirst into steps pieces (λ given. INLINE_CAPACITY < length (join_by shown sep given))
 GatherAnswers shown into steps pieces sep (Err TooLong) = GivesFirst into steps pieces (λ given. 2 ^ 64 ≤ length (join_by shown sep given))
 
--- how far a meter rises by it: where it was put together, no less than what stands there
+-- the rise of a meter by such a call: a list that was put together costs no less than its bytes
 abbrev pub GatherCosts : {I T A : Type 0} → Bool → (A → List ℕ) → (I → T → Type 0) → (T → Option A → T → Type 0) → I → List ℕ → Result Handle GrowFault → ℕ → ℕ → Type 0
 GatherCosts shares shown into steps pieces sep (Ok handle) old new =
     RisesAtMost old new (join_cost shares (length handle.items)) × RisesAtLeast old new (length handle.items)

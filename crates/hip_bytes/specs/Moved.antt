@@ -15,7 +15,7 @@ abbrev pub CountsOut : {T E : Type 0} → Result T E → Type 0 → ℕ → ℕ 
 CountsOut (Ok done) Full old new = new ≡ old
 CountsOut (Err fault) Full old new = (new ≡ one_more old) ⊎ (Full × (new ≡ old))
 
--- so many bytes were read, which are these; or fewer, where the source ended, a read failed or memory was wanted
+-- these `len` bytes were read; or fewer, where the source ended, a read failed or memory was refused
 abbrev pub MovesIn : {T : Type 0} → (T → List ℕ) → ℕ → Option (List ℕ) → Option (List ℕ) → Result T BorshFault → Type 0
 MovesIn shown len old new (Ok made) = (length (shown made) ≡ len) × Consumes old new (shown made)
 MovesIn shown len old new (Err Truncated) = (taken : List ℕ) × Consumes old new taken × (length taken < len) × IsAtEnd new

@@ -26,6 +26,6 @@ lender guard = guard.source.ghost_name
 abbrev pub with_vec : {S V P : Type 0} → RefMut S V P → V → RefMut S V P
 with_vec guard v = record guard { vec = v }
 
--- what a vector of bytes is to the logic of loans
+-- the row of a vector of bytes in the logic of loans
 abbrev pub bytes_row : RattleType
 bytes_row = vec.the_row u8 global.the_row ghosts

@@ -1,4 +1,4 @@
--- What each representation is as a handle. No public clause cites this module.
+-- Each representation as a handle. No public clause cites this module.
 use Rattle.std.specs.Prelude.{length}
 use Rattle.hip_raw.specs.Borrowed.{borrowed_bytes}
 use Rattle.hip_bytes.specs.Handle.{Handle}

@@ -1,4 +1,4 @@
--- What a call that slices may answer.
+-- The answers of calls that slice.
 use Rattle.std.specs.Prelude.{◌≡◌, ℕ, length, Bool, Some, None, Result, Ok, Err, is_none, if◌then◌else◌}
 use Rattle.std.specs.Range.Bound.{start_index, end_index}
 use Rattle.std.specs.declared.ops.Bound.{Bound}
@@ -18,8 +18,8 @@ pub record IsErrorOf {B S P : Type 0} (error : SliceError B S P) (source : Handl
   pub end : error_end error ≡ kept_number (end_index high (length source.items))
   pub source_is : error_source error ≡ source
 
--- a range of the source is answered by its part, or by want of memory where a part of that length may want it; what is no range
--- of the source is answered by its fault
+-- a range of the source is answered by its part, or by a refusal where a part of that length may need memory; bounds that are no range of
+-- the source are answered by their fault
 abbrev pub SliceAnswers : {B S P : Type 0} → Handle → Bound ℕ → Bound ℕ → Result Handle (SliceRefusal B S P) → Type 0
 SliceAnswers source low high (Ok part) =
     (slice_fault low high (length source.items) ≡ None) × IsPart source part (slice_of low high source.items)
@@ -27,7 +27,7 @@ SliceAnswers source low high (Err Memory) =
     (slice_fault low high (length source.items) ≡ None) × CutNeedsMemory source.kind (length (slice_of low high source.items))
 SliceAnswers source low high (Err (Slice error)) = IsErrorOf error source low high
 
--- how many bytes the call copies at most: none where the bounds are no range
+-- the greatest number of bytes that the call copies: none where the bounds are no range
 abbrev pub slice_cost : Bool → Handle → Bound ℕ → Bound ℕ → ℕ
 slice_cost shares source low high =
     if is_none (slice_fault low high (length source.items))

@@ -23,7 +23,7 @@ error_source error = error.source.now
 abbrev pub kept_number : ℕ → ℕ
 kept_number n = min n (2 ^ 64 - 1)
 
--- what the error prints, of a list of `len` items
+-- the message of the error, for a list of `len` items
 abbrev pub slice_error_text : SliceErrorKind → ℕ → ℕ → ℕ → List ℕ
 slice_error_text StartGreaterThanEnd start end len = codes "range starts at " ++ (decimal start ++ (codes " but ends at " ++ decimal end))
 slice_error_text StartOutOfBounds start end len = codes "range start index " ++ (decimal start ++ (codes " out of bounds for slice of length " ++ decimal len))

@@ -72,7 +72,7 @@ impl Gathering {
         }
     }
 
-    /// No bytes, with room for so many.
+    /// No bytes, with room for `len`.
     #[inline]
     pub(crate) fn with_room(alloc: Global, len: usize) -> Result<Self, AllocError>
         ensures items { IfOk result (λ made. made.items ≡ []) }
@@ -88,7 +88,7 @@ impl Gathering {
         })
     }
 
-    /// Adds bytes at the end, and what stands before them.
+    /// Adds a gap and bytes at the end.
     #[inline(always)]
     pub(crate) fn add_behind(
         &mut self,
@@ -197,7 +197,7 @@ impl Gathering {
     }
 }
 
-// The bytes of a handle, what stands before the next, and those, in a vector.
+// A vector of the bytes of a handle, a gap and the bytes behind it.
 #[inline(always)]
 fn spilled(
     alloc: Global,

@@ -26,7 +26,7 @@ enum Repr<'b, B: Backend> {
     Allocated(Allocated<B>),
 }
 
-/// The same in a struct, from which a `&mut` can be lent.
+/// A [`Repr`] in a struct, from which a `&mut` can be lent.
 #[derive(Drop)]
 struct Bare<'b, B: Backend> {
     repr: Repr<'b, B>,

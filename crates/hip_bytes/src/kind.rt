@@ -1,4 +1,4 @@
-/// How many bytes a handle holds in itself at most.
+/// The greatest number of bytes that a handle holds in itself.
 pub const INLINE_CAPACITY: usize = hip_raw::INLINE_CAPACITY;
 
 /// Where the bytes of a handle lie.

@@ -18,8 +18,9 @@ pub fn slice_of_slice(bytes: &[u8], kind: Kind, start: usize, end: usize, from: 
     ensures kind { cut_kind (cut_kind kind (end - start)) (to - from) ≡ cut_kind kind (to - from) }
 {}
 
-/// What [`HipByt::serialize`](crate::HipByt::serialize) wrote, [`HipByt::deserialize_reader`](crate::HipByt::deserialize_reader) reads as the
-/// same bytes, and it leaves what follows, from whichever source.
+/// A form that [`HipByt::serialize`](crate::HipByt::serialize) wrote is read by
+/// [`HipByt::deserialize_reader`](crate::HipByt::deserialize_reader) as the same bytes, from whichever source. The bytes behind it are
+/// left.
 pub fn borsh_round_trip(items: &[u8], follow: &[u8])
     ensures { BorshRoundTrip items.now follow.now }
 {}

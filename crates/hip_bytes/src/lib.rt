@@ -1,5 +1,5 @@
-//! Byte strings: **a handle is a list of bytes with a kind and a capacity, and each call says what it makes of them, when memory
-//! may be wanted, and how many bytes it copies.**
+//! Byte strings: **a handle is a list of bytes with a kind and a capacity, and each call says what it makes of them, when it may allocate,
+//! and how many bytes it copies.**
 //!
 //! - [`HipByt`] is the handle, generic in the [`Backend`] that owns what doesn't fit the handle itself: [`Rc`] shares owners,
 //!   [`Unique`] doesn't.
@@ -15,14 +15,14 @@
 //!   [`Whole`], [`Appended`], [`Block`], [`Inline`], [`Length`], [`Borrowed`], [`Allocated`], [`Sole`], [`fill_counted`],
 //!   [`copy_counted`].
 //!
-//! A call that copies has a form with the suffix `_metered` and a last argument `&mut Meter`; the plain call is that form with a
-//! fresh meter. Conversions from a `Cow`, and into a vector or a `Cow`, have none. A call that may want memory takes the allocator first,
-//! and a refused one changes nothing.
+//! A call that copies has a form with the suffix `_metered` and a last argument `&mut Meter`; the plain call is that form with a fresh
+//! meter. Conversions from a `Cow`, and into a vector or a `Cow`, have none. A call that may allocate takes the allocator first, and a
+//! refused one changes nothing.
 //!
 //! The words of the contracts stand in `specs/`: `Handle` (a handle as clauses see it), `Kinds` (the kind and the capacity that a call
-//! gives), `Made` and `Change` (what a call that makes or changes a handle may answer), `Cost` (what it copies, and where it may want
-//! memory), `Range`, `Slice` and `SliceError` (ranges and their faults), `Join` (joins and repetitions), `Borsh` and `Json`
-//! (forms that are written and read), `GrowFault`, `FormatFault` and `RefMut`.
+//! gives), `Made` and `Change` (the answers of calls that make or change a handle), `Cost` (the bytes that a call copies, and where it may
+//! need memory), `Range`, `Slice` and `SliceError` (ranges and their faults), `Join` (joins and repetitions), `Borsh` and `Json` (forms
+//! that are written and read), `GrowFault`, `FormatFault` and `RefMut`.
 #![tactic(auto)]
 
 mod borsh_fault;

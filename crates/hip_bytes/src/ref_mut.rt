@@ -23,10 +23,10 @@ pub trait Source: Drop {
     /// It holds these bytes, by length.
     ghost has_put: { Self → List ℕ → Type 0 };
 
-    /// How many bytes are copied at most where so many are put.
+    /// The greatest number of bytes that a put of this many copies.
     ghost put_cost: { ℕ → ℕ };
 
-    /// A list of this length may want memory where it is put.
+    /// A put of a list of this length may need memory.
     ghost put_needs_memory: { ℕ → Type 0 };
 
     /// Takes the bytes out in a vector, and leaves none. The block that held the vector, if one did, goes with it. After a refusal the

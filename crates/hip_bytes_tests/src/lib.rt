@@ -8,13 +8,13 @@
 //! - `spaces`: the same bytes, by each maker.
 //! - `writes`: bytes that are lent for writing, and ASCII case.
 //! - `guards`: bytes that are lent out as a vector.
-//! - `owned_room`: what `Unique` copies as it grows, and its capacity.
+//! - `owned_room`: the bytes that `Unique` copies as it grows, and its capacity.
 //! - `joins`: repetitions, joins and room that is given back.
 //! - `comparisons`: order, equality and maps.
 //!
-//! `bytes` is what they ask of a byte string, each call by its own name, `hip_byt` that a byte string of any backend is that, and `faults`
-//! why a call gave no part; `suite` runs them on a backend; `support` is what several of them assert; `maps` asks maps whose keys are byte
-//! strings.
+//! `bytes` has the calls that the tests make on a byte string, each by its own name, `hip_byt` implements them for any backend, and
+//! `faults` tells why a call gave no part; `suite` runs tests on a backend; `support` has the assertions of several of them; `maps` looks
+//! keys up that are byte strings.
 //!
 //! A test function is proved safe, and each branch in it, as a `?` or an assertion, costs seconds that grow with what stands before
 //! it. So calls on data are rows of a table, which one loop runs, and what is asserted of a handle is one helper, in `support`. A

@@ -1,6 +1,6 @@
-//! What a user writes who names `hipstr` alone: loops over walks, functions of a pattern and over a closure, with clauses that cite what a
-//! call is said to give, and a struct that keeps a walk. A function that is generic in the backend is proved once for all, and takes
-//! longer than one that names `Rc`: most of these loops do.
+//! Code of a user who names `hipstr` alone: loops over walks, functions of a pattern and over a closure, with clauses that cite what a call
+//! is said to give, and a struct that keeps a walk. A function that is generic in the backend is proved once for all, and takes longer than
+//! one that names `Rc`: most of these loops do.
 ghost use Rattle.std.specs.Prelude.{◌≡◌, ◌==◌, ℕ, IfOk, length};
 ghost use Rattle.std.specs.Char.{IsScalar, is_ascii_digit};
 ghost use Rattle.hipstr.specs.Answers.{answer_at};
@@ -55,7 +55,7 @@ fn between_digits<'b, B: Backend>(
     parts(alloc, text, digits)
 }
 
-/// How many fields a line has.
+/// The number of fields of a line.
 fn count_fields<'b, B: Backend>(alloc: Global, line: &HipStr<'b, B>) -> Result<usize, AllocError>
     ensures { IfOk result
         (λ count. count

@@ -1,4 +1,4 @@
--- What parts cost.
+-- The cost of parts.
 use Rattle.std.proofs.Common.{◌≡◌, ℕ, ◌+◌, ◌-◌, ◌*◌, ◌≤◌, Bool, true, false, List, [], ◌∷◌, length, ap, refl, arith}
 use Rattle.hip_bytes.proofs.Costs.{shared_part_is_little}
 use Rattle.hip_bytes.specs.Cost.{cut_cost}

@@ -1,5 +1,5 @@
--- What is left of a text that is trimmed or stripped, and the two parts of one that is split once: the source's parts at
--- the ranges that Rust's documentation of `str` tells. `shown` says what is seen of a text.
+-- The part of a text that a trim or a strip leaves, and the two parts of one that is split once: the source's parts at the ranges that
+-- Rust's documentation of `str` tells. `shown` says what is seen of a text.
 use Rattle.std.specs.Prelude.{◌≡◌, ℕ, ◌+◌, ◌-◌, ◌⊎◌, Bool, List, length, Option, Some, None, Result, Ok, Err}
 use Rattle.std.specs.Char.{is_whitespace}
 use Rattle.hip_text.specs.Handle.{Handle}
@@ -18,7 +18,7 @@ Ends = List ℕ → ℕ → Option ℕ
 abbrev pub space_ends : Ends
 space_ends = char_ends is_whitespace
 
--- what is found by where the occurrences in a text end, and by its length
+-- a search, by where the occurrences in a text end, and by its length
 abbrev pub Finds : Type 0 → Type 0
 Finds A = (ℕ → Option ℕ) → ℕ → A
 
@@ -46,7 +46,7 @@ LeavesStart ends n range = (range.0 ≡ 0) × TrimsBack ends 0 n range.1
 abbrev pub LeavesBetween : Leaving
 LeavesBetween ends n range = TrimsFront ends range.0 × TrimsBack ends range.0 n range.1
 
--- what is found in a source
+-- the finding of a search in a source
 abbrev pub found_in : {A : Type 0} → Handle → Finds A → Ends → A
 found_in source find ends = find (ends source.items) (length source.items)
 
@@ -89,7 +89,7 @@ PartsIfAnyCosts shares None source before after = after ≡ before
 PartsIfAnyCosts shares (Some (front, back)) source before after =
     RisesAtMost before after (part_cost shares source front + part_cost shares source back)
 
--- these at the ranges that are found in the source
+-- the part, or the parts, at the ranges that are found in the source
 abbrev pub StripAnswers : {T E : Type 0} → (T → Handle) → FindsOne → Ends → Handle → Result (Option T) E → Type 0
 StripAnswers shown strip ends source result = PartIfAny shown (found_in source strip ends) source result
 

@@ -1,4 +1,4 @@
--- What pieces of a text cost together.
+-- The cost of the pieces of a text together.
 use Rattle.std.specs.Prelude.{◌≡◌, ℕ, ◌≤◌, Bool, true, false, List, length}
 use Rattle.hip_bytes.specs.declared.kind.Kind.TheVariants.{Borrowed}
 use Rattle.hip_cuts.specs.Piece.{IsLittle, parts_cost}

@@ -1,4 +1,4 @@
--- What is said of pieces at ranges of the caller's by what their type says of a walk.
+-- Claims of pieces at ranges of the caller's, in the words in which their type tells of a walk.
 use Rattle.std.specs.Prelude.{◌≡◌, ℕ, List}
 use Rattle.hip_text.specs.Handle.{Handle}
 use Rattle.hip_cuts.specs.declared.walk.Walk.{Ghosts}

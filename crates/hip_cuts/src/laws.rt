@@ -25,8 +25,9 @@ pub fn pieces_in_order_copy_the_text_once()
     ensures { InOrderCopyOnce }
 {}
 
-/// What [`split_once`](crate::text_cuts::TextCuts::split_once) gives of a text by another: the text is what lies before the separator, the
-/// separator, and what lies behind it, and it starts nowhere before; where nothing is given it occurs nowhere.
+/// [`split_once`](crate::text_cuts::TextCuts::split_once) by a text gives the parts before and behind its first occurrence: the source is
+/// the first part, the separator and the second part, and the separator starts nowhere before. Where it gives none, the separator occurs
+/// nowhere.
 #[tactic(auto, using(crate::proofs::Parted::parted_once))]
 pub fn split_once_parts_at_the_first(text: &str, separator: &str)
     ensures { (source : Handle) (result : Result (Option (Handle × Handle)) AllocError)

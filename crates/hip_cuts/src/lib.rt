@@ -35,7 +35,7 @@ mod walk;
 
 pub use hip_match;
 pub use hip_text::{Backend, HipStr, INLINE_CAPACITY, Kind, Meter, Rc, Unique};
-pub use pieces::{IterWrapper, Pieces, Source, Unnumbered};
+pub use pieces::{IterWrapper, PieceSource, Pieces, Unnumbered};
 pub use pieces_at::PiecesAt;
 pub use text_cuts::TextCuts;
 pub use walk::Walk;

@@ -21,12 +21,12 @@ use std::alloc::{AllocError, Global};
 use std::marker::Model;
 
 /// A source that is taken apart.
-pub trait Source {
+pub trait PieceSource {
     /// The handle that is seen of it.
     ghost handle: { Self → Handle };
 }
 
-impl<'b, B: Backend> Source for HipStr<'b, B> {
+impl<'b, B: Backend> PieceSource for HipStr<'b, B> {
     ghost handle = { λ text. text };
 }
 
@@ -59,7 +59,7 @@ impl<'h> Unnumbered for SplitAsciiWhitespace<'h> {}
 
 /// The pieces of a source at the ranges that `I` gives. Seen as the source and the ranges that are left.
 #[derive(Drop)]
-pub struct Pieces<'h, S: Source, I: Ranges> {
+pub struct Pieces<'h, S: PieceSource, I: Ranges> {
     source: &'h S,
     ranges: I,
     alloc: Global,
@@ -68,7 +68,7 @@ pub struct Pieces<'h, S: Source, I: Ranges> {
 /// The pieces of a text.
 pub type IterWrapper<'h, 'b, B, I> = Pieces<'h, HipStr<'b, B>, I>;
 
-impl<'h, S: Source, I: Ranges> Model for Pieces<'h, S, I> {
+impl<'h, S: PieceSource, I: Ranges> Model for Pieces<'h, S, I> {
     ghost use Rattle.std.specs.Prelude.{◌≡◌};
     ghost use Rattle.hip_cuts.specs.Piece.{Left};
 
@@ -79,7 +79,7 @@ impl<'h, S: Source, I: Ranges> Model for Pieces<'h, S, I> {
     ghost invariant = { λ pieces. I.ready pieces.ranges × (I.text pieces.ranges ≡ (S.handle pieces.source.now).items) };
 }
 
-impl<'h, S: Source, I: Ranges> Pieces<'h, S, I> {
+impl<'h, S: PieceSource, I: Ranges> Pieces<'h, S, I> {
     /// The pieces of `source` at `ranges`, which are ranges of it.
     #[inline]
     pub(crate) fn new(source: &'h S, alloc: Global, ranges: I) -> Self
@@ -96,8 +96,8 @@ impl<'h, S: Source, I: Ranges> Pieces<'h, S, I> {
     }
 }
 
-/// A clone gives the pieces once more. It wants memory only where a clone of the ranges may, which is where one of their pattern may.
-impl<'h, S: Source, I: CloneRanges> Clone for Pieces<'h, S, I> {
+/// A clone gives the pieces once more. It may allocate only where a clone of the ranges may: where a clone of their pattern may.
+impl<'h, S: PieceSource, I: CloneRanges> Clone for Pieces<'h, S, I> {
     ghost is_clone = { λ pieces copy. copy ≡ pieces };
 
     ghost is_infallible = { λ _. (ranges : I) → I.is_infallible ranges };
@@ -188,7 +188,7 @@ impl<'h, 'b, B: Backend, I: Unnumbered> Pieces<'h, HipStr<'b, B>, I> {
 }
 
 impl<'h, 'b, B: Backend, I: Unnumbered + Drop> Pieces<'h, HipStr<'b, B>, I> {
-    /// All pieces that are left, in a vector, which wants memory besides what the pieces want.
+    /// All pieces that are left, in a vector, which is allocated besides what the pieces allocate.
     pub fn collect(self) -> Result<Vec<HipStr<'b, B>>, AllocError>
         ensures { IfOk result (λ pieces. AreParts self.entry.source self.entry.rest pieces.items) }
     {
@@ -291,7 +291,7 @@ impl<'h, 'b, B: Backend, P: Pattern> Pieces<'h, HipStr<'b, B>, MatchIndices<'h, 
         self.first_match(meter)
     }
 
-    /// All matches that are left, in a vector, which wants memory besides what the pieces want.
+    /// All matches that are left, in a vector, which is allocated besides what the pieces allocate.
     pub fn collect(self) -> Result<Vec<(usize, HipStr<'b, B>)>, AllocError>
         ensures { IfOk result
             (λ matches. AreMatches self.entry.source self.entry.rest matches.items) }
@@ -392,7 +392,7 @@ impl<'h, 'b, B: Backend, P: ReversePattern> Pieces<'h, HipStr<'b, B>, RMatchIndi
         self.first_match(meter)
     }
 
-    /// All matches that are left, in a vector, which wants memory besides what the pieces want.
+    /// All matches that are left, in a vector, which is allocated besides what the pieces allocate.
     pub fn collect(self) -> Result<Vec<(usize, HipStr<'b, B>)>, AllocError>
         ensures { IfOk result
             (λ matches. AreMatches self.entry.source self.entry.rest matches.items) }

@@ -5,13 +5,13 @@ ghost use Rattle.std.specs.Iterator.SizeHint.{IsWithinCount};
 ghost use Rattle.hip_cuts.specs.Piece.{ClonesKeepRanges, DrawsFirstMatch, DrawsLastMatch, draws_by};
 ghost use Rattle.hip_cuts.specs.Walks.{GoesAlike, GoesOver};
 
-use crate::pieces::Source;
+use crate::pieces::PieceSource;
 use crate::walk::Walk;
 use hip_match::ranges::{Ranges, RangesBack};
 use hip_text::{Backend, HipStr, Meter};
 use std::alloc::{AllocError, Global};
 
-/// The pieces of a source at the ranges that `I` gives, each with its position: what a function holds that made the ranges by a closure.
+/// The pieces of a source at the ranges that `I` gives, each with its position. A function that made the ranges by a closure holds these.
 #[derive(Drop)]
 pub struct PiecesAt<'h, S, I> {
     source: &'h S,
@@ -19,13 +19,13 @@ pub struct PiecesAt<'h, S, I> {
     alloc: Global,
 }
 
-impl<'h, S: Source, I: Ranges> Walk for PiecesAt<'h, S, I> {
+impl<'h, S: PieceSource, I: Ranges> Walk for PiecesAt<'h, S, I> {
     ghost ready = { λ pieces. I.ready pieces.ranges × (I.text pieces.ranges ≡ (S.handle pieces.source.now).items) };
 
     ghost left = { λ pieces. record { source = S.handle pieces.source.now; rest = I.rest pieces.ranges } };
 }
 
-impl<'h, S: Source, I: Ranges> PiecesAt<'h, S, I> {
+impl<'h, S: PieceSource, I: Ranges> PiecesAt<'h, S, I> {
     #[inline]
     pub(crate) fn new(source: &'h S, alloc: Global, ranges: I) -> Self
         requires ready { I.ready ranges }
@@ -41,7 +41,7 @@ impl<'h, S: Source, I: Ranges> PiecesAt<'h, S, I> {
 }
 
 /// A clone gives the pieces once more, where a clone of the ranges gives what they do.
-impl<'h, S: Source, I: Ranges + Clone> Clone for PiecesAt<'h, S, I> {
+impl<'h, S: PieceSource, I: Ranges + Clone> Clone for PiecesAt<'h, S, I> {
     ghost is_clone = { λ pieces copy. ClonesKeepRanges I.is_clone I.ready I.text I.rest
         → GoesAlike ⟦<PiecesAt<'h, S, I> as Walk>⟧ pieces copy };
 

@@ -12,7 +12,7 @@ ghost use Rattle.hip_cuts.specs.Cut.{OnceAnswers, OnceCosts, StripAnswers, Strip
 ghost use Rattle.hip_cuts.specs.Cut.{PartIfAny, PartIfAnyCosts, PartsIfAny, PartsIfAnyCosts};
 ghost use Rattle.hip_cuts.specs.Walks.{GoesOver};
 
-use crate::pieces::{Pieces, Source};
+use crate::pieces::{PieceSource, Pieces};
 use crate::pieces_at::PiecesAt;
 use crate::walk::Walk;
 use hip_match::lines::Lines;
@@ -29,7 +29,7 @@ use std::alloc::{AllocError, Global};
 
 /// How a text is taken apart: by the calls of Rust's `str`, whose pieces are texts of the same kind of handle. Each is the source's part
 /// at its range, so on a backend that shares owners it copies at most the bytes that a handle holds in itself, and none of a borrowed text.
-pub trait TextCuts<B: Backend>: Source {
+pub trait TextCuts<B: Backend>: PieceSource {
     /// The parts between the occurrences of `pattern`, one more than there are occurrences.
     fn split<'h, P: Pattern>(&'h self, alloc: Global, pattern: P) -> Pieces<'h, Self, Split<'h, P>>
         requires { P.can_search pattern }
@@ -58,7 +58,7 @@ pub trait TextCuts<B: Backend>: Source {
         ensures rest { result.rest
             ≡ found_in (Self.handle self.now) split_terminator (P.ends pattern) };
 
-    /// At most `count` parts, of which the last of so many runs on to the end.
+    /// At most `count` parts. Where there are `count`, the last of them runs on to the end.
     fn splitn<'h, P: Pattern>(
         &'h self,
         alloc: Global,
@@ -111,7 +111,7 @@ pub trait TextCuts<B: Backend>: Source {
         ensures rest { result.rest
             ≡ found_in (Self.handle self.now) rsplit_terminator (P.ends pattern) };
 
-    /// At most `count` parts from the end, of which the last of so many runs on to the front.
+    /// At most `count` parts from the end. Where there are `count`, the last of them runs on to the front.
     fn rsplitn<'h, P: ReversePattern>(
         &'h self,
         alloc: Global,

@@ -10,7 +10,7 @@ use Rattle.hip_text.specs.Made.{IsPart}
 use Rattle.hip_text.specs.Meter.{RisesAtMost}
 use Rattle.hip_bytes.specs.declared.kind.Kind.{Kind}
 use Rattle.hip_match.specs.Characters.{char_ends}
-use Rattle.hip_match.specs.Joined.{parts}
+use Rattle.hip_match.specs.Joined.{parts_at}
 use Rattle.hip_match.specs.Pieces.{split}
 use Rattle.hip_fields.specs.Records.{AreFields, AreRecords, FirstRecord, FirstRecordCosts, RecordsLeft, fields_cost, fields_of, records_cost}
 
@@ -24,9 +24,9 @@ pieces-of separator text line pieces are same = subst (λ (xs : List ℕ). piece
 -- the fields at the pieces of a line
 pub fields-at : {E : Type 0} (source : Handle) (drawn : Result (Vec Handle Global) E) (separator : ℕ) (text line : List ℕ) (pieces : List (ℕ × ℕ))
     → text ≡ line → pieces ≡ split (char_ends (λ c. c == separator) text) (length text)
-    → IfOk drawn (λ fields. AreFields source (parts line pieces) fields.items) → IfOk drawn (λ fields. AreFields source (fields_of separator line) fields.items)
+    → IfOk drawn (λ fields. AreFields source (parts_at line pieces) fields.items) → IfOk drawn (λ fields. AreFields source (fields_of separator line) fields.items)
 fields-at {E} source drawn separator text line pieces same are fields =
-    subst (λ (ranges : List (ℕ × ℕ)). IfOk drawn (λ fields. AreFields source (parts line ranges) fields.items)) (pieces-of separator text line pieces are same) fields
+    subst (λ (ranges : List (ℕ × ℕ)). IfOk drawn (λ fields. AreFields source (parts_at line ranges) fields.items)) (pieces-of separator text line pieces are same) fields
 
 pub field-next : (source : Handle) (all old new : List (List ℕ)) (text : List ℕ) (done items : List Handle) (field : Handle)
     → old ≡ text ∷ new → IsPart source field text → items ≡ done ++ field ∷ []
@@ -36,7 +36,7 @@ field-next source all old new text done items field first is pushed so_far more 
     subst (λ (fields : List Handle). AreFields source all fields) (sym (ap (λ (fields : List Handle). fields ++ more) pushed ∙ append_assoc done (field ∷ []) more))
     (so_far (field ∷ more) (subst (λ (texts : List (List ℕ)). AreFields source texts (field ∷ more)) (sym first) (is, are)))
 
--- what is left costs as much less
+-- the rest of the fields costs as much less
 pub field-cost : (shares : Bool) (kind : Kind) (old new : List (List ℕ)) (text : List ℕ) (len before after : ℕ)
     → old ≡ text ∷ new → len ≡ length text → RisesAtMost before after (cut_cost shares kind len)
     → (before ≤ after) × (after + fields_cost shares kind new ≤ before + fields_cost shares kind old)

@@ -7,7 +7,7 @@ use Rattle.hip_text.specs.Made.{IsPart}
 use Rattle.hip_text.specs.Meter.{RisesAtMost}
 use Rattle.hip_bytes.specs.declared.kind.Kind.{Kind}
 use Rattle.hip_match.specs.Characters.{char_ends}
-use Rattle.hip_match.specs.Joined.{parts}
+use Rattle.hip_match.specs.Joined.{parts_at}
 use Rattle.hip_match.specs.Pieces.{split}
 use Rattle.hip_match.specs.Runs.{lines}
 
@@ -15,13 +15,13 @@ use Rattle.hip_match.specs.Runs.{lines}
 abbrev pub Texts : Type 0
 Texts = List (List ℕ)
 
--- those of a line
+-- the bytes of each field of a line
 abbrev pub fields_of : ℕ → List ℕ → Texts
-fields_of separator line = parts line (split (char_ends (λ c. c == separator) line) (length line))
+fields_of separator line = parts_at line (split (char_ends (λ c. c == separator) line) (length line))
 
--- and those of each line of a text
+-- the records of a text, one for each line
 abbrev pub records_of : ℕ → List ℕ → List Texts
-records_of separator text = map (fields_of separator) (parts text (lines text))
+records_of separator text = map (fields_of separator) (parts_at text (lines text))
 
 -- the handles are parts of the source with these bytes, one after another
 abbrev pub AreFields : Handle → Texts → List Handle → Type 0
@@ -29,23 +29,23 @@ AreFields source [] fields = fields ≡ []
 AreFields source (text ∷ texts) [] = ⊥
 AreFields source (text ∷ texts) (field ∷ fields) = IsPart source field text × AreFields source texts fields
 
--- and so are those of each record
+-- each record's handles are parts of the source with the bytes of its fields
 abbrev pub AreRecords : Handle → List Texts → List (Vec Handle Global) → Type 0
 AreRecords source [] records = records ≡ []
 AreRecords source (texts ∷ more) [] = ⊥
 AreRecords source (texts ∷ more) (fields ∷ records) = AreFields source texts fields.items × AreRecords source more records
 
--- how many bytes the fields of a line copy at most: what its parts cost
+-- the greatest number of bytes that the fields of a line copy: the cost of its parts
 abbrev pub fields_cost : Bool → Kind → Texts → ℕ
 fields_cost shares kind [] = 0
 fields_cost shares kind (text ∷ texts) = cut_cost shares kind (length text) + fields_cost shares kind texts
 
--- and those of all lines
+-- the greatest number of bytes that the fields of all lines copy
 abbrev pub records_cost : Bool → Kind → List Texts → ℕ
 records_cost shares kind [] = 0
 records_cost shares kind (texts ∷ more) = fields_cost shares kind texts + records_cost shares kind more
 
--- what a reader of records has still to give: the records of a text, as the bytes of their fields
+-- the records that a reader has still to give: those of a text, as the bytes of their fields
 pub record RecordsLeft : Type 0 where
   pub source : Handle
   pub rest : List Texts

@@ -1,7 +1,7 @@
 //! The fields of one line.
 ghost use Rattle.std.specs.Prelude.{◌≡◌, slice_range, IfOk};
 ghost use Rattle.hip_text.specs.Meter.{RisesAtMost};
-ghost use Rattle.hip_match.specs.Joined.{parts};
+ghost use Rattle.hip_match.specs.Joined.{parts_at};
 ghost use Rattle.hip_match.specs.Occurrence.{IsCut};
 ghost use Rattle.hip_fields.specs.Records.{AreFields, fields_cost, fields_of};
 
@@ -26,9 +26,9 @@ pub(crate) fn fields_at<'b, B: Backend, I: Ranges + Drop>(
     requires ready { I.ready ranges }
     requires text { I.text ranges ≡ slice_range source.now.items start end }
     ensures fields { IfOk result (λ fields.
-        AreFields source.now (parts (slice_range source.now.items start end) (I.rest ranges)) fields.items) }
+        AreFields source.now (parts_at (slice_range source.now.items start end) (I.rest ranges)) fields.items) }
     ensures counted { RisesAtMost meter.old meter.new
-        (fields_cost B.SHARES source.now.kind (parts (slice_range source.now.items start end) (I.rest ranges))) }
+        (fields_cost B.SHARES source.now.kind (parts_at (slice_range source.now.items start end) (I.rest ranges))) }
 {
     let mut fields = Vec::with_capacity(alloc, room)?;
     while let Some((from, to)) = ranges.next() {

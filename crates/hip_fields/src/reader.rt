@@ -1,31 +1,31 @@
 //! Records, drawn one after another.
 ghost use Rattle.std.specs.Prelude.{◌≡◌, [], map, IfOk, IsOk};
 ghost use Rattle.hip_text.specs.Meter.{RisesAtMost};
-ghost use Rattle.hip_match.specs.Joined.{parts};
+ghost use Rattle.hip_match.specs.Joined.{parts_at};
 ghost use Rattle.hip_fields.specs.Records.{AreRecords, FirstRecord, FirstRecordCosts};
 ghost use Rattle.hip_fields.specs.Records.{fields_of, records_cost, records_of};
 
 use crate::line::fields_between;
 use hip_cuts::hip_match::lines::Lines;
 use hip_cuts::hip_match::ranges::Ranges;
-use hip_cuts::{Backend, HipStr, Meter, Source};
+use hip_cuts::{Backend, HipStr, Meter, PieceSource};
 use std::alloc::{AllocError, Global};
 use std::marker::Model;
 
 /// The records of a text that are still to come, one for each of the lines that `I` gives. Seen as the text and the bytes of these
 /// records' fields.
 #[derive(Drop)]
-pub struct Records<'h, S: Source, I: Ranges> {
+pub struct Records<'h, S: PieceSource, I: Ranges> {
     source: &'h S,
     lines: I,
     separator: char,
-    /// How many fields the last record had.
+    /// The number of fields of the last record.
     room: usize,
 }
 
-impl<'h, S: Source, I: Ranges> Model for Records<'h, S, I> {
+impl<'h, S: PieceSource, I: Ranges> Model for Records<'h, S, I> {
     ghost use Rattle.std.specs.Prelude.{◌≡◌, map};
-    ghost use Rattle.hip_match.specs.Joined.{parts};
+    ghost use Rattle.hip_match.specs.Joined.{parts_at};
     ghost use Rattle.hip_fields.specs.Records.{RecordsLeft, fields_of};
 
     ghost Value = { RecordsLeft };
@@ -33,14 +33,14 @@ impl<'h, S: Source, I: Ranges> Model for Records<'h, S, I> {
     ghost view = { λ records. record {
       source = S.handle records.source.now;
       rest = map (fields_of records.separator)
-          (parts (S.handle records.source.now).items (I.rest records.lines));
+          (parts_at (S.handle records.source.now).items (I.rest records.lines));
     } };
 
     ghost invariant = { λ records. I.ready records.lines
         × (I.text records.lines ≡ (S.handle records.source.now).items) };
 }
 
-impl<'h, S: Source, I: Ranges> Records<'h, S, I> {
+impl<'h, S: PieceSource, I: Ranges> Records<'h, S, I> {
     /// The records of `source`, one for each of `lines`, which are ranges of it.
     #[inline]
     pub(crate) fn over(source: &'h S, lines: I, separator: char) -> Self
@@ -48,7 +48,7 @@ impl<'h, S: Source, I: Ranges> Records<'h, S, I> {
         requires text { I.text lines ≡ (S.handle source.now).items }
         ensures source { result.source ≡ S.handle source.now }
         ensures rest { result.rest
-            ≡ map (fields_of separator) (parts (S.handle source.now).items (I.rest lines)) }
+            ≡ map (fields_of separator) (parts_at (S.handle source.now).items (I.rest lines)) }
     {
         Records {
             source,
@@ -132,7 +132,7 @@ impl<'h, 'b, B: Backend, I: Ranges + Drop> Records<'h, HipStr<'b, B>, I> {
     }
 }
 
-/// How many fields were drawn.
+/// The number of fields that were drawn.
 fn count_of<T, E>(drawn: &Result<Vec<T>, E>) -> usize {
     match drawn {
         Ok(fields) => fields.len(),

@@ -1,6 +1,6 @@
 //! A digest of answers.
 
-/// What was answered so far, as one number.
+/// All answers so far, as one number.
 #[derive(Drop)]
 pub(crate) struct Digest {
     sum: u64,

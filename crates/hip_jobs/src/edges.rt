@@ -160,7 +160,7 @@ fn formats(alloc: Global, numbers: &mut Numbers, digest: &mut Digest) -> Option<
     Some(())
 }
 
-/// Does all of this many times.
+/// Works on all these inputs, `rounds` times.
 pub(crate) fn cut(
     alloc: Global,
     rounds: usize,

@@ -23,7 +23,7 @@ use std::alloc::Global;
 use std::env;
 use std::process::ExitCode;
 
-/// What is done.
+/// A job, which an argument names.
 #[derive(Clone, Copy)]
 enum Job {
     Words,

@@ -22,19 +22,19 @@ const NAMES: &[&str] = &[
     "footer_with_terms_and_conditions",
 ];
 
-/// How many different values there are, and texts between holes.
+/// The number of different values, and of texts between holes.
 const VALUES: usize = 4000;
 
 const BETWEEN: usize = 4000;
 
-/// How many pages are made of a template, how many holes a long one has, and how many messages are sent at a time.
+/// The number of pages that are made of a template, of holes that a long one has, and of messages that are sent at a time.
 const PAGES: usize = 60;
 
 const HOLES: usize = 4000;
 
 const MESSAGES: usize = 400;
 
-/// How many messages may wait for a subscriber.
+/// The number of messages that may wait for a subscriber.
 const LIMIT: usize = 50;
 
 /// A value: half of them of up to 20 bytes, some of up to 2,000.
@@ -56,7 +56,7 @@ fn value(alloc: Global, numbers: &mut Numbers) -> Result<String, AllocError> {
     Ok(value)
 }
 
-/// What stands between two holes, with a mark that isn't a hole's in every fourth.
+/// The text between two holes. About one in four has braces that are no hole.
 fn between(alloc: Global, numbers: &mut Numbers) -> Result<String, AllocError> {
     let mut text = String::from_str(alloc, "<p>")?;
     for _ in 0..numbers.below(24) {

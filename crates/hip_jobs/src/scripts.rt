@@ -5,12 +5,12 @@ use hip_script::play::play;
 use hipstr::Rc;
 use std::alloc::{AllocError, Global};
 
-/// How many different lists of lines there are, and how many of them a script has.
+/// The number of different lists of lines, and of those that a script has.
 const LISTS: usize = 10_000;
 
 const LISTS_OF_SCRIPT: usize = 4000;
 
-/// What stands in literals.
+/// The characters of literals, as they stand in a script.
 const CHARACTERS: &[&str] = &[
     "a",
     "b",

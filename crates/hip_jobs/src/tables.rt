@@ -14,7 +14,7 @@ const COLUMNS: &[&str] = &[
     "note",
 ];
 
-/// How many different fields there are, how many different rows, and how many of them a table has.
+/// The number of different fields, of different rows, and of those that a table has.
 const FIELDS: usize = 20_000;
 
 const STOCK: usize = 10_000;

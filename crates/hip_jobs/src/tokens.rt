@@ -6,7 +6,7 @@ use hipstr::string::HipStr;
 use hipstr::{Meter, Rc};
 use std::alloc::{AllocError, Global};
 
-/// How many different lines there are, and how many of them a source has.
+/// The number of different lines, and of those that a source has.
 const LINES: usize = 10_000;
 
 const LINES_OF_SOURCE: usize = 3000;

@@ -6,10 +6,10 @@ use hipstr::Rc;
 use hipstr::string::HipStr;
 use std::alloc::{AllocError, Global};
 
-/// How many bits the number of a word has.
+/// The number of bits that the number of a word has.
 const BITS: usize = 16;
 
-/// How many different lines there are, and how many of them a text has.
+/// The number of different lines, and of those that a text has.
 const LINES: usize = 20_000;
 
 const LINES_OF_TEXT: usize = 4000;
@@ -96,7 +96,7 @@ pub(crate) fn number(
     )
 }
 
-/// The same of words and lines that are there.
+/// Like [`number`], with words and lines that are made already.
 fn number_all<'w>(
     alloc: Global,
     rounds: usize,

@@ -42,7 +42,7 @@ module _ (p : ℕ → Bool) (low : (c : ℕ) → 128 ≤ c → p c ≡ false) (t
       let cut = IsCharBoundary-before_ascii t k lt under in
       ends_here p t utf8 k _ _ (char_at-ascii t k utf8 cut lt under) is
 
-  -- what occurs is the byte at its place
+  -- an occurrence is the byte at its place
   pub ascii-is : (a b : ℕ) → char_ends p t a ≡ Some b → (a < length t) × (p (slice_index t a) ≡ true) × (b ≡ a + 1)
   ascii-is a b is =
       ⊎_elim

@@ -7,7 +7,7 @@ use Rattle.memchr.specs.Find.{IsFirst, IsLast, Passes}
 use Rattle.hip_match.specs.Characters.{char_ends}
 use Rattle.hip_match.specs.CharLaws.{char_ends-spans, char_ends-one_char}
 use Rattle.hip_match.specs.Leftmost.{leftmost_between, end_within}
-use Rattle.hip_match.specs.Marks.{in_rows, parts}
+use Rattle.hip_match.specs.Marks.{in_rows, marked_parts}
 use Rattle.hip_match.specs.Occurrence.{EndsLast, IsCut, NoneStarts, StartsFirst}
 use Rattle.hip_match.specs.Pieces.{gaps}
 use Rattle.hip_match.specs.Ready.{IsWindow}
@@ -40,17 +40,17 @@ module _ (belongs : ℕ → Bool) (t : List ℕ) (from to : ℕ) (w : IsWindow t
       let holds : a < b = (chars.one a b is).holds in
       ⊎_elim (λ (lt : a < to). absurd (none-some b (sym (none a le lt) ∙ is))) (λ (ge : to ≤ a). omega arith) (cases_lt a to)
 
-  -- and none behind the last
+  -- no occurrence lies behind the last
   pub quiet_behind : (at : ℕ) → EndsLast e to (at, at + 1) → at < from → IsQuiet e from to
   quiet_behind at last lt a b is le = let holds : a < b = (chars.one a b is).holds in last.last a b is (omega arith)
 
-  pub first_part : (at : ℕ) → StartsFirst e from (at, at + 1) → at < to → parts belongs t from to ≡ (from, at) ∷ parts belongs t (at + 1) to
+  pub first_part : (at : ℕ) → StartsFirst e from (at, at + 1) → at < to → marked_parts belongs t from to ≡ (from, at) ∷ marked_parts belongs t (at + 1) to
   first_part at next lt =
       let after = next.after in
       ap (λ l. gaps from l to)
       (leftmost_between-some e from to at (at + 1) (at + 1) next (omega arith) (omega arith) (omega arith) (omega arith) (omega arith) (λ k lo mid hi. absurd (omega arith)))
 
-  last_part : (at : ℕ) → EndsLast e to (at, at + 1) → from ≤ at → parts belongs t from to ≡ parts belongs t from at ++ (at + 1, to) ∷ []
+  last_part : (at : ℕ) → EndsLast e to (at, at + 1) → from ≤ at → marked_parts belongs t from to ≡ marked_parts belongs t from at ++ (at + 1, to) ∷ []
   last_part at last le =
       ap (λ l. gaps from l to) (back_match t e chars from to w at (at + 1) last le)
       ∙ gaps-append (leftmost_between e from at) from to (at, at + 1)
@@ -59,28 +59,28 @@ module _ (belongs : ℕ → Bool) (t : List ℕ) (from to : ℕ) (w : IsWindow t
   quiet none k lo None is = end_within-none to (e k) is
   quiet none k lo (Some m) is = end_within-past to m (e k) is (none k m is lo)
 
-  pub only_part : IsQuiet e from to → parts belongs t from to ≡ (from, to) ∷ []
+  pub only_part : IsQuiet e from to → marked_parts belongs t from to ≡ (from, to) ∷ []
   only_part none = ap (λ l. gaps from l to) (leftmost_from-none (λ k. end_within to (e k)) from (to + 1 - from) (λ k lo hi. quiet none k lo (e k) refl))
 
-  pub first_run : (at : ℕ) → StartsFirst e from (at, at + 1) → at < to → from < at → nonempty (parts belongs t from to) ≡ (from, at) ∷ nonempty (parts belongs t (at + 1) to)
-  first_run at next lt full = ap nonempty (first_part at next lt) ∙ nonempty-kept (from, at) (parts belongs t (at + 1) to) full
+  pub first_run : (at : ℕ) → StartsFirst e from (at, at + 1) → at < to → from < at → nonempty (marked_parts belongs t from to) ≡ (from, at) ∷ nonempty (marked_parts belongs t (at + 1) to)
+  first_run at next lt full = ap nonempty (first_part at next lt) ∙ nonempty-kept (from, at) (marked_parts belongs t (at + 1) to) full
 
-  pub first_empty : (at : ℕ) → StartsFirst e from (at, at + 1) → at < to → at ≤ from → nonempty (parts belongs t from to) ≡ nonempty (parts belongs t (at + 1) to)
-  first_empty at next lt empty = ap nonempty (first_part at next lt) ∙ nonempty-dropped (from, at) (parts belongs t (at + 1) to) empty
+  pub first_empty : (at : ℕ) → StartsFirst e from (at, at + 1) → at < to → at ≤ from → nonempty (marked_parts belongs t from to) ≡ nonempty (marked_parts belongs t (at + 1) to)
+  first_empty at next lt empty = ap nonempty (first_part at next lt) ∙ nonempty-dropped (from, at) (marked_parts belongs t (at + 1) to) empty
 
-  pub last_run : (at : ℕ) → EndsLast e to (at, at + 1) → from ≤ at → at + 1 < to → nonempty (parts belongs t from to) ≡ nonempty (parts belongs t from at) ++ (at + 1, to) ∷ []
-  last_run at last le full = nonempty-append_kept (parts belongs t from to) (parts belongs t from at) (at + 1, to) (last_part at last le) full
+  pub last_run : (at : ℕ) → EndsLast e to (at, at + 1) → from ≤ at → at + 1 < to → nonempty (marked_parts belongs t from to) ≡ nonempty (marked_parts belongs t from at) ++ (at + 1, to) ∷ []
+  last_run at last le full = nonempty-append_kept (marked_parts belongs t from to) (marked_parts belongs t from at) (at + 1, to) (last_part at last le) full
 
-  pub last_empty : (at : ℕ) → EndsLast e to (at, at + 1) → from ≤ at → to ≤ at + 1 → nonempty (parts belongs t from to) ≡ nonempty (parts belongs t from at)
-  last_empty at last le empty = nonempty-append_dropped (parts belongs t from to) (parts belongs t from at) (at + 1, to) (last_part at last le) empty
+  pub last_empty : (at : ℕ) → EndsLast e to (at, at + 1) → from ≤ at → to ≤ at + 1 → nonempty (marked_parts belongs t from to) ≡ nonempty (marked_parts belongs t from at)
+  last_empty at last le empty = nonempty-append_dropped (marked_parts belongs t from to) (marked_parts belongs t from at) (at + 1, to) (last_part at last le) empty
 
-  pub only_run : IsQuiet e from to → from < to → nonempty (parts belongs t from to) ≡ (from, to) ∷ []
+  pub only_run : IsQuiet e from to → from < to → nonempty (marked_parts belongs t from to) ≡ (from, to) ∷ []
   only_run none full = ap nonempty (only_part none) ∙ nonempty-kept (from, to) [] full
 
-  pub no_run : to ≤ from → nonempty (parts belongs t from to) ≡ []
+  pub no_run : to ≤ from → nonempty (marked_parts belongs t from to) ≡ []
   no_run empty = ap nonempty (only_part (λ a b is le. let holds : a < b = (chars.one a b is).holds in omega arith)) ∙ nonempty-dropped (from, to) [] empty
 
--- what is found by the table of white space
+-- the places that the table of white space finds
 module _ (rows : List ℕ) (same : in_rows rows ≡ is_ascii_whitespace) (t bytes : List ℕ) (from to : ℕ) (w : IsWindow t from to) (value : bytes ≡ t) where
   test : (c : ℕ) → in_rows rows c ≡ is_ascii_whitespace c
   test c = ap (λ (p : ℕ → Bool). p c) same

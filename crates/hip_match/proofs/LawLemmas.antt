@@ -16,7 +16,7 @@ use Rattle.hip_match.specs.TextLaws.{text_ends-is, text_ends-spans}
 use Rattle.hip_match.proofs.LeftmostLemmas.{leftmost_between-InOrder}
 use Rattle.hip_match.proofs.PiecesLemmas.{InOrder-le}
 use Rattle.hip_match.specs.Pieces.{InOrder, gaps, ended, split, split_inclusive}
-use Rattle.hip_match.specs.Joined.{parts, together, joined}
+use Rattle.hip_match.specs.Joined.{parts_at, together, rejoined}
 
 module _ (f : ℕ → Option ℕ) where
   scan_occur : (s i n : ℕ) → AllOccur f (leftmost_from f s i n)
@@ -141,7 +141,7 @@ slice_range-append t i j k low high =
     ap (λ r. slice_range t i j ++ take (k - j) r) (ap (λ n. drop n t) (sym place) ∙ sym (drop-drop (j - i) i t))
     ∙ sym (take-add (j - i) (k - j) (drop i t)) ∙ ap (λ n. take n (drop i t)) size
 
-joined-gaps : (t sep : List ℕ) (ms : List (ℕ × ℕ)) (i n : ℕ) → InOrder i ms n → AllAre t sep ms → joined sep (parts t (gaps i ms n)) ≡ slice_range t i n
+joined-gaps : (t sep : List ℕ) (ms : List (ℕ × ℕ)) (i n : ℕ) → InOrder i ms n → AllAre t sep ms → rejoined sep (parts_at t (gaps i ms n)) ≡ slice_range t i n
 joined-gaps t sep [] i n order same = refl
 joined-gaps t sep (m ∷ []) i n order same =
     ap (λ s. slice_range t i m.0 ++ (s ++ slice_range t m.1 n)) (sym same.0)
@@ -150,18 +150,18 @@ joined-gaps t sep (m ∷ []) i n order same =
 joined-gaps t sep (m ∷ k ∷ ms) i n order same =
     let later = joined-gaps t sep (k ∷ ms) m.1 n order.2 same.1 in
     let top : m.1 ≤ n = InOrder-le (k ∷ ms) m.1 n order.2 in
-    ap (λ s. slice_range t i m.0 ++ (s ++ joined sep (parts t (gaps m.1 (k ∷ ms) n)))) (sym same.0)
+    ap (λ s. slice_range t i m.0 ++ (s ++ rejoined sep (parts_at t (gaps m.1 (k ∷ ms) n)))) (sym same.0)
     ∙ ap (λ r. slice_range t i m.0 ++ (slice_range t m.0 m.1 ++ r)) later
     ∙ ap (λ r. slice_range t i m.0 ++ r) (slice_range-append t m.0 m.1 n order.1 top)
     ∙ slice_range-append t i m.0 n order.0 (omega (arith, order.1, top))
 
-together-ended : (t : List ℕ) (ms : List (ℕ × ℕ)) (i n : ℕ) → InOrder i ms n → together (parts t (ended i ms n)) ≡ slice_range t i n
+together-ended : (t : List ℕ) (ms : List (ℕ × ℕ)) (i n : ℕ) → InOrder i ms n → together (parts_at t (ended i ms n)) ≡ slice_range t i n
 together-ended t [] i n order =
     ⊎_elim
     (λ (same : i ≡ n).
     let none : n - i ≡ 0 = omega arith in
-    ap (λ l. together (parts t l)) (cond-true _ _ _ (eq-eqb i n same)) ∙ sym (ap (λ k. take k (drop i t)) none))
-    (λ (other : i ≡ n → ⊥). ap (λ l. together (parts t l)) (cond-false _ _ _ (ne_eqb i n other)) ∙ append-nil _)
+    ap (λ l. together (parts_at t l)) (cond-true _ _ _ (eq-eqb i n same)) ∙ sym (ap (λ k. take k (drop i t)) none))
+    (λ (other : i ≡ n → ⊥). ap (λ l. together (parts_at t l)) (cond-false _ _ _ (ne_eqb i n other)) ∙ append-nil _)
     (cases_eq i n)
 together-ended t (m ∷ ms) i n order =
     let top : m.1 ≤ n = InOrder-le ms m.1 n order.2 in
@@ -181,12 +181,12 @@ module _ (p t : List ℕ) (utf8 : IsUtf8 t) where
   ordered : InOrder 0 (leftmost (text_ends p t) (length t)) (length t)
   ordered = leftmost_between-InOrder (text_ends p t) 0 (length t) (λ k m is. (text_ends-spans p t k m utf8 is).ordered) (omega arith)
 
-  pub split-joined : joined p (parts t (split (text_ends p t) (length t))) ≡ t
+  pub split-joined : rejoined p (parts_at t (split (text_ends p t) (length t))) ≡ t
   split-joined =
       joined-gaps t p (leftmost (text_ends p t) (length t)) 0 (length t) ordered (AllAre-text p t _ (leftmost-occur (text_ends p t) (length t))) ∙ whole t
 
-  pub split_inclusive-together : together (parts t (split_inclusive (text_ends p t) (length t))) ≡ t
+  pub split_inclusive-together : together (parts_at t (split_inclusive (text_ends p t) (length t))) ≡ t
   split_inclusive-together = together-ended t (leftmost (text_ends p t) (length t)) 0 (length t) ordered ∙ whole t
 
-pub ended-together : (e : ℕ → Option ℕ) (t : List ℕ) → ((k m : ℕ) → e k ≡ Some m → k ≤ m) → together (parts t (split_inclusive e (length t))) ≡ t
+pub ended-together : (e : ℕ → Option ℕ) (t : List ℕ) → ((k m : ℕ) → e k ≡ Some m → k ≤ m) → together (parts_at t (split_inclusive e (length t))) ≡ t
 ended-together e t sorted = together-ended t (leftmost e (length t)) 0 (length t) (leftmost_between-InOrder e 0 (length t) sorted (omega arith)) ∙ whole t

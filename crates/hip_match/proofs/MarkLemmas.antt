@@ -51,7 +51,7 @@ module _ (test : ℕ → Bool) (t : List ℕ) where
         ap test (sym (get_or-drop from t i 0)) ∙ found.1,
       )
 
-  -- what a search of the rest finds
+  -- a search of the rest finds the first place from there on
   pub first-behind : (from : ℕ) → from ≤ length t → (r : Option ℕ) → IsFirstByte test (take (length t - from) (drop from t)) r → IsFirst (Passes test t) from (length t) (option_map (λ i. from + i) r)
   first-behind from le r found =
       let whole : take (length t - from) (drop from t) ≡ drop from t = take_all (length t - from) (drop from t) (omega (arith, length-drop from t)) in
@@ -216,7 +216,7 @@ module _ (test : ℕ → Bool) (t : List ℕ) where
                 (cases_lt k r);
           }
 
-    -- what another search finds at or after `next`
+    -- a search at or after `next` finds the first place that is left, where no mark is
     pub ahead-far : m ≡ 0 → (r : Option ℕ) → IsFirst (Passes test t) next (length t) r → IsFirst (Passes test t) from (length t) r
     ahead-far none None far = λ k lo hi. ⊎_elim (λ (lt : k < next). ahead-none none k lo lt) (λ (ge : next ≤ k). far k ge hi) (cases_lt k next)
     ahead-far none (Some at) far =
@@ -365,7 +365,7 @@ module _ (test : ℕ → Bool) (t : List ℕ) where
                 (cases_lt k r);
           }
 
-    -- what another search finds before `start`
+    -- a search before `start` finds the last place that is left, where no mark is
     pub behind-far : m ≡ 0 → (r : Option ℕ) → IsLast (Passes test t) 0 start r → IsLast (Passes test t) 0 to r
     behind-far none None far = λ k lo hi. ⊎_elim (λ (lt : k < start). far k lo lt) (λ (ge : start ≤ k). behind-none none k ge hi) (cases_lt k start)
     behind-far none (Some at) far =

@@ -1,4 +1,4 @@
--- What follows of the occurrences of a text.
+-- Lemmas of the occurrences of a text.
 use Rattle.std.proofs.Common.{◌≡◌, ℕ, ◌+◌, ◌<◌, ◌≤◌, List, Option, Some, None, refl, arith}
 use Rattle.std.specs.Str.{IsCharBoundary}
 use Rattle.std.proofs.Common.{⊎_elim}

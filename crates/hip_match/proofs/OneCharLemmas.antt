@@ -1,4 +1,4 @@
--- What holds of a pattern whose occurrences are single characters.
+-- Lemmas of a pattern whose occurrences are single characters.
 use Rattle.std.proofs.Common.{◌≡◌, ℕ, ◌<◌, ◌≤◌, List, [], ◌∷◌, ◌++◌, Option, Some, None, ⊎_elim}
 use Rattle.std.proofs.lemmas.Bool.{cases_lt}
 use Rattle.std.specs.Str.{IsCharBoundary}

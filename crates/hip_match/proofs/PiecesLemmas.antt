@@ -63,7 +63,7 @@ at_most_to-more (suc (suc k)) i n m ms ls more h =
     let same : suc (suc k) - 1 ≡ suc k = omega arith in
     ap (λ l. at_most_to (suc (suc k)) (gaps i l n) n) h ∙ ap (λ c. (i, m.0) ∷ at_most_to c (gaps m.1 ls n) n) (sym same)
 
--- the same from the back
+-- no match, listed from the back: one range, the whole
 pub at_most_from-end : (count i n : ℕ) (ms : List (ℕ × ℕ)) → ¬ (count ≡ 0) → ms ≡ [] → at_most_from count (gaps_back i ms n) i ≡ (i, n) ∷ []
 at_most_from-end zero i n ms some h = absurd (some refl)
 at_most_from-end (suc zero) i n ms some h = ap (λ l. at_most_from 1 (gaps_back i l n) i) h
@@ -116,7 +116,7 @@ terminator-next_back ending old mid new x r is h empty later =
     let P : List (ℕ × ℕ) → Type 0 = λ l. MatchOption r ((l ≡ []) × (new ≡ [])) (λ y. l ≡ new ++ y ∷ []) in
     subst P (sym same) later
 
--- the same ranges, of the same text under another name
+-- ranges between two places of a text are between them of an equal text
 pub IsBetween-moved : (t u : List ℕ) (i j : ℕ) (l : List (ℕ × ℕ)) → u ≡ t → IsBetween t i l j → IsBetween u i l j
 IsBetween-moved t u i j l same h = let P : List ℕ → Type 0 = λ v. IsBetween v i l j in subst P (sym same) h
 

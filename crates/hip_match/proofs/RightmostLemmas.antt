@@ -18,7 +18,7 @@ module _ (e : ℕ → Option ℕ) where
   ends_at-some : (o : Option ℕ) (j : ℕ) → o ≡ Some j → ends_at o j ≡ true
   ends_at-some o j is = ap (λ x. ends_at x j) is ∙ eq-eqb j j refl
 
-  -- what it finds is one
+  -- the start that `start_among` finds is one
   pub start_among-is : (from n j a : ℕ) → start_among e from n j ≡ Some a → (from ≤ a) × (a < from + n) × (e a ≡ Some j)
   unfolding start_among
   start_among-is from zero j a is = absurd (none-some a is)
@@ -34,7 +34,7 @@ module _ (e : ℕ → Option ℕ) where
       (low, omega arith, later.2))
       (cases_Bool (ends_at (e (from + n)) j))
 
-  -- it finds the one that there is
+  -- `start_among` finds the start that there is
   pub start_among-found : (from n j a : ℕ) → ((b c : ℕ) → e b ≡ Some j → e c ≡ Some j → b ≡ c) → from ≤ a → a < from + n → e a ≡ Some j → start_among e from n j ≡ Some a
   unfolding start_among
   start_among-found from zero j a one low high is = absurd (omega arith)

@@ -39,7 +39,7 @@ module _ (p : ℕ → Bool) (t : List ℕ) (utf8 : IsUtf8 t) where
       char_ends-none p t k (char_at-end t k (omega arith)))
       (cases_lt k i)
 
-  -- what ends after the character before `end` ends after `end`
+  -- an occurrence that ends after the character before `end` ends after `end`
   pub last_step : (to end : ℕ) (r : ℕ × ℕ) → IsCharBefore t end r → p r.0 ≡ false
       → ((a b : ℕ) → char_ends p t a ≡ Some b → end < b → to < b) → (a b : ℕ) → char_ends p t a ≡ Some b → r.1 < b → to < b
   last_step to end r h fails none a b is lt =

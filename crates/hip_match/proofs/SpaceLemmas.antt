@@ -68,7 +68,7 @@ module _ (t : List ℕ) (utf8 : IsUtf8 t) where
       ap (λ n. slice_index t n) (sym (add-zero a)) ∙ sym (get_or-drop a t 0 0) ∙ ap (λ l. get_or l 0 0) found.1.1.split in
       ap leads (byte ∙ first_of c _) ∙ lead-passes c found.1.2
 
-  -- and each that passes begins a character
+  -- each byte that passes begins a character
   pub lead-boundary : (k : ℕ) → slice_index t k < 256 → k < length t → Passes leads t k → IsCharBoundary t k
   lead-boundary k fits within passes =
       let told = agree_below_at (λ i. not (leads i) || (nat_lt i 128 || nat_le 192 i)) (λ i. true) 256 (slice_index t k) refl fits in

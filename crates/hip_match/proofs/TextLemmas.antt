@@ -284,7 +284,7 @@ module _ (t p : List ℕ) where
         let P : ℕ → Type 0 = OccursAt (take to t) p in
         off (omega (arith, size, found.1), subst P at (OccursAt-in_take to a cut.0 (omega (arith, found.1)) found.0)))
 
--- what a slice of a rest or of a front is
+-- slices of a rest and of a front
 pub rest_slice : (t : List ℕ) (from : ℕ) → take (length t - from) (drop from t) ≡ drop from t
 rest_slice t from = take_all _ _ (omega (arith, length-drop from t))
 

@@ -1,4 +1,4 @@
--- What a predicate on characters answers, as a list with a place for each number.
+-- The answers of a predicate on characters, as a list with a place for each number.
 use Rattle.std.specs.Prelude.{ℕ, Bool, false, List, slice_index_or}
 
 -- the answer at a character

@@ -1,4 +1,4 @@
--- What holds of the characters of a text and of the places where sets of characters occur.
+-- Laws of the characters of a text and of the places where sets of characters occur.
 use Rattle.std.specs.Prelude.{◌≡◌, ℕ, ◌+◌, ◌-◌, ◌<◌, ◌≤◌, Bool, true, false, ◌&&◌, None, Some, List, [], ◌∷◌, ◌++◌, length, take, drop, slice_index}
 use Rattle.std.proofs.Common.{sym, ◌∙◌, ap, subst, arith, ⊎_elim, length-append, length-drop, get_or-drop, add-zero, length-take-le, take-append-drop, append_assoc}
 use Rattle.std.proofs.lemmas.Bool.{cond-true, cond-false, cases_Bool, cases_lt, and_parts, and_from, false≢true}
@@ -56,7 +56,7 @@ starts_char t i utf8 cut lt =
     let rest = IsUtf8-drop t i utf8 cut in
     starts_with t i rest cut rest.0 rest.1.0 rest.1.1 lt
 
--- and none at the end
+-- no character starts at the end
 pub char_at-end : (t : List ℕ) (i : ℕ) → length t ≤ i → char_at t i ≡ None
 unfolding char_at
 char_at-end t i ge =

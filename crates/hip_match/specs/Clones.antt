@@ -1,4 +1,4 @@
--- What clones of patterns and of iterators keep.
+-- Clones of patterns and of iterators, which keep what their originals have.
 use Rattle.std.specs.Prelude.{◌≡◌, ℕ, Bool, Option, List, [], map, if◌then◌else◌}
 use Rattle.std.proofs.Common.{refl, sym, ◌∙◌}
 use Rattle.hip_match.specs.Pieces.{ended, gaps, gaps_back}

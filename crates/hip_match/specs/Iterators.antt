@@ -1,4 +1,4 @@
--- What is said of an iterator by what its type says of ranges.
+-- Claims of an iterator, in the words in which its type tells of ranges.
 use Rattle.std.specs.Prelude.{◌≡◌, ℕ, Option, List, IfSome}
 use Rattle.hip_match.specs.Clones.{KeepsRanges}
 use Rattle.hip_match.specs.Occurrence.{IsCut}

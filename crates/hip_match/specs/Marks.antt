@@ -54,5 +54,5 @@ pub record Behind (test : ℕ → Bool) (text : List ℕ) (to start bits : ℕ) 
   pub left : AreUpTo test text to start bits
 
 -- the parts from `from` up to `to` between the characters of a set
-abbrev pub parts : (ℕ → Bool) → List ℕ → ℕ → ℕ → List (ℕ × ℕ)
-parts belongs text from to = gaps from (leftmost_between (char_ends belongs text) from to) to
+abbrev pub marked_parts : (ℕ → Bool) → List ℕ → ℕ → ℕ → List (ℕ × ℕ)
+marked_parts belongs text from to = gaps from (leftmost_between (char_ends belongs text) from to) to

@@ -39,14 +39,14 @@ abbrev pub without_empty_first : List (ℕ × ℕ) → List (ℕ × ℕ)
 without_empty_first [] = []
 without_empty_first (r ∷ rs) = if r.0 == r.1 then rs else r ∷ rs
 
--- at most `count` ranges, of which the last of so many runs on to n
+-- at most `count` ranges; where there are `count`, the last of them runs on to n
 abbrev pub at_most_to : ℕ → List (ℕ × ℕ) → ℕ → List (ℕ × ℕ)
 at_most_to zero rs n = []
 at_most_to (suc count) [] n = []
 at_most_to (suc zero) (r ∷ rs) n = (r.0, n) ∷ []
 at_most_to (suc (suc count)) (r ∷ rs) n = r ∷ at_most_to (suc count) rs n
 
--- like `at_most_to`, but of ranges that are listed from the back, of which the last of so many begins at i
+-- like `at_most_to`, but of ranges that are listed from the back; where there are `count`, the last of them begins at i
 abbrev pub at_most_from : ℕ → List (ℕ × ℕ) → ℕ → List (ℕ × ℕ)
 at_most_from zero rs i = []
 at_most_from (suc count) [] i = []

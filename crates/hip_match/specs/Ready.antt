@@ -1,4 +1,4 @@
--- What an iterator keeps of its places in a text.
+-- The places in a text that an iterator keeps.
 use Rattle.std.specs.Prelude.{◌≡◌, ℕ, ◌<◌, ◌≤◌, Bool, false, Option, List, [], ◌∷◌, ◌++◌, MatchOption}
 use Rattle.std.specs.Str.{IsCharBoundary, IsUtf8}
 use Rattle.hip_match.specs.Occurrence.{NoneCrosses}

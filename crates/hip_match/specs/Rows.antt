@@ -12,14 +12,14 @@ use Rattle.hip_match.specs.Pieces.{split, split_inclusive, split_terminator, spl
 use Rattle.hip_match.specs.Runs.{split_whitespace, split_ascii_whitespace, lines}
 use Rattle.hip_match.specs.Trims.{IsSequence, strip_prefix, strip_suffix, split_once, rsplit_once}
 use Rattle.hip_match.specs.Draw.{draw, left_by}
-use Rattle.hip_match.specs.Joined.{parts, joined, together}
+use Rattle.hip_match.specs.Joined.{parts_at, rejoined, together}
 
 -- "aa" occurs in "aaa" at 0 and at 1
 pub occurs-over : text_ends (97 ∷ 97 ∷ []) (97 ∷ 97 ∷ 97 ∷ []) 1 ≡ Some 3
 unfolding text_ends
 occurs-over = refl
 
--- and not at 2
+-- "aa" doesn't occur in "aaa" at 2
 pub occurs-not : text_ends (97 ∷ 97 ∷ []) (97 ∷ 97 ∷ 97 ∷ []) 2 ≡ None
 unfolding text_ends
 occurs-not = refl
@@ -34,7 +34,7 @@ pub leftmost-overlapping : leftmost (text_ends (97 ∷ 97 ∷ []) (97 ∷ 97 ∷
 unfolding text_ends leftmost_from
 leftmost-overlapping = refl
 
--- and from the end the rightmost
+-- of two matches that overlap the rightmost counts from the end
 pub rightmost-overlapping : rightmost (text_ends (97 ∷ 97 ∷ []) (97 ∷ 97 ∷ 97 ∷ [])) 3 ≡ ((1, 3) ∷ [])
 unfolding text_ends rightmost_from start_among
 rightmost-overlapping = refl
@@ -158,12 +158,12 @@ pub split_whitespace-row : split_whitespace (97 ∷ 11 ∷ 98 ∷ []) ≡ ((0, 1
 unfolding leftmost_from char_at chars
 split_whitespace-row = refl
 
--- and no ASCII white space
+-- U+000B is no ASCII white space
 pub split_ascii_whitespace-row : split_ascii_whitespace (97 ∷ 11 ∷ 98 ∷ []) ≡ ((0, 3) ∷ [])
 unfolding leftmost_from char_at chars
 split_ascii_whitespace-row = refl
 
--- so is U+2003
+-- U+2003 is white space too
 pub split_whitespace-wide : split_whitespace (226 ∷ 128 ∷ 131 ∷ 97 ∷ []) ≡ ((3, 4) ∷ [])
 unfolding leftmost_from char_at chars
 split_whitespace-wide = refl
@@ -210,10 +210,10 @@ draw-past = refl
 pub left_by-row : left_by ((0, 1) ∷ (2, 2) ∷ (3, 4) ∷ []) (Back ∷ []) ≡ ((0, 1) ∷ (2, 2) ∷ [])
 left_by-row = refl
 
-pub parts-row : parts (97 ∷ 44 ∷ 98 ∷ []) ((0, 1) ∷ (2, 3) ∷ []) ≡ ((97 ∷ []) ∷ (98 ∷ []) ∷ [])
+pub parts-row : parts_at (97 ∷ 44 ∷ 98 ∷ []) ((0, 1) ∷ (2, 3) ∷ []) ≡ ((97 ∷ []) ∷ (98 ∷ []) ∷ [])
 parts-row = refl
 
-pub joined-row : joined (44 ∷ []) ((97 ∷ []) ∷ (98 ∷ []) ∷ []) ≡ (97 ∷ 44 ∷ 98 ∷ [])
+pub joined-row : rejoined (44 ∷ []) ((97 ∷ []) ∷ (98 ∷ []) ∷ []) ≡ (97 ∷ 44 ∷ 98 ∷ [])
 joined-row = refl
 
 pub together-row : together ((97 ∷ 44 ∷ []) ∷ (98 ∷ []) ∷ []) ≡ (97 ∷ 44 ∷ 98 ∷ [])

@@ -6,7 +6,7 @@ use Rattle.hip_match.specs.Characters.{char_ends}
 use Rattle.hip_match.specs.Leftmost.{IsListed}
 use Rattle.hip_match.specs.Pieces.{split, split_inclusive}
 
--- the ranges that hold something
+-- the ranges that aren't empty
 abbrev pub nonempty : List (ℕ × ℕ) → List (ℕ × ℕ)
 nonempty [] = []
 nonempty (r ∷ rs) = if nat_lt r.0 r.1 then r ∷ nonempty rs else nonempty rs

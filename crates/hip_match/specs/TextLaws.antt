@@ -1,4 +1,4 @@
--- What holds of the places where a text occurs.
+-- Laws of the places where a text occurs.
 use Rattle.std.specs.Prelude.{◌≡◌, ℕ, ◌+◌, ◌<◌, ◌≤◌, ◌&&◌, Some, List, [], ◌∷◌, ◌++◌, length, take, drop, slice_index}
 use Rattle.std.proofs.Common.{sym, ◌∙◌, ap, subst, arith, length-append, get_or-drop, get_or-take, add-zero, length-take-le, take-append-drop, append_assoc, drop-drop}
 use Rattle.std.proofs.lemmas.Bool.{cond-true, and_parts, and_from}

@@ -1,4 +1,4 @@
--- What is removed from the ends of a text, as Rust's documentation of `str` tells it. The text has n bytes.
+-- The ranges that are cut off the ends of a text, as Rust's documentation of `str` tells it. The text has n bytes.
 use Rattle.std.specs.Prelude.{◌≡◌, ℕ, ◌<◌, ◌≤◌, Option, None, Some, List, [], ◌∷◌}
 use Rattle.std.specs.Option.{option_map}
 use Rattle.hip_match.specs.Occurrence.{start_of}

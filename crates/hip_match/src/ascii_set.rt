@@ -119,7 +119,7 @@ impl AsciiSet {
 }
 
 impl AsciiSet {
-    /// Which of the 64 bytes from `at` on are characters of the set, the first by the lowest bit: for a scanner of one's own.
+    /// Which of the 64 bytes from `at` on are characters of the set, as a mask whose lowest bit is the first byte's: for scanners of users.
     #[inline(always)]
     pub fn marks(self, bytes: &[u8], at: usize) -> u64
         requires { at + 64 ≤ length bytes.now }

@@ -2,7 +2,7 @@
 ghost use Rattle.std.specs.Prelude.{◌≡◌, ◌<◌};
 ghost use Rattle.std.specs.Char.{is_ascii_whitespace};
 ghost use Rattle.hip_match.specs.Iterators.{Gives};
-ghost use Rattle.hip_match.specs.Marks.{Ahead, Behind, in_rows, parts};
+ghost use Rattle.hip_match.specs.Marks.{Ahead, Behind, in_rows, marked_parts};
 ghost use Rattle.hip_match.specs.Ready.{IsWindow};
 ghost use Rattle.hip_match.specs.Runs.{nonempty, split_ascii_whitespace};
 
@@ -45,7 +45,7 @@ impl<'h> Ranges for SplitAsciiWhitespace<'h> {
 
     ghost text = { λ s. s.text.now };
 
-    ghost rest = { λ s. nonempty (parts is_ascii_whitespace s.text.now s.from s.to) };
+    ghost rest = { λ s. nonempty (marked_parts is_ascii_whitespace s.text.now s.from s.to) };
 
     #[inline(always)]
     fn next(&mut self) -> Option<(usize, usize)> {

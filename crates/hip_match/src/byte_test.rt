@@ -18,7 +18,7 @@ pub trait ByteTest: Copy {
     fn has(&self, byte: u8) -> bool
         ensures { result ≡ passes self.now byte };
 
-    /// Which of the sixteen bytes from `at` on pass, the first by the lowest bit.
+    /// Which of the sixteen bytes from `at` on pass, as a mask whose lowest bit is the first byte's.
     fn lanes(&self, bytes: &[u8], at: usize) -> u64
         requires { at + 16 ≤ length bytes.now }
         ensures few { result < 65536 }

@@ -3,7 +3,7 @@ ghost use Rattle.std.specs.Prelude.{◌≡◌, ◌+◌, ◌++◌, ℕ, List, len
 ghost use Rattle.std.specs.Char.{is_whitespace, is_ascii_whitespace};
 ghost use Rattle.hip_match.specs.Characters.{char_ends};
 ghost use Rattle.hip_match.specs.Draw.{draw, fronts, backs, left_by};
-ghost use Rattle.hip_match.specs.Joined.{joined, parts, together};
+ghost use Rattle.hip_match.specs.Joined.{rejoined, parts_at, together};
 ghost use Rattle.hip_match.specs.Leftmost.{IsLeftmost, leftmost};
 ghost use Rattle.hip_match.specs.Occurrence.{EndsMatchStarts};
 ghost use Rattle.hip_match.specs.Pieces.{split, split_inclusive, split_terminator, splitn, rsplit, rsplit_terminator, rsplitn};
@@ -40,20 +40,20 @@ pub fn one_char_reverses<P: OneChar>(pattern: &P, text: &str)
 
 /// The pieces of a split by a text, joined with it, give the source; the pieces that end with it give the source as they are.
 pub fn join_undoes_split(text: &str, separator: &str)
-    ensures split { joined separator.now
-        (parts text.now (split (text_ends separator.now text.now) (length text.now))) ≡ text.now }
+    ensures split { rejoined separator.now
+        (parts_at text.now (split (text_ends separator.now text.now) (length text.now))) ≡ text.now }
     ensures inclusive { together
-        (parts text.now (split_inclusive (text_ends separator.now text.now) (length text.now)))
+        (parts_at text.now (split_inclusive (text_ends separator.now text.now) (length text.now)))
         ≡ text.now }
 {}
 
 /// Like `join_undoes_split`, but by a character.
 pub fn join_undoes_split_by_char(text: &str, separator: char)
-    ensures split { joined (encode_utf8 separator)
-        (parts text.now (split (char_ends (λ c. c == separator) text.now) (length text.now)))
+    ensures split { rejoined (encode_utf8 separator)
+        (parts_at text.now (split (char_ends (λ c. c == separator) text.now) (length text.now)))
         ≡ text.now }
     ensures inclusive { together
-        (parts text.now (split_inclusive (char_ends (λ c. c == separator) text.now)
+        (parts_at text.now (split_inclusive (char_ends (λ c. c == separator) text.now)
         (length text.now))) ≡ text.now }
 {}
 
@@ -66,7 +66,7 @@ pub fn ends_meet(ranges: &[(usize, usize)], script: &[End])
 
 /// The pieces that end with a match, one after another, are the text, whatever the pattern.
 pub fn ended_pieces_are_the_text<P: Pattern>(pattern: &P, text: &str)
-    ensures { together (parts text.now
+    ensures { together (parts_at text.now
         (split_inclusive (P.ends pattern.now text.now) (length text.now))) ≡ text.now }
 {}
 

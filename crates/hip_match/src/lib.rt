@@ -16,7 +16,7 @@
 //! - [`draw_into`] draws a walk by a script of [`End`]s.
 //! - [`laws`] has what holds of the declared lists, each law as the contract of a function that does nothing.
 //!
-//! No call takes memory, but that a clone of a walk may want what a clone of its pattern wants.
+//! No call allocates, but the clone of a walk may, where a clone of its pattern may.
 //!
 //! The words of the contracts stand in `specs/`: `Occurrence` (where a pattern occurs, and what a search gives), `Characters` and `Texts`
 //! (where sets of characters and texts occur), `Leftmost` and `Rightmost` (the lists of matches), `Pieces` (the parts between matches, and

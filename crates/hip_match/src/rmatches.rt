@@ -21,7 +21,7 @@ pub struct RMatches<'h, P: ReversePattern> {
     done: bool,
 }
 
-// The searcher is prepared anew, so that nothing but the pattern's clone may want memory.
+// The searcher is prepared anew, so that nothing but the pattern's clone may allocate.
 impl<'h, P: ReversePattern + Clone> Clone for RMatches<'h, P> {
     ghost is_clone = { λ m copy. ClonesKeep P.is_clone P.can_search P.ends →
         GivesAlike ⟦<RMatches<'h, P> as Ranges>⟧ m copy };

@@ -147,7 +147,8 @@ impl<'h, P: OneChar> RangesBack for RSplitTerminator<'h, P> {
     }
 }
 
-/// At most so many parts of a text between the rightmost occurrences of a pattern, last first, of which the last of so many begins at the text's start.
+/// At most `count` parts of a text between the rightmost occurrences of a pattern, last first. Where there are `count`, the last of them
+/// begins at the text's start.
 #[derive(Clone, Drop)]
 pub struct RSplitN<'h, P: ReversePattern> {
     matches: RMatches<'h, P>,

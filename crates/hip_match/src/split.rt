@@ -231,7 +231,7 @@ impl<'h, P: OneChar> RangesBack for SplitTerminator<'h, P> {
     }
 }
 
-/// At most so many parts of a text between the occurrences of a pattern, of which the last of so many runs to the end.
+/// At most `count` parts of a text between the occurrences of a pattern. Where there are `count`, the last of them runs to the end.
 #[derive(Clone, Drop)]
 pub struct SplitN<'h, P: Pattern> {
     matches: Matches<'h, P>,

@@ -3,7 +3,7 @@ ghost use Rattle.std.specs.Prelude.{◌≡◌, ◌==◌, ◌<◌, [], false, len
 ghost use Rattle.std.specs.Str.{IsCharBoundary, IsUtf8};
 ghost use Rattle.hip_match.specs.Characters.{char_ends};
 ghost use Rattle.hip_match.specs.Iterators.{Gives};
-ghost use Rattle.hip_match.specs.Marks.{Ahead, parts};
+ghost use Rattle.hip_match.specs.Marks.{Ahead, marked_parts};
 ghost use Rattle.hip_match.specs.Pieces.{split};
 
 use crate::byte_test::OneByte;
@@ -45,7 +45,7 @@ impl<'h> Ranges for SplitByte<'h> {
 
     ghost text = { λ s. s.text.now };
 
-    ghost rest = { λ s. if s.done then [] else parts (λ c. c == s.byte.0) s.text.now s.from (length s.text.now) };
+    ghost rest = { λ s. if s.done then [] else marked_parts (λ c. c == s.byte.0) s.text.now s.from (length s.text.now) };
 
     #[inline(always)]
     fn next(&mut self) -> Option<(usize, usize)> {

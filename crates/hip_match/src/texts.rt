@@ -13,14 +13,14 @@ use memchr::arch::all::{is_prefix, is_suffix, packedpair};
 use memchr::memmem::{Finder, FinderRev};
 use memchr::{memchr, memmem, memrchr};
 
-/// The searcher of a text: of a short one nothing is prepared.
+/// The searcher of a text. Nothing is prepared for a short one.
 #[derive(Drop)]
 pub struct TextSearcher<'p> {
     finder: Option<Prepared<'p>>,
     reverse_finder: Option<PreparedBack<'p>>,
 }
 
-// A search from the front that is prepared, and the place in the needle of the byte by which it is looked for first, if there is one.
+// A prepared search from the front, and the position in the needle of the byte that is searched for first, if there is one.
 #[derive(Drop)]
 pub(crate) struct Prepared<'p> {
     finder: Finder<'p>,
@@ -34,8 +34,8 @@ pub(crate) struct PreparedBack<'p> {
     sign: Option<usize>,
 }
 
-// The place in a needle of a byte that mostly stands where the needle does: of a character the last, else a sign, as texts that part
-// others have one.
+// The position in a needle of a rare byte, whose first place in a haystack mostly is where the needle stands: the last byte of one
+// character that isn't ASCII, else a punctuation mark, as separators have one.
 #[inline]
 fn sign_of(needle: &[u8]) -> Option<usize> {
     if needle.len() <= 4 && !needle.is_ascii() {
@@ -44,7 +44,7 @@ fn sign_of(needle: &[u8]) -> Option<usize> {
     needle.iter().position(|byte| byte.is_ascii_punctuation())
 }
 
-// The search for `needle` from the front, prepared. One byte and two have ways of their own.
+// The prepared search for `needle` from the front. One byte and two have ways of their own.
 #[inline]
 fn finder_of<'p>(needle: &'p str) -> Option<Prepared<'p>>
     ensures { IfSome result (λ f. f.finder ≡ needle.now) }
@@ -59,7 +59,7 @@ fn finder_of<'p>(needle: &'p str) -> Option<Prepared<'p>>
     })
 }
 
-// The search for `needle` from the end, prepared.
+// The prepared search for `needle` from the end.
 #[inline]
 fn reverse_finder_of<'p>(needle: &'p str) -> Option<PreparedBack<'p>>
     ensures { IfSome result (λ f. f.finder ≡ needle.now) }
@@ -74,7 +74,7 @@ fn reverse_finder_of<'p>(needle: &'p str) -> Option<PreparedBack<'p>>
     })
 }
 
-// The first place of `hay` where the bytes of `needle` stand, by what was prepared of it.
+// The first place of `hay` where the bytes of `needle` stand, by its prepared search if there is one.
 #[inline]
 fn place_by(finder: &Option<Prepared<'_>>, hay: &[u8], needle: &[u8]) -> Option<usize>
     requires { IfSome finder.now (λ f. f.finder ≡ needle.now) }
@@ -86,7 +86,8 @@ fn place_by(finder: &Option<Prepared<'_>>, hay: &[u8], needle: &[u8]) -> Option<
     }
 }
 
-// Like `place_by`, but for a needle that mostly stands where its byte at `sign` first does. Where it doesn't, the search goes on behind that place.
+// Like `place_by`, but tries first where the needle's byte at `sign` first stands. Where the needle isn't there, the search goes on behind
+// that place.
 #[inline]
 fn near_place(
     finder: &Option<Prepared<'_>>,
@@ -116,9 +117,9 @@ fn pair_place(hay: &[u8], needle: &[u8]) -> Option<usize>
     packedpair::Finder::with_pair(needle, pair).find_prefilter(hay)
 }
 
-// The first place of `hay` where the bytes of `needle` stand, of which there are none or more than one. Two are looked for at once, and
-// more by a sign among them, or right where the search begins, before all else. It is a function apart, so that the search for one byte is
-// short enough to be inlined.
+// The first place of `hay` where the bytes of `needle` stand, of which there are none or more than one. Two bytes are searched for as a
+// pair; a longer needle is tried first at its byte at `sign`, or where the search begins. It is a function apart, so that the search for
+// one byte is short enough to be inlined.
 #[inline(never)]
 fn first_wide_place(finder: &Option<Prepared<'_>>, hay: &[u8], needle: &[u8]) -> Option<usize>
     requires { IfSome finder.now (λ f. f.finder ≡ needle.now) }
@@ -144,7 +145,7 @@ fn first_wide_place(finder: &Option<Prepared<'_>>, hay: &[u8], needle: &[u8]) ->
     }
 }
 
-// The first place of `hay` where the bytes of `needle` stand. One byte is looked for by itself.
+// The first place of `hay` where the bytes of `needle` stand. One byte has a search of its own.
 #[inline(always)]
 fn first_place(finder: &Option<Prepared<'_>>, hay: &[u8], needle: &[u8]) -> Option<usize>
     requires { IfSome finder.now (λ f. f.finder ≡ needle.now) }
@@ -156,7 +157,7 @@ fn first_place(finder: &Option<Prepared<'_>>, hay: &[u8], needle: &[u8]) -> Opti
     first_wide_place(finder, hay, needle)
 }
 
-// The last place of `hay` where the bytes of `needle` stand, by what was prepared of it.
+// The last place of `hay` where the bytes of `needle` stand, by its prepared search if there is one.
 #[inline]
 fn last_place_by(finder: &Option<PreparedBack<'_>>, hay: &[u8], needle: &[u8]) -> Option<usize>
     requires { IfSome finder.now (λ f. f.finder ≡ needle.now) }
@@ -168,7 +169,7 @@ fn last_place_by(finder: &Option<PreparedBack<'_>>, hay: &[u8], needle: &[u8]) -
     }
 }
 
-// Like `last_place_by`, but for a needle that mostly stands where its byte at `sign` last does.
+// Like `last_place_by`, but tries first where the needle's byte at `sign` last stands.
 #[inline]
 fn last_near_place(
     finder: &Option<PreparedBack<'_>>,
@@ -187,7 +188,7 @@ fn last_near_place(
     last_place_by(finder, hay, needle)
 }
 
-// Like `last_place_by`, but for a needle that often stands where its last byte does the last time but one.
+// Like `last_place_by`, but tries first the last two places where the needle's last byte stands.
 #[inline]
 fn last_second_place(finder: &Option<PreparedBack<'_>>, hay: &[u8], needle: &[u8]) -> Option<usize>
     requires some { 0 < length needle.now }
@@ -202,7 +203,8 @@ fn last_second_place(finder: &Option<PreparedBack<'_>>, hay: &[u8], needle: &[u8
     last_near_place(finder, &hay[..at], needle, back)
 }
 
-// The last place of `hay` where more than four bytes, or none, stand: by a sign among them, or right at the end, before all else.
+// The last place of `hay` where a needle of more than four bytes, or of none, stands. It is tried first at its byte at `sign`, or at the
+// end.
 #[inline(never)]
 fn last_long_place(finder: &Option<PreparedBack<'_>>, hay: &[u8], needle: &[u8]) -> Option<usize>
     requires { IfSome finder.now (λ f. f.finder ≡ needle.now) }
@@ -235,7 +237,7 @@ fn last_place(finder: &Option<PreparedBack<'_>>, hay: &[u8], needle: &[u8]) -> O
     last_long_place(finder, hay, needle)
 }
 
-// The first occurrence of `needle` at or after `from`, by what was prepared of it.
+// The first occurrence of `needle` at or after `from`, by its prepared search if there is one.
 #[inline(always)]
 pub(crate) fn find_text(
     text: &str,
@@ -268,7 +270,7 @@ pub(crate) fn text_at(text: &str, needle: &str, at: usize) -> Option<usize>
     None
 }
 
-// The last occurrence of `needle` that ends at or before `to`, by what was prepared of it.
+// The last occurrence of `needle` that ends at or before `to`, by its prepared search if there is one.
 #[inline]
 pub(crate) fn rfind_text(
     text: &str,

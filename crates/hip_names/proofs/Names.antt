@@ -7,7 +7,7 @@ use Rattle.std.proofs.lemmas.List.Sums.{fails_before_first, prefix_len-le-length
 use Rattle.std.specs.List.{All, before_first, after_first, position, position_or_len}
 use Rattle.std.specs.Path.{is_name}
 use Rattle.std.proofs.lemmas.List.Splits.{slice_split_first, slice_split_none}
-use Rattle.hip_names.specs.Components.{is_slash, parts, names, named}
+use Rattle.hip_names.specs.Components.{is_slash, path_parts, names, named}
 
 -- where the first slash stands, by the place that there may be
 cond-within : (b : Bool) (m n : ℕ) → nat_lt m n ≡ b → m ≤ n → unwrap_or (cond b (Some m) None) n ≡ m
@@ -27,14 +27,14 @@ map-cond part later false = refl
 abbrev IsFirst : List ℕ → List ℕ → List ℕ → Type 0
 IsFirst path part later = names path ≡ cond (is_name part) (named part ∷ names later) (names later)
 
-one-part : (path : List ℕ) → parts path ≡ path ∷ [] → IsFirst path path []
+one-part : (path : List ℕ) → path_parts path ≡ path ∷ [] → IsFirst path path []
 one-part path e = ap (λ (ps : List (List ℕ)). map named (filter is_name ps)) e ∙ map-cond path [] (is_name path)
 
 -- a part that names something, before the names of the parts behind it
 pub names-first : (path : List ℕ) → names path ≡ cond (is_name (before_first is_slash path)) (named (before_first is_slash path) ∷ names (after_first is_slash path)) (names (after_first is_slash path))
 names-first path = by-slash (dec_lt (position_or_len is_slash path) (length path)) where
   by-slash : Dec (position_or_len is_slash path < length path) → IsFirst path (before_first is_slash path) (after_first is_slash path)
-  by-slash (yes within) = ap (λ (ps : List (List ℕ)). map named (filter is_name ps)) (slice_split_first is_slash path 0 within) ∙ map-cond (before_first is_slash path) (parts (after_first is_slash path)) (is_name (before_first is_slash path))
+  by-slash (yes within) = ap (λ (ps : List (List ℕ)). map named (filter is_name ps)) (slice_split_first is_slash path 0 within) ∙ map-cond (before_first is_slash path) (path_parts (after_first is_slash path)) (is_name (before_first is_slash path))
   by-slash (no past) =
       let none : All (λ x. is_slash x ≡ false) path = λ k d m. fails_before_first is_slash path k d (omega arith) in
       let whole : before_first is_slash path ≡ path = take_all (position_or_len is_slash path) path (omega arith) in

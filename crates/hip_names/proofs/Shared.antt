@@ -10,7 +10,7 @@ use Rattle.std.specs.List.{before_first, onto_first, position_or_len, starts_wit
 use Rattle.std.specs.Ordering.{ordering_then}
 use Rattle.std.specs.Path.{slash, root_dir, cur_dir, is_name}
 use Rattle.std.specs.Str.{bytes_eq}
-use Rattle.hip_names.specs.Components.{Component, RootDir, CurDir, component_order, components, is_slash, named, names, parts, path_order, start}
+use Rattle.hip_names.specs.Components.{Component, RootDir, CurDir, component_order, components, is_slash, named, names, path_parts, path_order, start}
 use Rattle.hip_names.specs.PathLaws.{component_order_total}
 use Rattle.hip_names.specs.Shared.{IsSharedFront}
 
@@ -23,17 +23,17 @@ parts-step : (x : ℕ) (b : Bool) (ps qs : List (List ℕ)) → 0 < length ps �
 parts-step x true ps qs some = refl
 parts-step x false ps qs some = onto_first-append x ps qs some
 
-parts-behind : (front rest : List ℕ) → parts (front ++ slash ∷ rest) ≡ parts front ++ parts rest
+parts-behind : (front rest : List ℕ) → path_parts (front ++ slash ∷ rest) ≡ path_parts front ++ path_parts rest
 parts-behind [] rest = refl
 parts-behind (x ∷ front) rest =
     ap (λ (ps : List (List ℕ)). cond (is_slash x) ([] ∷ ps) (onto_first x ps)) (parts-behind front rest)
-    ∙ parts-step x (is_slash x) (parts front) (parts rest) (omega (arith, length-slice_split is_slash front))
+    ∙ parts-step x (is_slash x) (path_parts front) (path_parts rest) (omega (arith, length-slice_split is_slash front))
 
 names-behind : (front rest : List ℕ) → names (front ++ slash ∷ rest) ≡ names front ++ names rest
 names-behind front rest =
     ap (λ (ps : List (List ℕ)). map named (filter is_name ps)) (parts-behind front rest)
-    ∙ ap (map named) (filter-append is_name (parts front) (parts rest))
-    ∙ map-append named (filter is_name (parts front)) (filter is_name (parts rest))
+    ∙ ap (map named) (filter-append is_name (path_parts front) (path_parts rest))
+    ∙ map-append named (filter is_name (path_parts front)) (filter is_name (path_parts rest))
 
 -- they begin alike, whatever the other is
 first-step : (x : ℕ) (b : Bool) (n : ℕ) (xs : List ℕ) → take (cond b (1 + n) 0) (x ∷ xs) ≡ cond b (x ∷ take n xs) []

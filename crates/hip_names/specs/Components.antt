@@ -18,18 +18,18 @@ abbrev pub is_slash : ℕ → Bool
 is_slash byte = byte == slash
 
 -- the lists between the slashes of a path
-abbrev pub parts : List ℕ → List (List ℕ)
-parts path = slice_split is_slash path
+abbrev pub path_parts : List ℕ → List (List ℕ)
+path_parts path = slice_split is_slash path
 
--- what a part that is neither empty nor `.` names
+-- the component of a part that is neither empty nor `.`
 abbrev pub named : List ℕ → Component
 named part = if bytes_eq part parent_dir then ParentDir else Normal part
 
--- what the parts of a path name: those that are empty or `.` name nothing
+-- the components of the parts of a path: those that are empty or `.` have none
 abbrev pub names : List ℕ → List Component
-names path = map named (filter is_name (parts path))
+names path = map named (filter is_name (path_parts path))
 
--- what a path begins with beside its names: the root where its first byte is a slash, `.` where its first part is `.`
+-- the component that a path begins with beside its names: the root where its first byte is a slash, `.` where its first part is `.`
 abbrev pub start : List ℕ → List Component
 start path =
     if starts_with nat_eq path root_dir then RootDir ∷ []

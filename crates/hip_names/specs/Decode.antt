@@ -1,4 +1,4 @@
--- What a call that reads an OS string as a text may answer (UTF-8; Rust's `OsStr::to_str`, `OsString::into_string`).
+-- The answers of calls that read an OS string as a text (UTF-8; Rust's `OsStr::to_str`, `OsString::into_string`).
 use Rattle.std.specs.Prelude.{◌≡◌, Option, Some, None, Result, Ok, Err, IsUtf8}
 use Rattle.hip_bytes.specs.Handle.{Handle}
 use Rattle.hip_bytes.specs.Kinds.{Holds}

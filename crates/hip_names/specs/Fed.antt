@@ -1,5 +1,5 @@
--- What a path feeds a hasher: the length and the text of each component, and a length of 0 behind the last. So paths with the same components
--- feed the same.
+-- The bytes that a path feeds a hasher: the length and the text of each component, and a length of 0 behind the last. So paths with the
+-- same components feed the same.
 use Rattle.std.specs.Prelude.{◌≡◌, ℕ, List, [], ◌∷◌, ◌++◌, length, codes, refl}
 use Rattle.std.specs.Hash as fed
 use Rattle.std.specs.Hash.{HashWrites}

@@ -1,4 +1,4 @@
--- What two paths begin with alike. No public clause cites this module.
+-- The bytes that two paths both begin with. No public clause cites this module.
 use Rattle.std.specs.Prelude.{◌≡◌, ℕ, ◌-◌, ◌<◌, ◌≤◌, List, length, slice_index, take}
 use Rattle.std.specs.Path.{slash}
 

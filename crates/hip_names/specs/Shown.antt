@@ -1,4 +1,4 @@
--- What clauses see of a `Component`, and of an iterator of them.
+-- A `Component`, and an iterator of them, as clauses see them.
 use Rattle.std.specs.Prelude.{List, [], ◌∷◌, ◌++◌, Option, Some, None}
 use Rattle.hip_names.specs.Components.{Component, RootDir, CurDir, ParentDir, Normal, names}
 use Rattle.hip_names.specs.declared.component.Component.{Component as Code}

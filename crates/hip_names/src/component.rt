@@ -53,7 +53,7 @@ fn start_of(path: &[u8]) -> Option<Component<'_>>
     }
 }
 
-/// Takes the first name off bytes that begin a part: it is what stands before the slash that ends it.
+/// Takes the first component off bytes that begin a part. Parts that are empty or `.` are skipped.
 #[tactic(auto, using(crate::proofs::Names::naming))]
 #[inline]
 pub(crate) fn next_name<'a>(rest: &mut &'a [u8]) -> Option<Component<'a>>
@@ -92,7 +92,7 @@ fn find_slash(path: &[u8]) -> Option<usize>
     path.iter().position(|byte| *byte == b'/')
 }
 
-/// Where the first slash stands, or how many bytes there are where none does.
+/// The position of the first slash, or the number of bytes where there is none.
 #[tactic(auto, using(crate::proofs::Names::slashes))]
 #[inline]
 fn slash_at(path: &[u8]) -> usize

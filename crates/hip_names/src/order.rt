@@ -9,8 +9,8 @@ use crate::component::{Components, next_name};
 use hip_raw::common_prefix;
 use std::cmp::Ordering;
 
-/// How a path stands to another, in the order of their components. Both are walked from the last slash before the first byte that
-/// differs, without memory; the same bytes aren't walked at all.
+/// The order of two paths, by their components. Both are walked from the last slash before the first byte that differs; nothing is
+/// allocated, and paths of the same bytes aren't walked at all.
 #[tactic(auto, using(crate::proofs::Orders::fronts), unfolding(crate::specs::Components::path_order))]
 #[inline]
 pub fn path_cmp(left: &[u8], right: &[u8]) -> Ordering
@@ -43,7 +43,7 @@ fn same_bytes(left: &[u8], right: &[u8]) -> bool
     left == right
 }
 
-/// How many bytes both begin with, up to the last slash before the first byte that differs.
+/// The length of the prefix that both have in common, up to its last slash.
 #[inline]
 fn shared_front(left: &[u8], right: &[u8]) -> usize
     ensures { IsSharedFront left.now right.now result }
@@ -55,7 +55,7 @@ fn shared_front(left: &[u8], right: &[u8]) -> usize
     front
 }
 
-/// How the components that are to come on one side stand to those on the other.
+/// The order of the components that are to come on each side.
 #[inline]
 fn walk(mut left: Components<'_>, mut right: Components<'_>) -> Ordering
     ensures { result ≡ slice_cmp component_order (to_come left.entry) (to_come right.entry) }
@@ -75,7 +75,7 @@ fn walk(mut left: Components<'_>, mut right: Components<'_>) -> Ordering
     }
 }
 
-/// How what the parts of some bytes name stands to what those of others do.
+/// The order of the components that the parts of two lists of bytes name.
 #[inline]
 fn walk_names(mut left: &[u8], mut right: &[u8]) -> Ordering
     ensures { result ≡ slice_cmp component_order (names left.entry.now) (names right.entry.now) }

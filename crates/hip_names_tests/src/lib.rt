@@ -1,9 +1,9 @@
 //! Tests of OS strings and paths, and of the Borsh and JSON of all four types, from outside of hip_names: what no clause says, as that calls
 //! succeed where there is memory, exact bytes and texts, bad input of each kind, and values that come from elsewhere. On either backend.
 //!
-//! - `name`: what the tests ask of an OS string and of a path alike, and of an OS string alone, each call by its own name.
-//! - `hip_os_str`, `hip_path`: an OS string and a path of any backend are that.
-//! - `names`: what hipstr's own tests ask of either type.
+//! - `name`: the calls that the tests make on an OS string and a path alike, and on an OS string alone, each by its own name.
+//! - `hip_os_str`, `hip_path`: these calls for any backend.
+//! - `names`: hipstr's own tests of either type.
 //! - `rooms`: the room that they have, and give back.
 //! - `calls`: conversions between types, rooms, orders, and components by themselves.
 //! - `hostile`: paths that are hard to read, with the answers of Rust's `std::path`.
@@ -12,9 +12,9 @@
 //!
 //! Of forms and values:
 //!
-//! - `handle`: what the tests ask of all four types, and of those that have a form or a value.
-//! - `hip_byt`, `hip_str`: a byte string and a text of any backend are that.
-//! - `support`: what ends a test, and what several files ask of a value.
+//! - `handle`: the calls that the tests make on all four types, and on those that have a form or a value.
+//! - `hip_byt`, `hip_str`: these calls of a byte string and of a text, for any backend.
+//! - `support`: the ends of a test, and the questions that several files ask of a value.
 //! - `borsh`: forms that are written and read, cut short, or that lie about their length.
 //! - `streams`: readers and writers that are slow, that fail at one call, or that take nothing.
 //! - `json`: values that are made, read and refused.

@@ -1,4 +1,4 @@
--- What the lanes of two loads that were compared say of the bytes.
+-- The lanes of two loads that were compared, and the bytes of these.
 use Rattle.std.proofs.Common.{◌≡◌, ◌≢◌, ℕ, ◌+◌, ◌-◌, ◌*◌, ◌%◌, ◌^◌, ◌<◌, ◌≤◌, eqb, Bool, true, false, not, cond, ◌&&◌, ◌↔◌, true≢false, List, [], ◌∷◌, map, length, get_or, IsTrue, refl, sym, ap, ap₂, ◌∙◌, subst, arith, inl, inr, w8}
 use Rattle.std.proofs.lemmas.Bool.{cases_eq, cases_lt, eq-eqb, ne_eqb, eqb-true, not-true, not-false}
 use Rattle.std.proofs.lemmas.List.{ext_get_or}

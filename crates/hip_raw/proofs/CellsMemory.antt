@@ -62,7 +62,7 @@ module _ (X : RattleType) (n : ℕ) where
   module _ {M : Type 1} {𝓤 : Ura M} (𝓛 : Logic 𝓤) (b o : ℕ) where
     open 𝓛 use {H}
 
-    -- what is left of the struct while its field is out
+    -- the rest of the struct while its field is out
     abbrev pub Left : SProp 𝓤
     Left = H.left full_share (ty_struct [] (raw_tys fields)) (raw_tys fields) b o
 

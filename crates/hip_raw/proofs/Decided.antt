@@ -1,4 +1,4 @@
--- What decides the order of two lists.
+-- The order of two lists, by the first bytes that differ or by the lengths.
 use Rattle.std.proofs.Common.{◌≡◌, ◌≢◌, ℕ, zero, suc, ◌+◌, ◌*◌, ◌^◌, ◌<◌, ◌≤◌, not, List, [], ◌∷◌, ◌++◌, drop, length, get_or, Fits, w8, refl, sym, ap, ◌∙◌, arith}
 use Rattle.std.proofs.Math.Nat.{pow-suc, pow-le-pow_right}
 use Rattle.std.proofs.Math.Seq.{take-suc}
@@ -39,7 +39,7 @@ one_less m n Less h = let l : suc m < suc n = h in omega arith
 one_less m n Equal h = let l : suc m ≡ suc n = h in omega arith
 one_less m n Greater h = let l : suc n < suc m = h in omega arith
 
--- and else the lengths do
+-- where all bytes of the shorter list are the same, the lengths decide
 pub by_lengths : (xs ys : List ℕ) (n : ℕ) (r : Ordering) → (n ≡ length xs → length xs ≤ length ys) → (n < length xs → n ≡ length ys) → n ≤ length xs → Alike xs ys 0 n
     → MatchOrdering r (length xs < length ys) (length xs ≡ length ys) (length ys < length xs) → r ≡ slice_cmp nat_cmp xs ys
 by_lengths [] [] n r p q below alike h = nat_cmp_is 0 0 r h
@@ -61,7 +61,7 @@ spelt_on xs i k le =
     ap (λ m. big_endian 0 (chunk i m xs)) next ∙ ap (big_endian 0) (take-suc (drop i xs) k 0 (omega (arith, length-drop i xs))) ∙ last_digit 0 (get_or (drop i xs) k 0) (chunk i k xs)
     ∙ ap (λ b. big_endian 0 (chunk i k xs) * 256 + b) (get_or-drop i xs k 0)
 
--- and how great it is at most
+-- the number stays below the power
 pub small_on : (x b k : ℕ) → x < 256 ^ k → b < 256 → x * 256 + b < 256 ^ (k + 1)
 small_on x b k small digit =
     let next : suc k ≡ k + 1 = omega arith in

@@ -1,4 +1,4 @@
--- What a vector that is computed lane by lane is, and what storing it does to a list.
+-- Vectors that are computed lane by lane, and lists that they are stored to.
 use Rattle.std.proofs.Common.{◌≡◌, ℕ, ◌+◌, ◌≤◌, eqb, Bool, true, cond, List, [], ◌∷◌, ◌++◌, map, take, drop, length, Fits, w8, refl, sym, ap, ap₂, ◌∙◌, arith}
 use Rattle.std.proofs.lemmas.Bool.{agree_below, agree_below_at, eqb-true}
 use Rattle.std.proofs.lemmas.Simd.{map-map, length-chunk, put_chunk_is, take_more_put_chunk}

@@ -1,4 +1,4 @@
--- What the walks of the unsafe functions of a block share. Assumes `Logic`. Adapted from the crate `circular_buffer` of the kit.
+-- The steps that the walks of a block's unsafe functions share. Assumes `Logic`. Adapted from the crate `circular_buffer` of the kit.
 --     word_had, word_made, mark_had, mark_made      a value of one pointer, and one of no bytes
 --     slot_out, slot_in, run_out, run_in, run_seen      one place or a run of places is taken out of the row, put back, or seen
 --     slot_forgotten, row_forgotten      what places held is let go
@@ -112,7 +112,7 @@ alone τ (v ∷ []) t = (v, (refl, t.0))
 alone τ (v ∷ w ∷ vs) t = absurd t.1
 
 module _ (Y : RattleType) (L : Laws Y) {M : Type 1} {𝓤 : Ura M} {𝓛 : Logic 𝓤} {K : Type 0} {Γ : List (Item 𝓤)} {G : Goal 𝓤 𝓛.H} where
-  -- what is owned of a value is one machine value, of its type
+  -- a value's own memory is one machine value, of its type
   pub tells : K → (x : Y.Denot) (vs : List Val) → ((v : Val) → vs ≡ v ∷ [] → Good (layout Y) v → Seq K 𝓛 (‵ (Y.own_val x (v ∷ [])) ∷ Γ) G) → Seq K 𝓛 (‵ (Y.own_val x vs) ∷ Γ) G
   tells t x vs k =
       peeks t (param 0 Y) (Is (param 0 Y)) (shows 𝓛 (param 0 Y)) x vs (λ is.
@@ -138,7 +138,7 @@ module _ (E : El) {M : Type 1} {𝓤 : Ura M} (𝓛 : Logic 𝓤) (b : ℕ) wher
   glue (x ∷ xs) ys o at e = let more : at ≡ suc (length xs) * s + o = e in qed 𝓛 (‵ (Row o (x ∷ xs)) ∷ ‵ (Row at ys) ∷ []) ∵ fsplit ! $ move ! (1 ∷ 2 ∷ []) $
       use2 𝓛 (‵ (Row (o + s) (xs ++ ys))) (glue xs ys (o + s) at (omega (arith, suc-mul (length xs) s))) $ move ! (1 ∷ 0 ∷ []) $ fjoin ! $ done !
 
-  -- what a place held is forgotten
+  -- the value of a place is forgotten
   pub slot_forgotten : (c : Place E) (o : ℕ) → ent 𝓤 (sem 𝓛 (slot (R E) b o c)) (sem 𝓛 (slot (R E) b o None))
   slot_forgotten None o = id⊢ 𝓤 _
   slot_forgotten (Some x) o = qed 𝓛 (‵ (slot (R E) b o (Some x)) ∷ []) ∵

@@ -12,7 +12,7 @@ slice_of_window xs a n s e s≤e e≤n =
     let back = ap (λ k. drop s (take k (drop a xs))) (sym whole) ∙ drop-take s (n - s) (drop a xs) in
     ap (take (e - s)) back ∙ take-take (e - s) (n - s) (drop s (drop a xs)) (omega arith) ∙ ap (take (e - s)) (drop-drop s a xs)
 
--- what two lists leave of what stands behind them
+-- the front that two lists make, whatever stands behind them
 pub take-append_two : (xs ys zs : List ℕ) (m n : ℕ) → length xs ≡ m → length ys ≡ n → take (m + n) (xs ++ (ys ++ zs)) ≡ xs ++ ys
 take-append_two xs ys zs m n to_m to_n =
     ap (λ k. take (k + n) (xs ++ (ys ++ zs))) (sym to_m) ∙ take-append-add xs (ys ++ zs) n
@@ -25,7 +25,7 @@ take-over_front (w ∷ ws) xs zero = refl
 take-over_front (w ∷ ws) [] (suc m) = refl
 take-over_front (w ∷ ws) (x ∷ xs) (suc m) = ap (λ ys. w ∷ ys) (take-over_front ws xs m)
 
--- what is written over the front of a list, seen from the front
+-- writing over the front of a list, and then taking that front
 pub refill-front : (m : ℕ) (xs ws : List ℕ) → m ≤ length xs → take m (refill (length xs) xs ws) ≡ refill (length (take m xs)) (take m xs) ws
 refill-front m xs ws le =
     let count : length (take m xs) ≡ m = grind (arith, common_steps) in

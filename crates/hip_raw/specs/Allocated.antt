@@ -1,4 +1,4 @@
--- What holds of an allocated handle.
+-- The fields of an allocated handle.
 use Rattle.std.specs.Prelude.{◌≡◌, ℕ, ◌+◌, ◌^◌, ◌<◌, ◌≤◌, Bool, false, List, length}
 
 -- a handle shows `len` bytes from `start` on of an owner's list: they lie in it, its length fits 64 bits and its

@@ -1,4 +1,4 @@
--- What an owner leaves when its vector is taken out.
+-- The block that an owner leaves when its vector is taken out.
 use Rattle.std.specs.Prelude.{◌≡◌}
 use Rattle.hip_raw.specs.declared.block.Block.{Block}
 use Rattle.hip_raw.specs.declared.block.Left.TheVariants.{Nothing}

@@ -1,4 +1,4 @@
--- What a contract sees of a borrowed handle.
+-- A borrowed handle, as contracts see it.
 use Rattle.std.specs.Prelude.{ℕ, List}
 use Rattle.hip_raw.specs.declared.borrowed.Borrowed.{Borrowed}
 

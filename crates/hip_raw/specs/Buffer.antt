@@ -1,4 +1,4 @@
--- What holds of the fields of a buffer.
+-- The fields of a buffer.
 use Rattle.std.specs.Prelude.{◌≡◌, ◌^◌, ◌<◌, ◌≤◌, length, map, take, Some}
 use Rattle.hip_raw.specs.Places.{front}
 use Rattle.hip_raw.specs.declared.buffer.Buffer.TheInside.{Inside}

@@ -1,4 +1,4 @@
--- What a buffer ends as, where its bytes are lent.
+-- The end of a loan of a buffer's bytes.
 use Rattle.std.specs.Prelude.{ℕ, List, length}
 use Rattle.std.specs.List.{refill}
 use Rattle.std.specs.Borrow.{Lends, Fml, MutBor, Array, u8}

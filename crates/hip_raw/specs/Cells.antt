@@ -1,4 +1,4 @@
--- What the array of an inline list ends as, where its first items are lent. No public clause cites this module.
+-- The end of a loan of the first items of an inline list's array. No public clause cites this module.
 use Rattle.std.specs.Prelude.{List, length}
 use Rattle.std.specs.List.{refill}
 use Rattle.std.specs.Borrow.{Lends, Fml, RattleType, MutBor, Array}

@@ -1,4 +1,4 @@
--- What a contract sees of an owner, and of an allocated handle.
+-- An owner, and an allocated handle, as contracts see them.
 use Rattle.std.specs.Prelude.{◌≡◌, ℕ, ◌^◌, ◌<◌, ◌≤◌, List, length, vec_capacity, Result, Ok, Err}
 use Rattle.std.specs.declared.vec.Vec.{Vec}
 use Rattle.std.specs.declared.alloc.Global.{Global}

@@ -1,4 +1,4 @@
--- What an inline list ends as, where its bytes are lent.
+-- The end of a loan of an inline list's bytes.
 use Rattle.std.specs.Prelude.{ℕ, List, length}
 use Rattle.std.specs.List.{refill}
 use Rattle.std.specs.Borrow.{Lends, Fml, RattleType, MutBor, Array, u8}

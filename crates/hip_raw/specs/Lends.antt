@@ -1,4 +1,4 @@
--- What the places end as, once a `&mut` into them has ended. Adapted from the crate `circular_buffer` of the kit. No public clause cites this
+-- The places of a block once a `&mut` into them has ended. Adapted from the crate `circular_buffer` of the kit. No public clause cites this
 -- module.
 use Rattle.std.specs.Prelude.{ℕ, ◌+◌, List, ◌++◌, map, take, drop, Option, Some}
 use Rattle.std.specs.Borrow.{Fml, RattleType, MutBor, Array, Lends}

@@ -1,4 +1,4 @@
--- What calls copy. A meter counts bytes in 128 bits and stays at its greatest number, so a contract says by how much it
+-- The number of bytes that calls copy. A meter counts bytes in 128 bits and stays at its greatest number, so a contract says by how much it
 -- rises at most.
 use Rattle.std.specs.Prelude.{◌≡◌, ℕ, ◌+◌, ◌-◌, ◌*◌, ◌^◌, ◌≤◌, min, nat_le, if◌then◌else◌, Bool, true, false, refl}
 
@@ -21,7 +21,7 @@ count_from-full = refl
 abbrev pub RisesAtLeast : ℕ → ℕ → ℕ → Type 0
 RisesAtLeast old new least = count_from old least ≤ new
 
--- it has counted just `n` bytes
+-- a meter that stood at `old` stands at `new`: it has counted just `n` bytes
 pub record RisesBy (old new n : ℕ) : Type 0 where
   pub at_most : new ≤ old + n
   pub at_least : RisesAtLeast old new n
@@ -43,7 +43,7 @@ times_copied false n = n + n
 pub times_copied-examples : (times_copied true 24 ≡ 24) × (times_copied false 24 ≡ 48)
 times_copied-examples = (refl, refl)
 
--- what an append of `added` bytes behind the first `keep` copies, where owners aren't shared: those bytes alone where all fit the
+-- the bytes that an append of `added` bytes behind the first `keep` copies, where owners aren't shared: those bytes alone where all fit the
 -- capacity, else the kept ones too, which move to new room
 abbrev pub append_copies : ℕ → ℕ → ℕ → ℕ
 append_copies capacity keep added = if nat_le (keep + added) capacity then added else keep + added
@@ -51,7 +51,7 @@ append_copies capacity keep added = if nat_le (keep + added) capacity then added
 pub append_copies-examples : (append_copies 64 30 34 ≡ 34) × (append_copies 64 30 35 ≡ 65)
 append_copies-examples = (refl, refl)
 
--- what appends have paid in advance for the next growth, which moves all bytes once: twice the length less the capacity, nothing where
+-- the bytes that appends have paid for in advance: the next growth moves all bytes once. Twice the length less the capacity, nothing where
 -- that is negative
 abbrev pub pot : ℕ → ℕ → ℕ
 pot len capacity = 2 * len - capacity

@@ -1,5 +1,5 @@
--- What the parts of a block own and lend, at items of the row R. Adapted from the crate `circular_buffer` of the kit. No public clause cites
--- this module.
+-- The parts of a block: what they own and lend, at items of the row R. Adapted from the crate `circular_buffer` of the kit. No public
+-- clause cites this module.
 use Rattle.std.specs.Prelude.{ℕ, ◌+◌, ◌*◌, ◌^◌, List, [], ◌∷◌, length, Option, Some, None}
 use Rattle.std.specs.Mem.{type_size}
 use base.Fraction.{full_share}

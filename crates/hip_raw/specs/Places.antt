@@ -1,4 +1,4 @@
--- What the places of a block hold.
+-- The values in the places of a block.
 use Rattle.std.specs.Prelude.{◌≡◌, ℕ, ◌+◌, ◌≤◌, List, [], ◌∷◌, map, length, take, drop, Option, Some, None}
 
 module _ {X : Type 0} where

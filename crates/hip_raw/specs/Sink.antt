@@ -1,4 +1,4 @@
--- What clauses see of a sink that writes into a vector.
+-- A sink that writes into a vector, as clauses see it.
 use Rattle.std.specs.Prelude.{ℕ, List, []}
 
 -- the bytes written, and how many writes failed

@@ -1,8 +1,8 @@
--- What a contract sees of bytes that no other handle shares.
+-- Bytes that no other handle shares, as contracts see them.
 use Rattle.std.specs.Borrow.{GName}
 use Rattle.hip_raw.specs.declared.sole.Sole.{Sole}
 
--- what is written in place, as it stands
+-- the owner that is written in place, as it stands
 abbrev pub source_of : {S : Type 0} → Sole S → S
 source_of sole = sole.source.now
 

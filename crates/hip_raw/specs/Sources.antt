@@ -1,4 +1,4 @@
--- What clauses see of the sources and sinks of this crate.
+-- The sources and sinks of this crate, as clauses see them.
 use Rattle.std.specs.Prelude.{ℕ, List}
 use Rattle.hip_raw.specs.declared.byte_source.SliceSource.{SliceSource}
 use Rattle.hip_raw.specs.declared.byte_source.FromRead.{FromRead}

@@ -1,5 +1,5 @@
--- What one read of a byte source, or one write to a byte sink, does to the count of those that failed. What it does to the bytes is said
--- in the words of the standard library's readers and writers.
+-- How one read of a byte source, or one write to a byte sink, changes the count of those that failed. How it changes the bytes is said in
+-- the words of the standard library's readers and writers.
 use Rattle.std.specs.Prelude.{◌≡◌, ℕ, ◌+◌, ◌-◌, ◌^◌, min, Result, Ok, Err, refl}
 
 -- the count after one more failure; it stays at its greatest number (Rust's `saturating_add` of `u64`)

@@ -94,7 +94,7 @@ impl<B: Backend> Allocated<B> {
         Ok(Self::from_parts(owner, 0, len))
     }
 
-    /// These bytes again, under an owner of their own.
+    /// A copy of these bytes, under an owner of its own.
     #[inline]
     pub fn from_slice(alloc: Global, bytes: &[u8]) -> Result<Self, AllocError>
         ensures items { IfOk result (λ made. made.items ≡ bytes.now) }
@@ -128,7 +128,7 @@ impl<B: Backend> Allocated<B> {
         Self::with_room_metered(alloc, &[], capacity, &mut Meter::new())
     }
 
-    // Like `from_slice_metered`, but with room for so many bytes.
+    // Like `from_slice_metered`, but with room for `capacity`.
     #[inline]
     fn with_room_metered(
         alloc: Global,
@@ -148,7 +148,7 @@ impl<B: Backend> Allocated<B> {
         Ok(Self::from_parts(owner, 0, bytes.len()))
     }
 
-    /// How many bytes there are.
+    /// The number of bytes.
     #[inline]
     pub fn len(&self) -> usize
         ensures len { result ≡ length self.now.items }
@@ -166,7 +166,7 @@ impl<B: Backend> Allocated<B> {
         self.len() == 0
     }
 
-    /// How many bytes it can hold with no new memory, as far as the owner isn't shared.
+    /// The number of bytes that it can hold without allocating, as long as the owner isn't shared.
     #[inline]
     pub fn capacity(&self) -> usize
         ensures capacity { result ≡ self.now.capacity }

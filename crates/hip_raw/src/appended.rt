@@ -17,7 +17,7 @@ pub enum Appended {
     Memory,
 }
 
-// Cuts the vector to `keep` bytes and puts the addition behind them. Room is taken first, so a refusal changes nothing.
+// Cuts the vector to `keep` bytes and puts the addition behind them. Room is reserved first, so a refusal changes nothing.
 #[inline(always)]
 pub(crate) fn append_to(
     vec: &mut Vec<u8>,
@@ -48,7 +48,7 @@ pub(crate) fn append_to(
     }
 }
 
-// The same where bytes behind `keep` are cut off: room is taken before the cut.
+// Like [`append_to`], where bytes behind `keep` are cut off. It reserves room before it cuts, so that a refusal changes nothing.
 #[cold]
 #[inline(never)]
 fn append_behind(vec: &mut Vec<u8>, keep: usize, addition: &[u8], meter: &mut Meter) -> Appended

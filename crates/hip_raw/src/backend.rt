@@ -13,12 +13,12 @@ use crate::meter::{Meter, copy_with_capacity};
 use crate::room::Room;
 use std::alloc::{AllocError, Global};
 
-/// An owner of bytes: a list and a capacity. Where `SHARES` many handles stand on one owner, where not each has its own.
+/// An owner of bytes: a list and a capacity. Where `SHARES` holds, many handles share one owner; else each has its own.
 ///
-/// Any implementor that keeps these contracts serves the handles above. A call that takes memory on some backend is passed the
-/// allocator, and a refusal is one of memory, unless it says that the owner is shared.
+/// Any implementor that keeps these contracts serves the handles above. A call that allocates on some backend is passed the allocator, and
+/// a refusal is one of memory, unless it says that the owner is shared.
 pub trait Backend: Drop + Sized {
-    // The list, and how many bytes it can hold with no new memory.
+    // The list, and the number of bytes that it can hold without allocating.
     ghost items: { Self → List ℕ };
 
     ghost capacity: { Self → ℕ };
@@ -78,12 +78,12 @@ pub trait Backend: Drop + Sized {
         ensures fits { length (items self.now) ≤ capacity self.now }
         ensures bound { length (items self.now) < 2 ^ 64 };
 
-    /// How many bytes it can hold with no new memory.
+    /// The number of bytes that it can hold without allocating.
     fn capacity(&self) -> usize
         ensures capacity { result ≡ capacity self.now }
         ensures fits { length (items self.now) ≤ capacity self.now };
 
-    /// What is written in place, unless the owner is shared.
+    /// The owner's bytes and room, for writing in place; `None` where the owner is shared.
     fn writable(&mut self) -> Option<&mut Self::Sole>
         ensures* writes_back { sem 𝓛
             (LendsIf Self.row Self.Sole.row self.entry result (with_sole self.old) self.old) }
@@ -92,7 +92,7 @@ pub trait Backend: Drop + Sized {
         ensures bound { length (items self.old) < 2 ^ 64 }
         ensures sole { SHARES ≡ false → IsSome result };
 
-    /// Cuts the list to `keep` bytes and puts the addition behind them, unless the owner is shared. Room is taken before the cut.
+    /// Cuts the list to `keep` bytes and puts the addition behind them, unless the owner is shared. Room is reserved before the cut.
     fn append(&mut self, alloc: Global, keep: usize, addition: &[u8], meter: &mut Meter) -> Appended
         requires { keep ≤ length (items self.old) }
         ensures items { OnDone result
@@ -114,7 +114,7 @@ pub trait Backend: Drop + Sized {
             ((items self.new ≡ items self.old) × (capacity self.new ≡ capacity self.old)) }
         ensures refused_copies_nothing { OnRefused result (meter.new ≡ meter.old) };
 
-    /// An owner of a copy of these bytes, with room for so many.
+    /// An owner of a copy of these bytes, with a capacity of at least `room`.
     #[inline]
     fn copy_of(
         alloc: Global,
@@ -153,7 +153,7 @@ pub trait Backend: Drop + Sized {
         }
     }
 
-    /// [`Backend::own`] in a block that an owner left, for which no memory is taken. Where owners have no blocks, it is that call.
+    /// Like [`Backend::own`], in a block that an owner left, so that none is allocated. Where owners have no blocks, it is that call.
     #[inline]
     fn own_in(
         alloc: Global,

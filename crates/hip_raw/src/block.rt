@@ -4,7 +4,7 @@ ghost use Rattle.hip_raw.specs.Block.{IsNoBlock};
 use crate::buffer::Buffer;
 use std::rc;
 
-/// The block of an owner whose vector was taken out, or none. An owner that is made in it takes no memory of its own.
+/// The block of an owner whose vector was taken out, or none. An owner that is made in it allocates none.
 #[derive(Drop)]
 pub struct Block {
     pub(crate) left: Left,

@@ -17,7 +17,7 @@ impl<'b> Borrowed<'b> {
         Borrowed { bytes }
     }
 
-    /// How many bytes there are.
+    /// The number of bytes.
     #[inline]
     pub fn len(&self) -> usize
         ensures { result ≡ length (borrowed_bytes self.now) }

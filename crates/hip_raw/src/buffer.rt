@@ -51,7 +51,7 @@ fn fill_zeros(cells: &mut Cells<u8>, base: Base<u8>, from: usize, count: usize)
     }
 }
 
-// The same by two stores of `width`, which may overlap.
+// Like [`fill_zeros`], by two stores of `width` places, which may overlap.
 #[inline(always)]
 fn fill_ends(cells: &mut Cells<u8>, base: Base<u8>, from: usize, count: usize, width: usize)
     requires base { base.ptr ≡ cells.old.at }
@@ -67,7 +67,7 @@ fn fill_ends(cells: &mut Cells<u8>, base: Base<u8>, from: usize, count: usize, w
     fill_zeros(cells, base, from + (count - width), width);
 }
 
-// The same by the widest stores, which for a few places cost less than a call of the C library.
+// Like [`fill_zeros`], but sets fewer than 32 places by one or two stores, which cost less than a call of the C library.
 #[inline(always)]
 fn fill_range(cells: &mut Cells<u8>, base: Base<u8>, from: usize, count: usize)
     requires base { base.ptr ≡ cells.old.at }
@@ -92,7 +92,7 @@ fn fill_range(cells: &mut Cells<u8>, base: Base<u8>, from: usize, count: usize)
 impl Buffer {
     ghost use Rattle.hip_raw.specs.BufferLends.{LendsBuffer};
 
-    /// No bytes, and room for so many.
+    /// No bytes, with room for `capacity`.
     #[inline]
     pub(crate) fn with_capacity(alloc: Global, capacity: usize) -> Result<Self, AllocError>
         ensures items { IfOk result (λ made. made.items ≡ []) }
@@ -125,7 +125,7 @@ impl Buffer {
         Ok(buffer)
     }
 
-    /// How many bytes it can hold with no new memory.
+    /// The number of bytes that it can hold without allocating.
     #[inline]
     pub(crate) fn capacity(&self) -> usize
         ensures capacity { result ≡ self.now.capacity }
@@ -196,7 +196,7 @@ impl Buffer {
         fill_at(self.as_mut_slice(), keep, addition, meter);
     }
 
-    /// Cuts to `keep` bytes and puts the addition behind them. Room is taken before anything changes.
+    /// Cuts to `keep` bytes and puts the addition behind them. Room is reserved before anything changes.
     #[inline(always)]
     pub(crate) fn append(
         &mut self,
@@ -230,7 +230,7 @@ impl Buffer {
         answer
     }
 
-    // The same where room has to be taken: twice what it then holds.
+    // Like [`Buffer::append`], where memory has to be allocated: room for twice the bytes that it then holds.
     #[cold]
     #[inline(never)]
     fn append_grown(

@@ -18,7 +18,7 @@ use std::marker::Model;
 /// Any implementor that keeps these contracts may be written to. Where a sink doesn't tell its bytes, as a file doesn't, the clauses about
 /// them say nothing.
 pub trait ByteSink {
-    // The bytes written, where the sink tells them, and how many writes failed.
+    // The bytes written, where the sink tells them, and the number of writes that failed.
     ghost written: { Self → Option (List ℕ) };
 
     ghost failures: { Self → ℕ };
@@ -34,7 +34,7 @@ pub trait ByteSink {
             (λ count. count ≡ 0 → 0 < length bytes.now → may_be_full self.new) }
         ensures failures { CountsRefusal result (failures self.old) (failures self.new) };
 
-    /// How many writes failed. The count stays at `u64::MAX`.
+    /// The number of writes that failed. The count stays at `u64::MAX`.
     fn failures(&self) -> u64
         ensures { result ≡ failures self.now };
 }

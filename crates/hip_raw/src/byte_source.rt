@@ -14,7 +14,7 @@ use std::io::Read;
 /// Any implementor that keeps these contracts may be read from. Where a source doesn't tell its bytes, as a file doesn't, the clauses
 /// about them say nothing.
 pub trait ByteSource {
-    // The bytes still to come, where the source tells them, and how many reads failed.
+    // The bytes still to come, where the source tells them, and the number of reads that failed.
     ghost to_come: { Self → Option (List ℕ) };
 
     ghost failures: { Self → ℕ };
@@ -26,7 +26,7 @@ pub trait ByteSource {
         ensures bytes { ReadConsumes (to_come self.old) (to_come self.new) result room.new }
         ensures failures { CountsRefusal result (failures self.old) (failures self.new) };
 
-    /// How many reads failed. The count stays at `u64::MAX`.
+    /// The number of reads that failed. The count stays at `u64::MAX`.
     fn failures(&self) -> u64
         ensures { result ≡ failures self.now };
 }

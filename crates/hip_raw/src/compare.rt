@@ -25,7 +25,7 @@ fn alike_at<const N: usize>(a: &[u8], b: &[u8], i: usize) -> bool
         .any()
 }
 
-// Whether all bytes are, where two blocks of N cover them.
+// Whether all bytes are the same, where two blocks of N cover them.
 #[inline(always)]
 fn equal_by_ends<const N: usize>(a: &[u8], b: &[u8]) -> bool
     requires lanes { (0 < N) × (N ≤ 64) }
@@ -75,7 +75,7 @@ fn alike_stretch(a: &[u8], b: &[u8], i: usize) -> bool
     alike_at::<64>(a, b, i) & alike_at::<64>(a, b, i + 64)
 }
 
-// How many of the first `n` bytes are the same, by stretches: all of them, or those before a stretch that isn't.
+// The number of the first `n` bytes that are the same, by stretches: all of them, or those before a stretch that isn't.
 #[inline(always)]
 fn alike_steps(a: &[u8], b: &[u8], n: usize) -> usize
     requires within { (n ≤ length a.now) × (n ≤ length b.now) }
@@ -97,7 +97,7 @@ fn alike_steps(a: &[u8], b: &[u8], n: usize) -> usize
     if alike_stretch(a, b, last) { n } else { last }
 }
 
-// How many of the N bytes from `i` on are the same, from the first. With two lanes `trailing_zeros` of a mask, compared with 2, was
+// The number of the N bytes from `i` on that are the same, from the first. With two lanes `trailing_zeros` of a mask, compared with 2, was
 // compiled to a wrong answer by clang, so the least block has four.
 #[inline(always)]
 fn alike_run<const N: usize>(a: &[u8], b: &[u8], i: usize) -> usize
@@ -115,7 +115,7 @@ fn alike_run<const N: usize>(a: &[u8], b: &[u8], i: usize) -> usize
     }
 }
 
-// How many of the first `n` bytes are the same, of which those before `from` are, by blocks of N. The last ends where they end.
+// The number of the first `n` bytes that are the same, where those before `from` are, by blocks of N. The last block ends where they end.
 #[inline(always)]
 fn alike_from<const N: usize>(a: &[u8], b: &[u8], n: usize, from: usize) -> usize
     requires lanes { (4 ≤ N) × (N ≤ 64) }
@@ -161,7 +161,7 @@ fn alike_by_steps(a: &[u8], b: &[u8], n: usize) -> usize
     alike_from::<16>(a, b, n, at)
 }
 
-/// How many bytes both begin with alike.
+/// The length of the prefix that both have in common.
 #[inline]
 pub fn common_prefix(a: &[u8], b: &[u8]) -> usize
     ensures within { (result ≤ length a.now) × (result ≤ length b.now) }
@@ -179,7 +179,7 @@ pub fn common_prefix(a: &[u8], b: &[u8]) -> usize
     }
 }
 
-// How many of the first `n` bytes are the same, one by one.
+// The number of the first `n` bytes that are the same, one by one.
 #[inline(always)]
 fn common_bytes(a: &[u8], b: &[u8], n: usize) -> usize
     requires within { (n ≤ length a.now) × (n ≤ length b.now) }
@@ -192,7 +192,7 @@ fn common_bytes(a: &[u8], b: &[u8], n: usize) -> usize
     at
 }
 
-// How the bytes stand to each other, where the first `both` of the shorter one's were compared and `at` of them are the same.
+// The order of the bytes, where the first `both` of the shorter one's were compared and `at` of them are the same.
 #[inline(always)]
 fn order_at(a: &[u8], b: &[u8], both: usize, at: usize) -> Ordering
     requires shorter { both ≡ min (length a.now) (length b.now) }
@@ -270,7 +270,7 @@ fn order_by_ends<const N: usize>(a: &[u8], b: &[u8], both: usize) -> Ordering
     order_at(a, b, both, both)
 }
 
-/// How the bytes stand to each other, in the order of their numbers.
+/// The lexicographic order of the bytes.
 #[inline(always)]
 pub fn order(a: &[u8], b: &[u8]) -> Ordering
     ensures { result ≡ slice_cmp nat_cmp a.now b.now }

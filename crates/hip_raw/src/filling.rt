@@ -7,7 +7,7 @@ use std::alloc::{AllocError, Global};
 use std::marker::Model;
 use std::mem;
 
-/// How many bytes of room are made ready at a time.
+/// The number of bytes of room that are made ready at a time.
 const STRIDE: usize = 4096;
 
 /// A vector that is filled from its front. Room is made of zeros, a stretch at a time, so that many small parts cost one copy each
@@ -53,7 +53,7 @@ impl Filling {
         })
     }
 
-    /// How many bytes there are.
+    /// The number of bytes.
     #[inline]
     pub fn len(&self) -> usize
         ensures len { result ≡ length self.now.items }
@@ -62,7 +62,7 @@ impl Filling {
         self.len
     }
 
-    /// How many bytes it can hold with no new memory.
+    /// The number of bytes that it can hold without allocating.
     #[inline]
     pub fn capacity(&self) -> usize
         ensures capacity { result ≡ self.now.capacity }
@@ -71,7 +71,7 @@ impl Filling {
         self.vec.capacity()
     }
 
-    /// Adds bytes, and what stands before them, for both of which there is room.
+    /// Adds a gap and bytes behind it, for both of which there is room.
     #[inline(always)]
     pub fn push_behind_within(&mut self, gap: &[u8], bytes: &[u8], meter: &mut Meter)
         requires { length self.old.items + length gap.now + length bytes.now ≤ self.old.capacity }
@@ -89,7 +89,7 @@ impl Filling {
         self.len = fill_at(room, middle, bytes, meter);
     }
 
-    /// Adds bytes, and what stands before them. A refused call changes nothing.
+    /// Adds a gap and bytes behind it. A refused call changes nothing.
     #[inline(always)]
     pub fn push_behind(
         &mut self,
@@ -223,7 +223,7 @@ fn opened(mut vec: Vec<u8>, end: usize) -> Vec<u8>
     vec
 }
 
-// Takes room for so many bytes behind the first `len`; what stood there is let go.
+// Reserves room for `additional` bytes behind the first `len`. The bytes that stood there are dropped.
 #[cold]
 #[inline(never)]
 fn reserve(vec: &mut Vec<u8>, len: usize, additional: usize) -> Result<(), AllocError>

@@ -13,7 +13,7 @@ use std::io::{ErrorKind, Read, Write};
 pub struct Fuse<T> {
     inner: T,
     most: usize,
-    // How many calls there are up to the one that fails, that one included. At 0 none does.
+    // The number of calls up to the one that fails, that one included. At 0 none fails.
     left: u64,
 }
 

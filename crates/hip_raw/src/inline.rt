@@ -12,13 +12,13 @@ use std::marker::Model;
 mod cells;
 pub(crate) mod length;
 
-/// At most `N` bytes, which lie in the value itself. How many there are is kept as an `L`, which may be shorter than a `usize`.
+/// At most `N` bytes, which lie in the value itself. Their number is kept as an `L`, which may be shorter than a `usize`.
 #[derive(Drop)]
 pub struct Inline<const N: usize, L: Length<N> = usize> {
     row: Row<N, L>,
 }
 
-// What a clone copies whole.
+// The array and the length of an [`Inline`], which a clone copies whole.
 #[derive(Clone, Copy)]
 struct Row<const N: usize, L: Length<N>> {
     // It has no bytes. It aligns the others, so that they are moved by whole words.
@@ -95,7 +95,7 @@ impl<const N: usize, L: Length<N>> Inline<N, L> {
         }
     }
 
-    /// These bytes, of which there are few enough.
+    /// These bytes, of which there are at most `N`.
     #[inline]
     pub fn new_unchecked(bytes: &[u8]) -> Self
         requires { length bytes.now ≤ N }
@@ -117,7 +117,7 @@ impl<const N: usize, L: Length<N>> Inline<N, L> {
         inline
     }
 
-    /// How many bytes there are.
+    /// The number of bytes.
     #[inline]
     pub fn len(&self) -> usize
         ensures len { result ≡ length self.now }
@@ -134,7 +134,7 @@ impl<const N: usize, L: Length<N>> Inline<N, L> {
         self.row.len.get() == 0
     }
 
-    /// How many bytes it can hold, which is `N`.
+    /// The number of bytes that it can hold, which is `N`.
     #[inline]
     pub fn capacity(&self) -> usize
         ensures capacity { result ≡ N }
@@ -215,7 +215,7 @@ impl<const N: usize, L: Length<N>> Inline<N, L> {
         }
     }
 
-    /// The same bytes again. The value is copied whole, as by a move, and its length is counted.
+    /// A copy of the value, made whole, as by a move. The meter counts the bytes that it holds.
     #[inline]
     pub fn clone_metered(&self, meter: &mut Meter) -> Self
         ensures items { result ≡ self.now }
@@ -232,7 +232,7 @@ impl<const N: usize, L: Length<N>> Clone for Inline<N, L> {
 
     ghost is_infallible = { λ _. ⊤ };
 
-    /// [`Inline::clone_metered`], not counted. It takes no memory.
+    /// [`Inline::clone_metered`], not counted. It allocates nothing.
     #[inline]
     fn clone(&self) -> Result<Self, AllocError> {
         Ok(self.clone_metered(&mut Meter::new()))

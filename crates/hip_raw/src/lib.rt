@@ -9,14 +9,14 @@
 //!   always the [`Whole`], which takes no bytes.
 //! - [`Inline`], [`Borrowed`] and [`Allocated`] are the three representations of a byte string: in the handle itself, with a
 //!   [`Length`] that may be one byte, lent by another value, or a range of an owner's list. A [`Sole`] holds one that no other shares.
-//! - [`equal`] and [`order`] are `==` and `cmp` of bytes, [`common_prefix`] counts what two slices begin with alike, and
+//! - [`equal`] and [`order`] are `==` and `cmp` of bytes, [`common_prefix`] is the length of the prefix that two slices have in common, and
 //!   [`make_ascii_lowercase`] and [`make_ascii_uppercase`] move ASCII letters in place: each by blocks of up to 64 bytes.
 //! - [`ByteSource`] and [`ByteSink`] are what bytes are read from and written to, seen as the bytes still to come, or written, and a count of
 //!   failures: [`SliceSource`] and [`VecSink`] in memory, [`FromRead`] and [`ToWrite`] over readers and writers of the standard library. An
 //!   [`IoFault`] says that a call failed, and moved nothing. A [`Fuse`] around a reader or a writer fails at one call, for tests.
 //!
 //! A call that copies has a form with the suffix `_metered` and a last argument `&mut Meter`; the plain call is that form with a fresh
-//! meter. A call that takes memory on some backend is passed the allocator first, and a refused one changes nothing. The calls of a
+//! meter. A call that allocates on some backend is passed the allocator first, and a refused one changes nothing. The calls of a
 //! [`Filling`] and those on vectors have the meter alone: they have no uncounted form, and the vector has its allocator.
 //!
 //! The words of the contracts stand in `specs/`: `Held` (what a contract sees of an owner and of an allocated handle), `Meter` (what is

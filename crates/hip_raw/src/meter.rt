@@ -31,7 +31,7 @@ impl Meter {
         Meter { copied: 0 }
     }
 
-    /// How many bytes were counted.
+    /// The number of bytes that were counted.
     #[inline]
     pub fn copied(&self) -> u128
         ensures { result ≡ self.now }
@@ -104,8 +104,8 @@ pub(crate) fn fill_at(room: &mut [u8], at: usize, bytes: &[u8], meter: &mut Mete
     at
 }
 
-// Copies the first `width` bytes, where there are so many, and hands back what is left and where it goes. Where `width` is a constant
-// that is a single move.
+// Copies the first `width` bytes, if there are that many, and answers the position behind them and the bytes that are left. Where `width`
+// is a constant, that is a single move.
 #[inline(always)]
 fn fill_width<'a>(
     room: &mut [u8],
@@ -163,7 +163,7 @@ pub fn extend_counted(
     ensures refused_copies_nothing { OnErr result (meter.new ≡ meter.old) }
 {
     if vec.capacity() - vec.len() < addition.len() {
-        // What a call that isn't inlined is lent lies in memory; so the caller's meter isn't lent to it.
+        // A call that isn't inlined keeps in memory what it is lent, so it gets a meter of its own.
         let mut apart = Meter::new();
         let outcome = extend_grown(vec, addition, &mut apart);
         meter.add(&apart);
@@ -173,7 +173,7 @@ pub fn extend_counted(
     Ok(())
 }
 
-// The same where room has to be taken.
+// Like [`extend_counted`], where the vector has to grow.
 #[cold]
 #[inline(never)]
 fn extend_grown(vec: &mut Vec<u8>, addition: &[u8], meter: &mut Meter) -> Result<(), AllocError>

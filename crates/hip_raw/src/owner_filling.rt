@@ -29,7 +29,7 @@ impl<B: Backend> Model for OwnerFilling<B> {
     ghost invariant = { λ f. IsFilled B.SHARES (B.items f.owner) (B.capacity f.owner) f.len };
 }
 
-// Puts bytes, and what stands before them, behind the first `start` of a room.
+// Puts a gap and bytes behind the first `start` of a room.
 #[inline(always)]
 fn fill_room<S: Room>(
     sole: &mut S,
@@ -67,7 +67,7 @@ impl<B: Backend> OwnerFilling<B> {
         Ok(OwnerFilling { owner, len: 0 })
     }
 
-    /// Adds bytes, and what stands before them, for both of which there is room.
+    /// Adds a gap and bytes behind it, for both of which there is room.
     #[inline(always)]
     pub fn push_behind_within(&mut self, gap: &[u8], bytes: &[u8], meter: &mut Meter)
         requires { length self.old.items + length gap.now + length bytes.now ≤ self.old.capacity }

@@ -8,7 +8,7 @@ use crate::backend::Backend;
 
 /// The room of the sole owner of some bytes: a list that is written and cut in place.
 pub trait Room {
-    // The list, and how many bytes it can hold with no new memory.
+    // The list, and the number of bytes that it can hold without allocating.
     ghost items: { Self → List ℕ };
 
     ghost capacity: { Self → ℕ };

@@ -4,12 +4,12 @@
 //! - `copies`: counted copies and vectors that are filled.
 //! - `handles`: bytes in the handle itself, lent bytes.
 //! - `allocated`: ranges of an owner's bytes.
-//! - `owners`: what an owner promises.
+//! - `owners`: the contracts of an owner.
 //! - `fuses`: readers and writers that fail at one call.
 //! - `blocks`: comparisons and ASCII case, which go by blocks of bytes.
 //! - `support`: the ends of a test that a call brings about.
 //!
-//! What costs the check and what saves it is told in `hip_bytes_tests`.
+//! `hip_bytes_tests` tells what costs time in a check of tests, and how to save it.
 #![tactic(auto)]
 
 #[cfg(test)]

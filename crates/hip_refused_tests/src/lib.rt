@@ -10,12 +10,12 @@
 //! - `plays`: a script.
 //! - `rows`: calls that make no request, so that none can be refused.
 //!
-//! `calls` runs a call and compares what it left; `handle` is what it asks of a handle, which `of_owners`, `of_bytes`, `of_texts` and
-//! `of_names` are for the types; `outcomes` tells alike what calls answer, and `held` is how values are held.
+//! `calls` runs a call and compares what it left; `handle` has the calls of a handle, and `of_owners`, `of_bytes`, `of_texts` and
+//! `of_names` implement them for the types; `outcomes` brings answers into one form, and `held` is how values are held.
 //!
 //! A scenario is a function of the number of the request that is refused. It makes its values, gives the order, calls, asks whether the
-//! order was carried out, and compares what the call answered and left with what it has to be either way. So an answer of want of memory
-//! fails it where no request was refused. A test whose name ends in `take_none` or `takes_none` meets no request; each other meets some.
+//! order was carried out, and compares what the call answered and left with what it has to be either way. So a refusal of memory fails it
+//! where no request was refused. A test whose name ends in `take_none` or `takes_none` meets no request; each other meets some.
 #![tactic(auto)]
 
 #[cfg(test)]

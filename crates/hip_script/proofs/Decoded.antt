@@ -9,7 +9,7 @@ use Rattle.std.proofs.lemmas.Option.{none-some, some_pair_parts}
 use Rattle.hip_script.specs.Words.{decoded, before}
 use Rattle.hip_script.specs.Words.Place.{Plain, Escape, High, Low}
 
--- these bytes, and then what was found
+-- these bytes before those that were found
 abbrev pub behind : List ℕ → Option (List ℕ × List ℕ) → Option (List ℕ × List ℕ)
 behind bytes found = option_map (λ f. (bytes ++ f.0, f.1)) found
 

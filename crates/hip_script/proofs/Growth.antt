@@ -1,4 +1,4 @@
--- What stands in a buffer stands in it when more was added.
+-- An item of a buffer stays where it is when more are added.
 use Rattle.std.proofs.Common.{◌≡◌, ℕ, suc, zero, ◌-◌, ◌≤◌, ◌<◌, List, [], ◌∷◌, ◌++◌, length, drop, get_or, Option, Some, None, arith, refl, sym, ap, subst, ◌∙◌, append_assoc}
 use Rattle.std.proofs.lemmas.List.{append-nil, take-append-le, drop-append-le, length-drop, length-append}
 use Rattle.std.specs.List.{slice_range}
@@ -55,7 +55,7 @@ grows-then a b c first second = record {
   rares = joined a.rares b.rares c.rares first.more_rares second.more_rares first.rares second.rares;
 }
 
--- what stands at a place of a list stands there when more was added, and what was added last stands at its end
+-- an item stays at its place when more are added, and the last one that was added stands at the end
 place-added : (xs more : List Rare) (i : ℕ) (d : Rare) → i < length xs → get_or (xs ++ more) i d ≡ get_or xs i d
 place-added [] more i d inside = absurd (omega arith)
 place-added (x ∷ xs) more zero d inside = refl

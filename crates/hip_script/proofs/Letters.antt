@@ -48,7 +48,7 @@ all-same yielded all is = sym (same yielded) ∙ is
 pub only-all : (found : Option ℕ) (so_far all : List ℕ) → IsOnly found so_far → map (λ x. x) so_far ≡ all → option_map (λ c. Sought (CharOf c)) found ≡ only all
 only-all found so_far all h is = h.is ∙ ap only (all-same so_far all is)
 
--- these ends, and then what letters stand for
+-- these ends before those that letters stand for
 abbrev pub ends_behind : List End → Option (List End) → Option (List End)
 ends_behind ends found = option_map (λ more. ends ++ more) found
 

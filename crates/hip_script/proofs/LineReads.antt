@@ -14,7 +14,7 @@ unfolding line_said
 row-none line before is none =
     ap (option_and_then (λ (found : (Verb × List Word) × Left). row_said found.0 found.1)) (ap (said_at (λ word. look_up word rows)) (sym is) ∙ none)
 
--- what a line says whose name was read: what the words behind it say
+-- a line whose name was read is what the words behind the name make it
 pub record HasRow (line : List ℕ) (verb : Verb) (list : List Word) (left : Left) : Type 0 where
   pub is : line_said line ≡ option_and_then (ended verb) (words_said list no_fields left)
 

@@ -1,4 +1,4 @@
--- What a table of names has, where its entries are seen through references.
+-- Look-ups in a table of names, whose entries are seen through references.
 use Rattle.std.proofs.Common.{◌≡◌, ℕ, Bool, true, false, List, [], ◌∷◌, map, Option, Some, None, refl, sym, ap, ◌∙◌, length, arith, Bor}
 use Rattle.std.specs.Option.{MatchOption, option_map}
 use Rattle.hip_script.specs.Grammar.{rows}

@@ -1,4 +1,4 @@
--- What digits say, a digit at a time.
+-- The numbers that digits spell, a digit at a time.
 use Rattle.std.proofs.Common.{◌≡◌, ℕ, ◌+◌, ◌-◌, ◌*◌, ◌^◌, ◌<◌, ◌≤◌, true, false, List, [], ◌∷◌, length, get_or, drop, Some, None, arith, refl, ◌∙◌, ap}
 use Rattle.std.proofs.lemmas.Bool.{lt-ltb, le-ltb, leb-true, and_right, and_parts}
 use Rattle.std.proofs.lemmas.List.{drop_more, drop_all}

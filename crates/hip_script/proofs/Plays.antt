@@ -1,4 +1,4 @@
--- What is written for the lines of a script, a run or a line at a time.
+-- The text that is written for the lines of a script, a run or a line at a time.
 use Rattle.std.proofs.Common.{◌≡◌, ℕ, ◌+◌, ◌<◌, ◌≤◌, Bool, List, [], ◌∷◌, ◌++◌, length, take, drop, get_or, map, Option, refl, sym, ap, ◌∙◌, subst, append_assoc, arith, ⊎_elim}
 use Rattle.std.proofs.lemmas.List.{append-nil, map-append, map_more, take_all, take-append-drop}
 use Rattle.std.specs.Io.KnownBytes.{Appends}
@@ -272,7 +272,7 @@ played-last shares held items lines i waiting passed place new old same all pass
     let performed = rw passes at performs in
     played-all shares (map (says_in held) lines) new old (played-run shares (map (says_in held) lines) waiting place new old whole performed)
 
--- what was written when memory was refused is what some first lines write
+-- the text written when memory was refused is that of some first lines
 halves : (held : Held) (i : ℕ) (lines : List Said) → map (says_in held) (take i lines) ++ map (says_in held) (drop i lines) ≡ map (says_in held) lines
 halves held i lines = sym (map-append (says_in held) (take i lines) (drop i lines)) ∙ ap (map (says_in held)) (take-append-drop i lines)
 

@@ -1,4 +1,4 @@
--- What literals say, and words that are added to buffers.
+-- The values of literals, and words that are added to buffers.
 use Rattle.std.proofs.Common.{◌≡◌, ℕ, suc, ◌+◌, ◌-◌, true, false, List, [], ◌∷◌, ◌++◌, length, drop, take, Option, Some, arith, refl, sym, ap, subst, ◌∙◌}
 use Rattle.std.proofs.Math.Seq.{drop-append_seam}
 use Rattle.std.proofs.lemmas.Bool.{false_from_ne_true}
@@ -28,7 +28,7 @@ use Rattle.hip_script.specs.declared.verb.Follows.TheVariants.{Nothing}
 use Rattle.hip_script.specs.declared.verb.Quote.{Quote}
 use Rattle.hip_script.specs.declared.verb.Quote.TheVariants.{Bytes as bytes_quote, Text as text_quote, Char as char_quote, Any as any_quote}
 
--- what was added stands in the span
+-- the items that were added stand in the span
 pub span-added : {A : Type 0} (more old new : List A) (span : Span) → AddsSpan more old new span → IsSpan (length new) span × (in_span new span ≡ more)
 span-added more old new span adds =
     let long : length new ≡ length old + length more = rw adds.added (simp length-append) in
@@ -161,7 +161,7 @@ pub follows-nothing : (follows : Follows) (held : Held) (said : Said) (left : Le
     → ReadsFields (follows_said follows (fields_in held said) left) left held held said said
 follows-nothing follows held said left is within = rw is (record { grows = grows-none held; within = within; verb = refl; read_is = refl })
 
--- what was read as a text is one
+-- bytes that were read as a text are one
 pub text-is_one : (held : Held) (quoted : Said_quoted) (span : Span) (lent shown : List ℕ) → quoted ≡ DecodedText span → QuotedWithin held quoted
     → lent ≡ held.bytes → shown ≡ in_span lent span → ¬ (IsUtf8 shown) → ⊥
 text-is_one held quoted span lent shown is within lent_is shown_is other =

@@ -9,7 +9,7 @@ use Rattle.hip_script.specs.Said.{Grows, Held, IsWithin, ReadsLine, says_in}
 use Rattle.hip_script.specs.Spoken.{Spoken}
 use Rattle.hip_script.specs.declared.said.Said.{Said}
 
--- this, and then what other lines say
+-- these lines before others
 abbrev pub put_before : List Spoken → Result (List Spoken) ℕ → Result (List Spoken) ℕ
 put_before so_far (Ok said) = Ok (so_far ++ said)
 put_before so_far (Err number) = Err number

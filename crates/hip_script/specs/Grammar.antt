@@ -99,7 +99,7 @@ sides = (codes "start", start_side) ∷ (codes "end", end_side) ∷ (codes "both
 abbrev pub end_names : List (List ℕ × End)
 end_names = (codes "front", Front) ∷ (codes "back", Back) ∷ []
 
--- what the bytes of a literal are: just bytes, a text, the one character of a text, or each character of one
+-- the value of a literal's bytes: just bytes, a text, the one character of a text, or each character of one
 abbrev pub only : List ℕ → Option Quoted
 only [] = None
 only (c ∷ []) = Some (Sought (CharOf c))
@@ -159,7 +159,7 @@ words_said (word ∷ words) fields left = word_said word fields left >>= λ said
 abbrev pub no_fields : Fields
 no_fields = record { source = 0; target = 0; number = 0; byte = 0; low = Unbounded; high = Unbounded; side = both_sides; end = Front; quoted = Plainly []; way = Lines; ends = [] }
 
--- what a verb says with its words
+-- the line that a verb and its arguments make
 abbrev pub spoken : Verb → Fields → Spoken
 spoken New f = SayNew f.target
 spoken Inline f = SayInline f.target (bytes_in f.quoted)
@@ -207,7 +207,7 @@ row_said row left = words_said row.1 no_fields left >>= ended row.0
 unfoldable pub line_said : List ℕ → Option Spoken
 line_said line = said_at (λ word. look_up word rows) (Some line) >>= λ found. row_said found.0 found.1
 
--- what a line says, before others
+-- a line before others, or the number of the first that is none
 abbrev pub then_said : Option Spoken → ℕ → Result (List Spoken) ℕ → Result (List Spoken) ℕ
 then_said None number more = Err number
 then_said (Some said) number (Ok later) = Ok (said ∷ later)
@@ -219,7 +219,7 @@ lines_said number [] = Ok []
 lines_said number ([] ∷ more) = lines_said (number + 1) more
 lines_said number ((b ∷ bs) ∷ more) = then_said (line_said (b ∷ bs)) number (lines_said (number + 1) more)
 
--- what the lines of a script say, or the number of its first line that says nothing and isn't empty
+-- the lines of a script, or the number of its first line that is none and isn't empty
 abbrev pub script_of : List ℕ → Result (List Spoken) ℕ
 script_of text = lines_said 1 (lines text)
 

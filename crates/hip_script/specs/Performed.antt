@@ -1,4 +1,4 @@
--- What single steps of playing do. Only private functions cite these.
+-- Single steps of playing. Only private functions cite these.
 use Rattle.std.specs.Prelude.{◌≡◌, ℕ, ◌⊎◌, Bool, List, [], ◌∷◌, ◌++◌, Option}
 use Rattle.std.specs.Io.KnownBytes.{Appends}
 use Rattle.hipstr.specs.Meter.{RisesAtMost}
@@ -13,7 +13,7 @@ use Rattle.hip_script.specs.declared.line.Aside.TheVariants.{Show, Copied, Field
 use Rattle.hip_script.specs.declared.line.Line.{Line}
 use Rattle.hip_script.specs.declared.line.Line.TheVariants.{Command as CommandLine, Aside as AsideLine}
 
--- what was written is the printed answers of some run
+-- the bytes that were written are the printed answers of some run
 pub record Performs (shares : Bool) (old : List SlotState) (commands : List Command) (new : List SlotState) (counted counts : ℕ) (before after : Option (List ℕ)) : Type 0 where
   pub answers : List Answer
   pub total : ℕ

@@ -1,4 +1,4 @@
--- What playing a script does: the promise of `play_to`. `shares` says whether owners are shared.
+-- The playing of a script: the promise of `play_to`. `shares` says whether owners are shared.
 use Rattle.std.specs.Prelude.{◌≡◌, ℕ, ◌+◌, ◌≤◌, ◌⊎◌, nat_lt, Bool, List, [], ◌∷◌, ◌++◌, length, replicate, Option, Result, Ok, Err, MatchOption, codes, if◌then◌else◌}
 use Rattle.std.specs.Io.KnownBytes.{Appends, Keeps}
 use Rattle.std.specs.Option.{option_or}
@@ -49,7 +49,7 @@ printed_show slots s =
 abbrev pub fields_fault : List SlotState → ℕ → Option Reason
 fields_fault slots s = option_or (slot_fault slots s) (not_text_fault (state_at slots s))
 
--- the records of a slot's text, or why there are none. Memory may be wanted where it has a line
+-- the records of a slot's text, or why there are none. A text that has a line may need memory
 abbrev pub RecordsText : List SlotState → ℕ → ℕ → List ℕ → Type 0
 RecordsText slots s separator text =
     (text ≡ printed_records (records_of separator (slot_at slots s).items))
@@ -59,12 +59,13 @@ abbrev pub FieldsText : List SlotState → ℕ → ℕ → List ℕ → Type 0
 FieldsText slots s separator text =
     MatchOption (fields_fault slots s) (RecordsText slots s separator text) (λ reason. text ≡ printed_answer (Refused reason))
 
--- and what they copy at most
+-- the greatest number of bytes that the records of a slot's text copy
 abbrev pub fields_cost : Bool → List SlotState → ℕ → ℕ → ℕ
 fields_cost shares slots s separator =
     unless (fields_fault slots s) (records_cost shares (slot_at slots s).kind (records_of separator (slot_at slots s).items))
 
--- what may be written for a line, and the state behind it: a slot, a number that the meter may have, records, or a command's answer
+-- the text that may be written for a line, and the state behind it: a slot, a number that the meter may have, records, or a command's
+-- answer
 abbrev pub Writes : Bool → State → Spoken → List ℕ → State → Type 0
 Writes shares old (SayShow s) text new = (text ≡ printed_show old.slots s) × (new ≡ old)
 Writes shares old SayCopied text new =
@@ -74,20 +75,20 @@ Writes shares old (SayFields s separator) text new =
     × (new ≡ record { slots = old.slots; least = old.least; most = old.most + fields_cost shares old.slots s separator })
 Writes shares old line text new = Answers shares old line text new
 
--- and for some lines, one after another
+-- the text that may be written for some lines, one after another, and the state behind them
 abbrev pub WritesAll : Bool → State → List Spoken → List ℕ → State → Type 0
 WritesAll shares old [] text new = (text ≡ []) × (new ≡ old)
 WritesAll shares old (line ∷ lines) text new =
     (between : State) × (first rest : List ℕ) × Writes shares old line first between × WritesAll shares between lines rest new × (text ≡ first ++ rest)
 
--- what was written is what may be written for a script
+-- the bytes that were written may be written for the script
 pub record IsPlayed (shares : Bool) (script : List Spoken) (old new : Option (List ℕ)) : Type 0 where
   pub text : List ℕ
   pub state : State
   pub writes : WritesAll shares at_start script text state
   pub written : Appends old new text
 
--- or for its first lines
+-- the bytes that were written may be written for the script's first lines
 pub record IsPlayedInPart (shares : Bool) (script : List Spoken) (old new : Option (List ℕ)) : Type 0 where
   pub front : List Spoken
   pub later : List Spoken
@@ -102,8 +103,8 @@ Reads said (Err WriteFailed) = (script : List Spoken) × (said ≡ Ok script)
 Reads said (Err ReadFailed) = Unit {0}
 Reads said (Err Memory) = Unit {0}
 
--- what was written: nothing of a script with a line that is none, and of one that met want of memory what its first lines write. What of a
--- failed write went out isn't told
+-- the bytes that were written: none for a script with a line that is none; where memory was refused, those of its first lines; where a
+-- write failed, any
 abbrev pub Written : Bool → Result (List Spoken) ℕ → Option (List ℕ) → Option (List ℕ) → Result (Unit {0}) PlayFault → Type 0
 Written shares said old new (Ok done) = (script : List Spoken) × (said ≡ Ok script) × IsPlayed shares script old new
 Written shares said old new (Err (NotACommand line)) = Keeps old new

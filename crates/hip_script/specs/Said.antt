@@ -1,4 +1,4 @@
--- What the records of lines say, whose literals stand in the script or in buffers. Only private functions cite these.
+-- The records of lines, whose literals stand in the script or in buffers. Only private functions cite these.
 use Rattle.std.specs.Prelude.{◌≡◌, ℕ, zero, suc, ◌≤◌, ◌==◌, ◌||◌, not, Bool, true, List, ◌++◌, length, map, Option, Some, Result, Ok, Err, slice_range, slice_index_or, Vec}
 use Rattle.std.specs.declared.alloc.Global.{Global}
 use Rattle.std.specs.declared.ops.Bound.TheVariants.{Unbounded}
@@ -30,7 +30,8 @@ use Rattle.hip_script.specs.declared.said.Said.{Said}
 use Rattle.hip_script.specs.declared.said.Span.{Span}
 use Rattle.hip_script.specs.declared.script.Script.{Script}
 
--- what the buffers hold: the bytes of literals, the characters of sets, the ends that pieces are drawn from, and what few lines say
+-- the contents of the buffers: the bytes of literals, the characters of sets, the ends that pieces are drawn from, and the arguments that
+-- few lines have
 pub record Held : Type 0 where
   pub bytes : List ℕ
   pub chars : List ℕ
@@ -80,13 +81,13 @@ QuotedWithin held (DecodedText span) = IsSpan (length held.bytes) span × (is_ut
 QuotedWithin held (Char c) = Unit {0}
 QuotedWithin held (Any span) = IsSpan (length held.chars) span
 
--- what a line's record names stands in the buffers
+-- the positions in a line's record lie within the buffers
 pub record IsWithin (held : Held) (said : Said) : Type 0 where
   pub quoted : QuotedWithin held said.quoted
   pub rare : said.rare ≤ length held.rares
   pub ends : IsSpan (length held.ends) (rare_in held.rares said.rare).ends
 
--- what the record of a line says
+-- the arguments in the record of a line
 abbrev pub fields_in : Held → Said → Fields
 fields_in held said = record {
   source = said.source;
@@ -120,7 +121,7 @@ pub record DecodesLiteral (read : Option (List ℕ × List ℕ)) (after old new 
   pub read_is : read ≡ Some (bytes, after)
   pub stands : LiteralIs literal bytes old new
 
--- these were added to a buffer, and stand there
+-- these items were added to a buffer, and the span tells where
 pub record AddsSpan {A : Type 0} (more old new : List A) (span : Span) : Type 0 where
   pub added : new ≡ old ++ more
   pub start : span.start ≡ length old
@@ -137,7 +138,7 @@ pub record Grows (old new : Held) : Type 0 where
   pub more_rares : List Rare
   pub rares : new.rares ≡ old.rares ++ more_rares
 
--- what a literal says was told
+-- the value of a literal was read into `quoted`
 pub record QuotesAs (said : Option Quoted) (old new : Held) (quoted : Said_quoted) : Type 0 where
   pub grows : Grows old new
   pub within : QuotedWithin new quoted
@@ -161,7 +162,7 @@ pub record Says (held : Held) (lines : List Said) (said : List Spoken) : Type 0 
   pub within : AllByRecursion (IsWithin held) lines
   pub say : map (says_in held) lines ≡ said
 
--- what was returned is what the script says, unless memory ran out
+-- the script that was returned, or the number of its first line that is none, unless memory ran out
 abbrev pub GivesScript : Result Script PlayFault → Result (List Spoken) ℕ → Type 0
 GivesScript (Ok script) said = (lines : List Spoken) × (said ≡ Ok lines) × Says (held script.buffers) script.lines.items lines
 GivesScript (Err (NotACommand number)) said = said ≡ Err number
@@ -169,7 +170,7 @@ GivesScript (Err ReadFailed) said = ⊥
 GivesScript (Err WriteFailed) said = ⊥
 GivesScript (Err Memory) said = Unit {0}
 
--- what a line says, a command or none
+-- the line that is no command of `hipstr::run`
 abbrev pub aside_says : Aside → Spoken
 aside_says (Show slot) = SayShow slot
 aside_says Copied = SayCopied

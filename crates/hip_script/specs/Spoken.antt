@@ -1,4 +1,4 @@
--- What the lines of a script say (docs/PROGRAM.md, the table of lines), apart from where their bytes stand.
+-- The lines of a script (docs/PROGRAM.md, the table of lines), apart from where their bytes stand.
 use Rattle.std.specs.Prelude.{ℕ, List, []}
 use Rattle.std.specs.declared.ops.Bound.{Bound}
 use Rattle.hipstr.specs.declared.End.{End}
@@ -6,13 +6,13 @@ use Rattle.hipstr.specs.declared.command.Side.{Side}
 use Rattle.hip_script.specs.declared.verb.Way.{Way}
 use Rattle.hip_script.specs.declared.verb.Way.TheVariants.{SplitN, RSplitN, Lines, Words, AsciiWords}
 
--- what is looked for: a text, a character, or each of these characters
+-- a pattern: a text, a character, or each of these characters
 pub data Pattern : Type 0 where
   TextOf : List ℕ → Pattern
   CharOf : ℕ → Pattern
   AnyOf : List ℕ → Pattern
 
--- what stands between quotes: bytes, or what is looked for
+-- the value between quotes: bytes, or a pattern
 pub data Quoted : Type 0 where
   Plainly : List ℕ → Quoted
   Sought : Pattern → Quoted
@@ -23,7 +23,7 @@ pub data Parting : Type 0 where
   ByMost : Way → ℕ → Pattern → Parting
   Alone : Way → Parting
 
--- what a line says: a command of `hipstr::run`, or one of the three lines that are none
+-- a line: a command of `hipstr::run`, or one of the three lines that are none
 pub data Spoken : Type 0 where
   SayNew : ℕ → Spoken
   SayInline : ℕ → List ℕ → Spoken
@@ -60,7 +60,7 @@ pub data Spoken : Type 0 where
   SayCopied : Spoken
   SayFields : ℕ → ℕ → Spoken
 
--- what the words of a line say; what none of them says is as in `no_fields`
+-- the arguments of a line; one that the line doesn't have is as in `no_fields`
 pub record Fields : Type 0 where
   -- the slot that is asked or taken from, and that which becomes something
   pub source : ℕ

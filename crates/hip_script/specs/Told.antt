@@ -1,4 +1,4 @@
--- What the commands of `hipstr::run` say, wherever their bytes stand.
+-- The commands of `hipstr::run` as lines, wherever their bytes stand.
 use Rattle.hipstr.specs.declared.command.Command.{Command}
 use Rattle.hipstr.specs.declared.command.Command.TheVariants.{New, Inline, Borrow, Copy, Room, Clone, Slice, Push, Pop, Truncate, Clear, Shrink, Upper, Lower, Set, Repeat, Join, Mutate, Owned, Text, Bytes, Trim, TrimMatches, Strip, Pieces, Once, Compare, ComparePath, Len, Kind, Capacity}
 use Rattle.hipstr.specs.declared.command.How.{How}

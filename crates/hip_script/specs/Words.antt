@@ -13,7 +13,7 @@ infixl 10 ◌>>=◌
 abbrev pub ◌>>=◌ : {A B : Type 0} → Option A → (A → Option B) → Option B
 o >>= f = option_and_then f o
 
--- what is left of a line: what begins at its next word, or nothing behind its last one
+-- the rest of a line: the bytes from its next word on, or nothing behind its last one
 abbrev pub Left : Type 0
 Left = Option (List ℕ)
 
@@ -30,7 +30,7 @@ abbrev pub word_at : Left → Option (List ℕ × Left)
 word_at None = None
 word_at (Some text) = Some (next_word text)
 
--- what the next word says, and what is left behind it
+-- the value of the next word, and the rest of the line behind it
 abbrev pub said_at : {A : Type 0} → (List ℕ → Option A) → Left → Option (A × Left)
 said_at says left = do
   word ← word_at left
@@ -61,7 +61,7 @@ abbrev pub low_of : List ℕ → Option (Bound ℕ)
 low_of [] = Some Unbounded
 low_of (digit ∷ digits) = option_map Included (number_of (digit ∷ digits))
 
--- what stands behind two dots: nothing, `=` (61) and a number, or a number
+-- the bound behind two dots: nothing, `=` (61) and a number, or a number
 abbrev pub high_of : List ℕ → Option (Bound ℕ)
 high_of [] = Some Unbounded
 high_of (b ∷ bs) = if b == 61 then option_map Included (number_of bs) else option_map Excluded (number_of (b ∷ bs))
@@ -128,7 +128,7 @@ abbrev pub ends_of : List ℕ → Option (List End)
 ends_of [] = None
 ends_of (letter ∷ letters) = if bytes_eq (letter ∷ letters) (codes "-") then Some [] else letters_of (letter ∷ letters)
 
--- what a list of names has for a name
+-- the value of a name in a list of names
 abbrev pub look_up : {A : Type 0} → List ℕ → List (List ℕ × A) → Option A
 look_up word [] = None
 look_up word (entry ∷ entries) = if bytes_eq entry.0 word then Some entry.1 else look_up word entries

@@ -16,7 +16,7 @@ use hipstr::End;
 use std::alloc::Global;
 use std::str;
 
-/// What the lines of a script name by its place.
+/// The lists that the lines of a script refer to by positions.
 #[derive(Drop)]
 pub(crate) struct Buffers {
     /// The bytes of literals that have escapes.
@@ -25,7 +25,7 @@ pub(crate) struct Buffers {
     pub(crate) chars: Vec<char>,
     /// The ends of all walks.
     pub(crate) ends: Vec<End>,
-    /// What few lines say, one after another.
+    /// The arguments that few lines have, one after another.
     pub(crate) rares: Vec<Rare>,
 }
 
@@ -40,7 +40,7 @@ impl Buffers {
         }
     }
 
-    /// The rare things that have a number.
+    /// The rare arguments under a number, counted from 1. Under 0 stand the whole of a value and no ends.
     pub(crate) fn rare(&self, number: usize) -> Rare
         requires { number ≤ length self.now.rares.items }
         ensures { result ≡ rare_in self.now.rares.items number }
@@ -116,7 +116,7 @@ impl Buffers {
         Ok(())
     }
 
-    /// What a literal says.
+    /// The value of a literal, as `quote` asks for it.
     fn quoted<'l>(&mut self, quote: Quote, literal: Literal<'l>) -> Result<Quoted<'l>, LineFault>
         requires { LiteralWithin self.old.bytes.items literal }
         ensures ok { IfOk result (λ quoted. QuotesAs (quoted_as quote (literal_in self.old.bytes.items literal.entry))
@@ -146,7 +146,7 @@ impl Buffers {
         }
     }
 
-    /// Reads what is looked for in a text.
+    /// Reads a pattern.
     fn read_pattern<'l>(
         &mut self,
         words: &mut Words<'l>,
@@ -175,7 +175,7 @@ impl Buffers {
         self.read_following(follows, words, said)
     }
 
-    /// Reads what follows the name of a way.
+    /// Reads the arguments behind the name of a way.
     fn read_following<'l>(
         &mut self,
         follows: Follows,
@@ -234,7 +234,7 @@ impl Buffers {
     }
 }
 
-/// Puts what was found in its place.
+/// Puts a value that was found in its place. Where none was found, the line is no command.
 fn put<T: Copy>(found: Option<T>, place: &mut T) -> Result<(), LineFault>
     ensures ok { OnOk result (found ≡ Some place.new) }
     ensures bad { OnErr result (found ≡ None) }
@@ -243,7 +243,7 @@ fn put<T: Copy>(found: Option<T>, place: &mut T) -> Result<(), LineFault>
     Ok(())
 }
 
-/// The text that bytes are.
+/// The bytes as a text, if they are one.
 fn text_of(bytes: &[u8]) -> Result<&str, LineFault>
     ensures text { IfOk result (λ text. (text.now ≡ bytes.now) × (is_utf8 bytes.now ≡ true)) }
     ensures bad { IsErrOf result LineFault.NotACommand → is_utf8 bytes.now ≡ false }
@@ -254,7 +254,7 @@ fn text_of(bytes: &[u8]) -> Result<&str, LineFault>
     }
 }
 
-/// The character of a text that is one.
+/// The only character of a text, if it has just one.
 fn only_char(text: &str) -> Option<char>
     ensures { option_map (λ c. Sought (CharOf c)) result ≡ only (chars text.now) }
 {

@@ -1,8 +1,8 @@
 //! Scripts of commands: reads their lines, gives them to [`hipstr::run`] and writes the answers, one a line.
 //!
-//! [`play_to`](play::play_to) does so, and is generic in the backend, the reader and the writer: what it writes is what the lines of what it
-//! reads say, by the definitions of `specs/`, `Grammar` and `Played` above all. [`play`](play::play) takes reader and writer, and gathers
-//! what is written; the program `hip_play` has it read standard input and write standard output.
+//! [`play_to`](play::play_to) does so, and is generic in the backend, the reader and the writer: it writes the answers of the lines that it
+//! reads, by the definitions of `specs/`, `Grammar` and `Played` above all. [`play`](play::play) takes reader and writer, and gathers what
+//! is written; the program `hip_play` has it read standard input and write standard output.
 #![tactic(auto)]
 
 mod buffers;

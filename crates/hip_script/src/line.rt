@@ -1,4 +1,4 @@
-//! What lines say, with their literals.
+//! The commands of lines, with their literals.
 ghost use Rattle.std.specs.Prelude.{◌≡◌};
 ghost use Rattle.hip_script.specs.Said.{IsWithin, fields_in, held, line_says, quoted_in, says_in};
 ghost use Rattle.hip_script.specs.Spoken.{bytes_in, parting, pattern_in, separator_in};
@@ -15,13 +15,13 @@ use std::str;
 pub(crate) enum Aside {
     /// Prints the slot's bytes.
     Show(usize),
-    /// Prints how many bytes were copied so far.
+    /// Prints the number of bytes that were copied so far.
     Copied,
-    /// Prints the records of the slot's text, whose fields lie between such characters.
+    /// Prints the records of the slot's text, whose fields lie between these characters.
     Fields(usize, char),
 }
 
-/// What a line says.
+/// A line as it is performed.
 #[derive(Clone, Copy)]
 pub(crate) enum Line<'b> {
     /// A command.
@@ -31,7 +31,7 @@ pub(crate) enum Line<'b> {
 }
 
 impl<'l> Script<'l> {
-    /// What a line says.
+    /// The command of a line, or what else it is.
     pub(crate) fn line<'s>(&'s self, said: &Said<'s>) -> Line<'s>
         requires { IsWithin (held self.now.buffers) said.now }
         ensures { line_says result ≡ says_in (held self.now.buffers) said.now }
@@ -105,7 +105,7 @@ impl<'l> Script<'l> {
         }
     }
 
-    /// What a line looks for.
+    /// The pattern that a line looks for.
     fn pattern<'s>(&'s self, said: &Said<'s>) -> Pat<'s>
         requires { IsWithin (held self.now.buffers) said.now }
         ensures { pattern_says result ≡ pattern_in (quoted_in (held self.now.buffers) said.now.quoted) }

@@ -20,10 +20,10 @@ use std::alloc::Global;
 use std::io;
 use std::io::{BufWriter, ErrorKind, Read, Write};
 
-/// How many slots a script works on.
+/// The number of slots that a script works on.
 const SLOTS: usize = 16;
 
-/// How many commands are run at once at most, so that they and their answers stay near.
+/// The greatest number of commands that are run at once, so that they and their answers stay in the cache.
 const AT_ONCE: usize = 256;
 
 /// Plays a script: reads it whole, performs its commands on a pool of sixteen slots, and writes the answers, one a line.
@@ -48,7 +48,7 @@ pub fn play<B: Backend, R: Read + Drop, W: Write + Drop>(
     flushed.or(Err(PlayFault::WriteFailed))
 }
 
-/// [`play`], from and to what is lent. Each line is written at once, so `out` had better gather them; it isn't flushed.
+/// Like [`play`], with a reader and a writer that are lent. Each line is written at once, so `out` should be buffered; it isn't flushed.
 pub fn play_to<B: Backend, R: Read, W: Write>(
     alloc: Global,
     reader: &mut R,
@@ -110,7 +110,7 @@ fn play_lines<B: Backend, W: Write>(
     perform(alloc, &mut pool, commands.as_slice(), &mut meter, out)
 }
 
-/// Plays a line: a command waits until there are many, and what is none is told after those that waited.
+/// Plays a line: a command waits until there are many, and any other line is answered once those that waited are run.
 fn play_line<'b, B: Backend, W: Write>(
     alloc: Global,
     line: Line<'b>,
@@ -171,7 +171,7 @@ fn print_answers<W: Write>(out: &mut W, answers: &[Answer]) -> Result<(), Stop>
     Ok(())
 }
 
-/// Tells what a line asks for that is no command.
+/// Answers a line that is no command.
 fn tell<B: Backend, W: Write>(
     alloc: Global,
     pool: &Pool<'_, B>,

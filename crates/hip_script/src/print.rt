@@ -126,7 +126,7 @@ fn print_field<W: Write>(out: &mut W, field: &[u8]) -> io::Result<()>
     print_literal(out, field)
 }
 
-/// Prints bytes as a literal: 0x20 to 0x7E stand for themselves save `\"` and `\\`.
+/// Prints bytes as a literal: 0x20 to 0x7E stand for themselves, but `\"` and `\\` don't.
 pub(crate) fn print_literal<W: Write>(out: &mut W, bytes: &[u8]) -> io::Result<()>
     ensures { OnOk result (Appends (W.contents out.old) (W.contents out.new) (printed_literal bytes.now)) }
 {
@@ -141,7 +141,7 @@ pub(crate) fn print_literal<W: Write>(out: &mut W, bytes: &[u8]) -> io::Result<(
     out.write_all(b"\"")
 }
 
-/// Where the first byte stands that doesn't stand for itself.
+/// The position of the first byte that doesn't stand for itself.
 fn escape_at(bytes: &[u8]) -> Option<usize>
     ensures { IsFirstByte needs_escape bytes.now result }
 {

@@ -1,4 +1,4 @@
-//! What a line says, with its literals where they stand.
+//! A line that was read, whose literals stay where they stand.
 
 use crate::verb::{Verb, Way};
 use hipstr::{End, Side};
@@ -15,7 +15,7 @@ impl Span {
     ghost use Rattle.std.specs.Prelude.{◌≡◌, length};
     ghost use Rattle.hip_script.specs.Said.{IsSpan, in_span};
 
-    /// What of a buffer stands there.
+    /// The items of the buffer at these positions.
     pub(crate) fn of<T>(self, buffer: &[T]) -> &[T]
         requires { IsSpan (length buffer.now) self }
         ensures { result.now ≡ in_span buffer.now self }
@@ -49,7 +49,7 @@ impl<'l> Literal<'l> {
     }
 }
 
-/// What a literal says. Each way to say it stands here, and not in an enum of its own, so that a line's record has 64 bytes and not 72.
+/// The value of a literal. Each kind is a variant here, and not in an enum of its own, so that a line's record has 64 bytes and not 72.
 #[derive(Clone, Copy)]
 pub(crate) enum Quoted<'l> {
     /// Bytes that stand in the script as they are.
@@ -66,7 +66,7 @@ pub(crate) enum Quoted<'l> {
     Any(Span),
 }
 
-/// What few lines say: a range, and where the ends stand that pieces are drawn from.
+/// The arguments that few lines have: a range, and the positions of the ends that pieces are drawn from.
 #[derive(Clone, Copy)]
 pub(crate) struct Rare {
     pub(crate) low: Bound<usize>,
@@ -90,9 +90,8 @@ impl Rare {
     }
 }
 
-/// What a line says. What its verb doesn't ask for is as in [`Said::new`].
-///
-/// There is one for each line of a script, so what few lines say is kept apart: each page of these is one more for the system to find.
+/// A line that was read: its verb and its arguments. An argument that its verb doesn't ask for is as in [`Said::new`].
+/// There is one for each line of a script, so the arguments that few lines have are kept apart: larger records would take more page faults.
 #[derive(Clone, Copy)]
 pub(crate) struct Said<'l> {
     pub(crate) verb: Verb,
@@ -104,7 +103,7 @@ pub(crate) struct Said<'l> {
     pub(crate) target: usize,
     pub(crate) number: usize,
     pub(crate) quoted: Quoted<'l>,
-    /// Which of the rare things are its own, counted from 1, or 0 where it has none.
+    /// The position of its rare arguments, counted from 1, or 0 where it has none.
     pub(crate) rare: usize,
 }
 

@@ -1,4 +1,4 @@
-//! A whole script: its lines, and what each says.
+//! A whole script, as the records of its lines.
 ghost use Rattle.std.specs.Prelude.{◌≡◌, ◌<◌, ◌++◌, ◌∷◌, [], ℕ, Err, OnOk, IsErrOf, None};
 ghost use Rattle.hip_script.specs.Grammar.{line_said, script_of};
 ghost use Rattle.hip_script.specs.Said.{GivesScript, ReadsLine, held};
@@ -12,13 +12,13 @@ use crate::said::Said;
 use crate::words::Words;
 use std::alloc::Global;
 
-/// How many bytes a line has at least that says something, as `pop 0`, with its line feed.
+/// The length of the shortest line that isn't empty, `pop 0` with its line feed.
 const SHORTEST_LINE: usize = 6;
 
-/// For how many lines there is room at first at most.
+/// The greatest number of lines that room is reserved for at first.
 const AT_FIRST: usize = 65_536;
 
-/// A script that was read: what its lines say, and the buffers of what has no place of its own in it.
+/// A script that was read: the records of its lines, and the buffers that these refer to.
 #[derive(Drop)]
 pub(crate) struct Script<'l> {
     pub(crate) lines: Vec<Said<'l>>,
@@ -28,8 +28,8 @@ pub(crate) struct Script<'l> {
 impl<'l> Script<'l> {
     /// Reads a script. The first line that is no command is told by its number.
     ///
-    /// Room is taken first for as many lines as have place in the script, but for no more than are told above. What isn't used of it costs
-    /// no page, and more room is had without a copy where there is so much.
+    /// Room is reserved first for as many lines as the script can have, but for no more than `AT_FIRST`. Unused room costs no page, and a
+    /// block that large grows without a copy.
     pub(crate) fn read(alloc: Global, input: &'l [u8]) -> Result<Self, PlayFault>
         ensures script { GivesScript result (script_of input.now) }
         ensures bad_line { (line : ℕ) → result ≡ Err (NotACommand line) → 0 < line }

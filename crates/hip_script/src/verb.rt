@@ -6,7 +6,7 @@ ghost use Rattle.hip_script.specs.Words.{look_up};
 use self::Word::{Byte, Ends, Number, Pattern, Range, Source, Target};
 use hipstr::{End, Side};
 
-/// What a line tells to do.
+/// The verb of a line, which tells what is done.
 #[derive(Clone, Copy)]
 pub(crate) enum Verb {
     New,
@@ -46,7 +46,7 @@ pub(crate) enum Verb {
     Fields,
 }
 
-/// What a word says, or the few words of a pattern and of a way.
+/// The kind of one argument, or of the few words that make a pattern or a way.
 #[derive(Clone, Copy)]
 pub(crate) enum Word {
     /// The slot that is asked or taken from.
@@ -73,7 +73,7 @@ pub(crate) enum Word {
     Ends,
 }
 
-/// What the bytes of a literal are.
+/// The kind of value that the bytes of a literal make.
 #[derive(Clone, Copy)]
 pub(crate) enum Quote {
     /// Just bytes.
@@ -103,25 +103,25 @@ pub(crate) enum Way {
     AsciiWords,
 }
 
-/// What follows the name of a way.
+/// The arguments behind the name of a way.
 #[derive(Clone, Copy)]
 pub(crate) enum Follows {
     /// Nothing.
     Nothing,
     /// A pattern.
     APattern,
-    /// How many pieces there are to be at most, and a pattern.
+    /// The greatest number of pieces, and a pattern.
     CountAndPattern,
 }
 
-/// A name, what it tells to do, and the words that follow it.
+/// A name, its verb, and the kinds of the words that follow it.
 pub(crate) type Row = (&'static str, (Verb, &'static [Word]));
 
 const LITERAL: Word = Word::Quoted(Quote::Bytes);
 
 const SEPARATOR: Word = Word::Quoted(Quote::Char);
 
-/// Every line that there is, by the first letter of its name.
+/// All lines that there are, by the first letters of their names.
 static ROWS: [Row; 34] = [
     ("borrow", (Verb::Borrow, &[Target, LITERAL])),
     ("bytes", (Verb::Bytes, &[Target])),
@@ -200,7 +200,7 @@ pub(crate) fn row_with_name(word: &[u8]) -> Option<(Verb, &'static [Word])>
     named(rows_from(*first), word)
 }
 
-/// What a word is the name of.
+/// The value of a name in a table; `None` where the word is no name in it.
 pub(crate) fn named<T: Copy>(names: &[(&'static str, T)], word: &[u8]) -> Option<T>
     ensures { result ≡ look_up word.now (map (λ e. (e.0.now, e.1)) names.now) }
 {

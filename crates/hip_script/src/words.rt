@@ -16,10 +16,10 @@ use memchr::{memchr, memchr2};
 use std::marker::Model;
 use std::ops::Bound;
 
-/// What is left of a line.
+/// The words of a line that are left.
 #[derive(Drop)]
 pub(crate) struct Words<'l> {
-    /// What begins at the next word; `None` after the last one.
+    /// The rest of the line, from the next word on; `None` after the last word.
     rest: Option<&'l [u8]>,
 }
 
@@ -73,7 +73,7 @@ impl<'l> Words<'l> {
         row_with_name(self.next()?)
     }
 
-    /// What the next word is the name of.
+    /// The value of the next word in a table of names.
     pub(crate) fn one_of<T: Copy>(&mut self, names: &[(&'static str, T)]) -> Option<T>
         ensures { MatchOption result (said_at (λ word. look_up word (map (λ e. (e.0.now, e.1)) names.now)) self.old ≡ None)
             (λ found. said_at (λ word. look_up word (map (λ e. (e.0.now, e.1)) names.now)) self.old ≡ Some (found, self.new)) }
@@ -115,14 +115,14 @@ impl<'l> Words<'l> {
     }
 }
 
-/// Where the first space stands. Words are short, so a look at each byte costs less than a search.
+/// The position of the first space. Words are short, so a look at each byte costs less than a search.
 fn space_at(text: &[u8]) -> Option<usize>
     ensures { IsFirstByte (is_byte 32) text.now result }
 {
     text.iter().position(|byte| *byte == b' ')
 }
 
-/// What stands behind the first `"` of a literal.
+/// The bytes behind the first `"` of a literal; `None` where it doesn't begin with one.
 fn unquoted(text: &[u8]) -> Option<&[u8]>
     ensures { MatchOption result (literal_at (Some text.now) ≡ None)
         (λ rest. literal_at (Some text.now) ≡ option_and_then closed (decoded Plain rest.now)) }
@@ -133,7 +133,7 @@ fn unquoted(text: &[u8]) -> Option<&[u8]>
     }
 }
 
-/// What is left of a line behind the last `"` of a literal.
+/// The rest of a line behind the last `"` of a literal: `Some(None)` at the end of the line, `None` where no space follows.
 fn close(after: &[u8]) -> Option<Option<&[u8]>>
     ensures { (bytes : List ℕ) → MatchOption result (closed (bytes, after.now) ≡ None)
         (λ left. closed (bytes, after.now) ≡ Some (bytes, option_map (λ rest. rest.now) left)) }

@@ -53,7 +53,7 @@ module _ (f : ℕ → ℕ) (low : (b : ℕ) → b < 128 → f b < 128) (high : (
       let mapped = letters spelt.0 spelt.1.0 in
       is_utf8-from_IsUtf8 (map f text) (map f spelt.0, (mapped.0, mapped.1 ∙ ap (map f) spelt.1.1))
 
--- what lies past the letters is kept
+-- a byte past the letters is kept
 past : (p q : Bool) (b other : ℕ) → (q ≡ true → ⊥) → cond p b (cond q other b) ≡ b
 past true q b other not_among = refl
 past false true b other not_among = absurd (not_among refl)

@@ -1,4 +1,4 @@
--- What keeps a text a text, and what shows that one is.
+-- Calls that keep a text UTF-8, and tests that bytes are.
 use Rattle.std.proofs.Common.{◌≡◌, ◌∙◌, ℕ, zero, suc, ◌-◌, ◌≤◌, Bool, true, false, List, [], ◌++◌, length, drop, take, slice_index, slice_range, Result, Ok, Err, OnOk, OnErr, ap, refl, subst, sym, arith}
 use Rattle.std.proofs.lemmas.List.{get_or-drop, length-drop}
 use Rattle.std.proofs.Math.Decide.{dec_le}

@@ -63,7 +63,7 @@ lone-character u c read from = by-place (dec_le 0xE000 u) where
   by-place (yes past) = past
   by-place (no before) = let none : None ≡ Some c = sym (lone-none u from (lt_of_not-le before)) ∙ read in absurd (cc)
 
--- what holds of units and the characters that they spell
+-- units and the characters that they spell: each is a character, and their UTF-16 is the units
 abbrev Encodes : List ℕ → List ℕ → Type 0
 Encodes units cs = All IsCharacter cs × (flat_map encode_utf16 cs ≡ units)
 
@@ -90,7 +90,7 @@ spelled-lone u us (c ∷ cs) small apart spells later =
       flat_map-cons encode_utf16 c cs ∙ ap (λ xs. xs ++ flat_map encode_utf16 cs) (ap encode_utf16 (sym here) ∙ encode-unit u small) ∙ ap (λ xs. u ∷ xs) more.1,
     )
 
--- the same of the first unit and the next, where it holds of fewer
+-- units encode the characters that they spell, by the first unit and the next one, where fewer units do
 spelled-next : (n u : ℕ) (us cs : List ℕ) → ((vs ds : List ℕ) → length vs ≤ n → All IsUnit vs → Spells vs ds → Encodes vs ds)
     → length us ≤ n → All IsUnit (u ∷ us) → Spells (u ∷ us) cs → Pair u (get_or us 0 0) ⊎ (Pair u (get_or us 0 0) → ⊥) → Encodes (u ∷ us) cs
 spelled-next n u us cs fewer fits fit spells (inr apart) =

@@ -1,4 +1,4 @@
--- What a call that reads a text's Borsh form may answer. (The specification at borsh.io: a text's form is that of its bytes in UTF-8.)
+-- The answers of calls that read a text's Borsh form. (The specification at borsh.io: a text's form is that of its bytes in UTF-8.)
 use Rattle.std.specs.Prelude.{ℕ, List, Option, Result, Ok, Err, IsUtf8}
 use Rattle.hip_bytes.specs.Borsh.{BorshReads}
 use Rattle.hip_bytes.specs.Handle.{Handle}

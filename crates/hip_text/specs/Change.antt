@@ -1,4 +1,4 @@
--- What a call that changes a text may answer, where it isn't what the bytes' call answers.
+-- The answers of calls that change a text, where they aren't those of the bytes' calls.
 use Rattle.std.specs.Prelude.{◌≡◌, ℕ, ◌-◌, [], ◌++◌, length, Option, Some, None}
 use Rattle.std.specs.Char.{encode_utf8}
 use Rattle.hip_bytes.specs.Handle.{Handle}

@@ -1,4 +1,4 @@
--- What the faults print.
+-- The messages of the faults.
 use Rattle.std.specs.Prelude.{ℕ, List, ◌++◌, codes}
 use Rattle.std.specs.Fmt.{decimal}
 use Rattle.hip_text.specs.declared.faults.BytesFault.{BytesFault}

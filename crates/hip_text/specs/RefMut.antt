@@ -27,6 +27,6 @@ lender guard = guard.source.ghost_name
 abbrev pub with_string : {S V P : Type 0} → RefMut S V P → V → RefMut S V P
 with_string guard v = record guard { string = v }
 
--- what a `String` is to the logic of loans
+-- the row of a `String` in the logic of loans
 abbrev pub string_row : RattleType
 string_row = string.the_row global.the_row ghosts

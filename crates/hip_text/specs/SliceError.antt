@@ -19,7 +19,7 @@ error_end error = error.end
 abbrev pub error_source : {B S P : Type 0} → SliceError B S P → Handle
 error_source error = error.source.now
 
--- what the error prints, of a text; it ends with the backquote
+-- the message of the error, for a text; it ends with the backquote
 abbrev pub slice_error_text : SliceErrorKind → ℕ → ℕ → List ℕ → List ℕ
 slice_error_text StartGreaterThanEnd start end text =
     codes "range starts at " ++ (decimal start ++ (codes " but ends at " ++ (decimal end ++ (codes " when slicing `" ++ (text ++ codes "`")))))

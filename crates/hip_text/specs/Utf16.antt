@@ -1,4 +1,4 @@
--- What a call that reads units of UTF-16 as a text may answer (Unicode's UTF-16; Rust's `char::decode_utf16`).
+-- The answers of calls that read units of UTF-16 as a text (Unicode's UTF-16; Rust's `char::decode_utf16`).
 use Rattle.std.specs.Prelude.{◌≡◌, ◌↔◌, ◌+◌, ◌<◌, ◌≤◌, ℕ, suc, List, [], ◌∷◌, ◌++◌, map, length, Option, Some, None, Result, Ok, Err, refl}
 use Rattle.std.specs.Char.Escape.{encode_utf16}
 use Rattle.std.specs.Char.Utf16.{utf16_chars}
@@ -27,7 +27,7 @@ IsBehind unit after rest =
 abbrev pub IsUnpaired : ℕ → List ℕ → Type 0
 IsUnpaired unit after = (later : List (Option ℕ)) × (utf16_chars (unit ∷ after) ≡ None ∷ later)
 
--- units that spell characters are made a text of them, by length, or that wanted memory
+-- units that spell characters are made a text of them, by length, or memory was refused
 abbrev pub Utf16Answers : List ℕ → Result Handle Utf16Fault → Type 0
 Utf16Answers units (Ok text) = (cs : List ℕ) × Spells units cs × HoldsByLength text (encode_utf8_all cs)
 Utf16Answers units (Err (Unpaired i)) = IsFirstUnpaired units i

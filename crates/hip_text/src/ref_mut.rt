@@ -22,10 +22,10 @@ pub trait TextSource: Drop {
     /// It holds these bytes, by length.
     ghost has_put: { Self → List ℕ → Type 0 };
 
-    /// How many bytes are copied at most where so many are put.
+    /// The greatest number of bytes that a put of this many copies.
     ghost put_cost: { ℕ → ℕ };
 
-    /// A text of this length may want memory where it is put.
+    /// A put of a text of this length may need memory.
     ghost put_needs_memory: { ℕ → Type 0 };
 
     /// Takes the text out in a `String`, and leaves none. The block that held its vector, if one did, goes with it. After a refusal the

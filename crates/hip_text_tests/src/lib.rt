@@ -7,12 +7,12 @@
 //!
 //! Of whole texts:
 //!
-//! - `text`: what the tests ask of texts, of their bytes and of the error of bytes that aren't one, each call by its own name.
-//! - `hip_str`: a text of any backend is that; `faults`: why a call gave no part of one.
-//! - `support`: what ends a test, and what several files assert.
+//! - `text`: the calls that the tests make on texts, on their bytes and on the error of bytes that aren't one, each by its own name.
+//! - `hip_str`: these calls for any backend; `faults`: why a call gave no part of a text.
+//! - `support`: the ends of a test, and the assertions of several files.
 //! - `suite`: the files below, run on each backend.
 //! - `makers`: makers, conversions, pushes, `pop`, case, comparisons and guards.
-//! - `carried`: what hipstr's own tests ask, and worked cases.
+//! - `carried`: hipstr's own tests, and worked cases.
 //! - `decoding`: bytes that are UTF-8, that aren't, and their repair.
 //! - `made`: joins and repetitions, and texts of units of UTF-16.
 //! - `errors`: ranges that are refused, and bytes that aren't a text.

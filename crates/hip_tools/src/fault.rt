@@ -67,7 +67,7 @@ impl<T: Drop> From<AllocFailed<T>> for ToolFault {
     }
 }
 
-/// What is written fails, and nothing that is read by then.
+/// An error of `io` is one of writing: where the text is read, its error is told as [`ToolFault::ReadFailed`] or [`ToolFault::Memory`].
 impl From<io::Error> for ToolFault {
     fn from(_: io::Error) -> Self {
         ToolFault::WriteFailed

@@ -1,6 +1,6 @@
 //! `hip_tools TOOL ..` reads a text from standard input and writes what the tool makes of it; [`tool::USAGE`] lists the tools.
 //!
-//! What the tools do is in `hip_uses`: tokens, tables, templates and an interner of words.
+//! `hip_uses` does the tools' work: tokens, tables, templates and an interner of words.
 #![tactic(auto)]
 
 mod count;

@@ -1,4 +1,4 @@
-//! What each tool writes.
+//! The output of each tool.
 use crate::count::Words;
 use crate::fault::ToolFault;
 use crate::tool::Tool;
@@ -110,7 +110,7 @@ fn drawn<S: RandomSource>(random: &S) -> Result<RandomState, ToolFault> {
     RandomState::new(random).map_err(|_| ToolFault::NoRandomness)
 }
 
-/// What the words `NAME=VALUE` give.
+/// The values that the arguments `NAME=VALUE` set.
 fn values_of<'a>(
     state: RandomState,
     alloc: Global,

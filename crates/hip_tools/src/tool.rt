@@ -13,7 +13,7 @@ pub(crate) enum Tool<'a> {
     Tokens,
     /// The column's name.
     Table(&'a str),
-    /// What is given as `NAME=VALUE`.
+    /// The arguments `NAME=VALUE`.
     Fill(&'a [String]),
     Count,
 }

@@ -1,4 +1,4 @@
--- What an interned text changes of the numbers.
+-- The numbers once one more text is interned.
 use Rattle.std.proofs.Common.{◌≡◌, ◌∙◌, ℕ, ◌+◌, ◌<◌, ◌≤◌, Bool, true, false, nat_eq, List, [], ◌∷◌, ◌++◌, Option, None, Some, length, map, get_or, ap, sym, subst, refl, arith, ⊎_elim, length-append}
 use Rattle.std.proofs.lemmas.Bool.{cases_lt}
 use Rattle.std.proofs.lemmas.Option.{get_or_from_slice_get, slice_get-get_or, slice_get-map, slice_get_within}
@@ -11,7 +11,7 @@ use Rattle.std.specs.Borrow.{Bor}
 use Rattle.hipstr.specs.Handle.{Handle}
 use Rattle.std.specs.Cmp.Lexicographic.{pointwise}
 use Rattle.std.proofs.lemmas.Slice.Eq.{bytes_eq-Decides}
-use Rattle.hip_uses.specs.Number.{StandOnce, bytes_of, number_from, number_of}
+use Rattle.hip_uses.specs.Number.{StandOnce, text_bytes, number_from, number_of}
 
 -- the first of two numbers that there is
 abbrev pub or_number : Option ℕ → Option ℕ → Option ℕ
@@ -73,13 +73,13 @@ StandOnce-push word ts none once = λ number text found.
 
 -- the texts and the numbers agree again when a new text stands at the end and its copy has the next number
 pub agree-added : (kept reserved pushed : List Handle) (texts : List (List ℕ)) (text copy : Handle) (number : ℕ) (before after : Handle → Option ℕ)
-    → pushed ≡ reserved ++ text ∷ [] → reserved ≡ kept → map bytes_of kept ≡ texts → number ≡ length texts → number_of text.items texts ≡ None → copy.items ≡ text.items
-    → StandOnce (map bytes_of kept) × ((key : Handle) → before key ≡ number_of key.items (map bytes_of kept))
+    → pushed ≡ reserved ++ text ∷ [] → reserved ≡ kept → map text_bytes kept ≡ texts → number ≡ length texts → number_of text.items texts ≡ None → copy.items ≡ text.items
+    → StandOnce (map text_bytes kept) × ((key : Handle) → before key ≡ number_of key.items (map text_bytes kept))
     → ((key : Handle) → after key ≡ cond (pointwise nat_eq copy.items key.items) (Some number) (before key))
-    → StandOnce (map bytes_of pushed) × ((key : Handle) → after key ≡ number_of key.items (map bytes_of pushed))
+    → StandOnce (map text_bytes pushed) × ((key : Handle) → after key ≡ number_of key.items (map text_bytes pushed))
 agree-added kept reserved pushed texts text copy number before after pushed_is same are next none copy_is agree updates =
-    let now : map bytes_of pushed ≡ texts ++ text.items ∷ [] =
-    ap (map bytes_of) (pushed_is ∙ ap (λ l. l ++ text ∷ []) same) ∙ map-append bytes_of kept (text ∷ []) ∙ ap (λ l. l ++ text.items ∷ []) are in (
+    let now : map text_bytes pushed ≡ texts ++ text.items ∷ [] =
+    ap (map text_bytes) (pushed_is ∙ ap (λ l. l ++ text ∷ []) same) ∙ map-append text_bytes kept (text ∷ []) ∙ ap (λ l. l ++ text.items ∷ []) are in (
       subst StandOnce (sym now) (StandOnce-push text.items texts none (subst StandOnce are agree.0)),
       λ key. updates key
           ∙ ap (λ o. cond (pointwise nat_eq copy.items key.items) (Some number) o) (agree.1 key ∙ ap (number_of key.items) are)
@@ -89,7 +89,7 @@ agree-added kept reserved pushed texts text copy number before after pushed_is s
 
 -- the text of a number, where no text stands twice
 pub text-numbered : (Q : Bor Handle → Type 0) (result : Option (Bor Handle)) (items : List Handle) (texts : List (List ℕ)) (number : ℕ) → IfSome result (λ text. text.now ≡ get_or items number text.now)
-    → MatchOption result (length items ≤ number) (λ text. (number < length items) × Q text) → map bytes_of items ≡ texts → StandOnce texts → IfSome result (λ text. number_of text.now.items texts ≡ Some number)
+    → MatchOption result (length items ≤ number) (λ text. (number < length items) × Q text) → map text_bytes items ≡ texts → StandOnce texts → IfSome result (λ text. number_of text.now.items texts ≡ Some number)
 text-numbered Q None items texts number is within are once = tt
 text-numbered Q (Some text) items texts number is within are once =
-    once number text.now.items (ap (λ l. slice_get l number) (sym are) ∙ slice_get-map bytes_of items number ∙ ap (option_map bytes_of) (slice_get-get_or items number text.now within.0 ∙ ap Some (sym is)))
+    once number text.now.items (ap (λ l. slice_get l number) (sym are) ∙ slice_get-map text_bytes items number ∙ ap (option_map text_bytes) (slice_get-get_or items number text.now within.0 ∙ ap Some (sym is)))

@@ -10,13 +10,13 @@ use Rattle.std.proofs.lemmas.Str.{IsCharBoundary-after_ascii, IsCharBoundary-bef
 use Rattle.hip_uses.specs.declared.tokens.Class.{Class}
 use Rattle.hip_uses.specs.declared.tokens.Class.TheVariants.{Word}
 use Rattle.hip_uses.specs.declared.tokens.Token.{Token}
-use Rattle.hip_uses.specs.Token.{bytes_of, class_of}
+use Rattle.hip_uses.specs.Token.{token_bytes, class_of}
 
 pub within_more : (P : ℕ → Type 0) (start end : ℕ) → ((k : ℕ) → start ≤ k → k < end → P k) → P end → (k : ℕ) → start ≤ k → k < end + 1 → P k
 within_more P start end before here k low high =
     ⊎_elim (λ (lt : k < end). before k low lt) (λ (ge : end ≤ k). let same : end ≡ k = omega arith in subst P same here) (cases_lt k end)
 
--- what isn't ASCII belongs to a word
+-- a byte that isn't ASCII belongs to a word
 high_byte : (byte : ℕ) → 128 ≤ byte → class_of byte ≡ Word
 high_byte byte high = grind arith
 
@@ -47,6 +47,6 @@ length-range t start end le fits = length-take-le (end - start) (drop start t) (
 
 -- one token more
 pub joined-more : {B S P : Type 0} (bytes : List ℕ) (tokens more : List (Token B S P)) (token : Token B S P) (start end : ℕ) → more ≡ tokens ++ token ∷ []
-    → flat_map bytes_of tokens ≡ take start bytes → token.text.items ≡ slice_range bytes start end → start ≤ end → flat_map bytes_of more ≡ take end bytes
+    → flat_map token_bytes tokens ≡ take start bytes → token.text.items ≡ slice_range bytes start end → start ≤ end → flat_map token_bytes more ≡ take end bytes
 joined-more bytes tokens more token start end pushed joined is le =
-    ap (flat_map bytes_of) pushed ∙ sym (flat_map_more bytes_of [] tokens token) ∙ (λ i. joined i ++ is i) ∙ take-range bytes start end le
+    ap (flat_map token_bytes) pushed ∙ sym (flat_map_more token_bytes [] tokens token) ∙ (λ i. joined i ++ is i) ∙ take-range bytes start end le

@@ -1,4 +1,4 @@
--- What is read of a table.
+-- Tables that are read.
 use Rattle.std.proofs.Common.{◌≡◌, ◌≢◌, ◌∙◌, ℕ, ◌+◌, ◌<◌, ◌≤◌, List, [], ◌∷◌, Option, Some, None, Result, Ok, inr, length, map, get_or, vec_len, ap, sym, subst, refl, arith, ⊎_elim}
 use Rattle.std.specs.Option.{option_map}
 use Rattle.std.specs.Prelude.{All, IfOk, MatchOption, Vec, slice_get}
@@ -7,8 +7,8 @@ use Rattle.std.proofs.lemmas.List.{get_or-map, length-map}
 use Rattle.std.proofs.lemmas.Option.{same_Some, slice_get-get_or, slice_get-map, slice_get_past, slice_get_read}
 use Rattle.std.specs.declared.alloc.Global.{Global}
 use Rattle.hipstr.specs.Handle.{Handle}
-use Rattle.hip_fields.specs.Records.{AreFields, AreRecords, FirstRecord, RecordsLeft}
-use Rattle.hip_uses.specs.Cells.{Cells, HasCell, HasCellAt, HasNoCell, HasNoCellAt, IsFirstAt, IsRagged, Texts, texts_of}
+use Rattle.hip_fields.specs.Records.{AreFields, AreRecords, FirstRecord, RecordsLeft, Texts}
+use Rattle.hip_uses.specs.Cells.{Cells, HasCell, HasCellAt, HasNoCell, HasNoCellAt, IsFirstAt, IsRagged, texts_of}
 
 -- the bytes of the fields of a record
 abbrev pub row_of : Vec Handle Global → Texts
@@ -33,7 +33,7 @@ pub at-rows : (rows : List (Vec Handle Global)) (k : ℕ) (row : Vec Handle Glob
 at-rows rows k row within is =
     slice_get-map row_of rows k ∙ ap (option_map row_of) (slice_get_read rows (length rows) k row refl within is)
 
--- what stands at a place lies within
+-- a text at a place lies within the list
 pub within-texts : (texts : Texts) (k : ℕ) (text : List ℕ) → slice_get texts k ≡ Some text → k < length texts
 within-texts texts k text at =
     ⊎_elim (λ (lt : k < length texts). lt) (λ (ge : length texts ≤ k). let none : slice_get texts k ≡ None = slice_get_past texts k ge in absurd cc) (cases_lt k (length texts))

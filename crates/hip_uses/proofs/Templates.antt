@@ -13,20 +13,20 @@ use Rattle.std.specs.Option.{option_map_or}
 use Rattle.hipstr.specs.Join.{joined}
 use Rattle.hipstr.specs.Handle.{Handle}
 use Rattle.hip_uses.proofs.Pushed.{All-more}
-use Rattle.hip_uses.specs.Number.{bytes_of, same_text}
+use Rattle.hip_uses.specs.Number.{text_bytes, same_text}
 use Rattle.hip_uses.specs.Template.{AllKnown, all_shown, FillFails, CutsHole, HoleFails, IsParsed, IsUnknown, ParseFails, closing, filled, hole_written, opening, hole_pieces, value_in, value_of, value_with, woven, written}
 use Rattle.hip_uses.specs.declared.template.Hole.{Hole}
 use Rattle.hip_uses.specs.declared.fault.TemplateFault.{TemplateFault}
 use Rattle.hip_uses.specs.declared.fault.TemplateFault.TheVariants.{Unclosed, Unknown, Memory}
 
 -- a value that was found
-value-is : (value : List ℕ) (o : Option Handle) → Some value ≡ option_map bytes_of o → value ≡ option_map_or bytes_of o []
+value-is : (value : List ℕ) (o : Option Handle) → Some value ≡ option_map text_bytes o → value ≡ option_map_or text_bytes o []
 value-is value None is = absurd cc
 value-is value (Some handle) is = cc
 
 -- the pieces of one hole more
 pub woven-more : {B S P : Type 0} (values : List (Handle × Handle)) (holes : List (Hole B S P)) (i : ℕ) (hole : Hole B S P) (before value : Bor (List ℕ)) (pieces middle more : List (Bor (List ℕ)))
-    → i < length holes → hole ≡ get_or holes i hole → before.now ≡ hole.before.items → Some value.now ≡ option_map bytes_of (value_of values hole.name.items)
+    → i < length holes → hole ≡ get_or holes i hole → before.now ≡ hole.before.items → Some value.now ≡ option_map text_bytes (value_of values hole.name.items)
     → all_shown pieces ≡ woven values (take i holes) → middle ≡ pieces ++ before ∷ [] → more ≡ middle ++ value ∷ []
     → all_shown more ≡ woven values (take (i + 1) holes)
 woven-more values holes i hole before value pieces middle more low here shown is so_far pushed pushed_too =
@@ -59,25 +59,25 @@ pieces-count values holes pieces are =
 -- the value of an earlier hole of this name
 pub value-again : {B S P : Type 0} (values : List (Handle × Handle)) (holes : List (Hole B S P)) (i : ℕ) (hole : Hole B S P) (pieces : List (Bor (List ℕ))) (d : Bor (List ℕ)) (name : List ℕ)
     → i < length holes → hole ≡ get_or holes i hole → all_shown pieces ≡ woven values holes → AllKnown values holes → hole.name.items ≡ name
-    → Some (get_or pieces (2 * i + 1) d).now ≡ option_map bytes_of (value_of values name)
+    → Some (get_or pieces (2 * i + 1) d).now ≡ option_map text_bytes (value_of values name)
 value-again {B} {S} {P} values holes i hole pieces d name low here all known same =
     let Now : Bor (List ℕ) → List ℕ = λ text. text.now in
     let within : 2 * i + 1 < length pieces = omega (arith, low, pieces-count values holes pieces all) in
     let shown : (get_or pieces (2 * i + 1) d).now ≡ value_in values hole =
     sym (get_or-map Now pieces (2 * i + 1) d [] within) ∙ ap (λ (l : List (List ℕ)). get_or l (2 * i + 1) []) all ∙ woven-at values holes i hole low here in
     let some : IsSome (value_of values hole.name.items) = subst (λ (h : Hole B S P). IsSome (value_of values h.name.items)) (sym here) (known i hole low) in
-    ap (λ (v : List ℕ). Some v) shown ∙ there (value_of values hole.name.items) some ∙ ap (λ (n : List ℕ). option_map bytes_of (value_of values n)) same
+    ap (λ (v : List ℕ). Some v) shown ∙ there (value_of values hole.name.items) some ∙ ap (λ (n : List ℕ). option_map text_bytes (value_of values n)) same
   where
-    there : (o : Option Handle) → IsSome o → Some (option_map_or bytes_of o []) ≡ option_map bytes_of o
+    there : (o : Option Handle) → IsSome o → Some (option_map_or text_bytes o []) ≡ option_map text_bytes o
     there None some = absurd (false≢true some)
     there (Some handle) some = refl
 
--- what was found, and what wasn't
-pub some-known : (value : List ℕ) (o : Option Handle) → Some value ≡ option_map bytes_of o → IsSome o
+-- a name that has a value is known, and one that has none isn't
+pub some-known : (value : List ℕ) (o : Option Handle) → Some value ≡ option_map text_bytes o → IsSome o
 some-known value None is = absurd cc
 some-known value (Some handle) is = refl
 
-pub none-known : (o : Option Handle) → None ≡ option_map bytes_of o → o ≡ None
+pub none-known : (o : Option Handle) → None ≡ option_map text_bytes o → o ≡ None
 none-known None is = refl
 none-known (Some handle) is = absurd cc
 
@@ -128,7 +128,7 @@ pub handed_on : {T F : Type 0} (P : F → Type 0) (result : Result T F) (fault :
 handed_on P (Ok value) fault handed holds = absurd handed
 handed_on P (Err e) fault handed holds = subst P (sym handed) holds
 
--- what a map gives, by its value
+-- a map's answer, by its value
 pub by-value : (result : Option (Bor Handle)) (found : Option Handle) → option_copied result ≡ found → MatchOption result (found ≡ None) (λ value. found ≡ Some value.now)
 by-value None found is = sym is
 by-value (Some value) found is = sym is
@@ -145,7 +145,7 @@ set-more (Ok done) before after old name value is updated =
       either false other = refl
 set-more (Err error) before after old name value is refused = tt
 
--- what follows the first hole is shorter
+-- the text behind the first hole is shorter
 pub hole-shorter : {B S P : Type 0} (text : List ℕ) (hole : Hole B S P) (after : List ℕ) → CutsHole text hole after → length after < length text
 hole-shorter text hole after cut =
     let behind = cut.0 in
@@ -171,7 +171,7 @@ written-more template rest holes more hole after so_far cut pushed =
     ap (λ l. l ++ after) (ap written pushed ∙ sym (flat_map_more hole_written [] holes hole)) ∙ append_assoc (written holes) (hole_written hole) after
     ∙ ap (λ l. written holes ++ l) (hole-and-after rest hole after cut) ∙ so_far
 
--- what the rest is parsed to, behind one hole more
+-- a template is parsed as its rest is, behind one hole more
 pub parsed-more : {B S P : Type 0} (template rest : List ℕ) (holes more : List (Hole B S P)) (hole : Hole B S P) (after : List ℕ)
     → ((later : List (Hole B S P)) (last : List ℕ) → IsParsed rest later last → IsParsed template (holes ++ later) last)
     → CutsHole rest hole after → more ≡ holes ++ hole ∷ []
@@ -180,7 +180,7 @@ parsed-more {B} {S} {P} template rest holes more hole after so_far cut pushed la
     subst (λ (l : List (Hole B S P)). IsParsed template l last) (sym (ap (λ l. l ++ later) pushed ∙ append_assoc holes (hole ∷ []) later))
     (so_far (hole ∷ later) last (cut.0, after, cut.1, cut.2, parsed))
 
--- what can't be cut of the end of a template can't be cut of it
+-- where the end of a template can't be parsed, neither can the template
 pub fails-more : {B S P : Type 0} (front rest template : List ℕ) (fault : TemplateFault B S P) → front ++ rest ≡ template → ParseFails rest fault → ParseFails template fault
 fails-more front rest template (Unclosed text) whole fails =
     (front ++ fails.0, sym whole ∙ ap (λ l. front ++ l) fails.1 ∙ sym (append_assoc front fails.0 (opening ++ text.items)), fails.2)

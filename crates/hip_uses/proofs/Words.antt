@@ -35,7 +35,7 @@ interned-last texts (first ∷ words) word = interned-last (interned texts first
 take-more : (first texts : List (List ℕ)) (text : List ℕ) → take (length first) texts ≡ first → take (length first) (texts ++ text ∷ []) ≡ first
 take-more first texts text is = take-append-le (length first) texts (text ∷ []) (omega (arith, ap length is, length-take (length first) texts)) ∙ is
 
--- what came first stays first
+-- the first texts stay first
 pub kept-interned : (first texts : List (List ℕ)) (text : List ℕ) → take (length first) texts ≡ first → take (length first) (interned texts text) ≡ first
 kept-interned first texts text is = by_new (number_of text texts) where
   by_new : (new : Option ℕ) → take (length first) (interned_from new texts text) ≡ first
@@ -66,7 +66,7 @@ numbered-all old now all numbers so_far =
     let whole : so_far.done ≡ all = sym (append-nil so_far.done) ∙ so_far.whole in
     (subst (λ l. AreNumbers now l numbers) whole so_far.are, so_far.texts ∙ ap (all_interned old) whole)
 
--- what is to come where a part is a word, and where it is none
+-- the words still to come where a part is a word, and where it is none
 word-first : (long : ℕ) (bytes : List ℕ) (words : List (List ℕ)) → 0 < long → 0 < length bytes → with_filled (take long bytes) words ≡ take long bytes ∷ words
 word-first zero bytes words some filled = absurd (omega arith)
 word-first (suc long) [] words some filled = absurd (omega arith)

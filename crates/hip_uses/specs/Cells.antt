@@ -1,11 +1,9 @@
--- What a table is: the bytes of its header and of its rows.
+-- A table: the bytes of its header and of its rows.
 use Rattle.std.specs.Prelude.{◌≡◌, ◌≢◌, ◌⊎◌, ℕ, ◌+◌, ◌<◌, ◌≤◌, List, [], ◌∷◌, length, map, slice_get, Some}
 use Rattle.hipstr.specs.Handle.{Handle}
+use Rattle.hip_fields.specs.Records.{Texts}
 use Rattle.hip_uses.specs.declared.fault.TableFault.{TableFault}
 use Rattle.hip_uses.specs.declared.fault.TableFault.TheVariants.{Empty, Ragged, Memory}
-
-abbrev pub Texts : Type 0
-Texts = List (List ℕ)
 
 pub record Cells : Type 0 where
   pub header : Texts

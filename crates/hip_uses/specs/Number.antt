@@ -4,8 +4,8 @@ use Rattle.std.specs.List.{AllZip}
 use Rattle.std.specs.Cmp.Lexicographic.{pointwise}
 use Rattle.hipstr.specs.Handle.{Handle}
 
-abbrev pub bytes_of : Handle → List ℕ
-bytes_of text = text.items
+abbrev pub text_bytes : Handle → List ℕ
+text_bytes text = text.items
 
 -- whether two handles are the same text, of whichever kind
 abbrev pub same_text : Handle → Handle → Bool
@@ -31,7 +31,7 @@ interned texts text = interned_from (number_of text texts) texts text
 abbrev pub StandOnce : List (List ℕ) → Type 0
 StandOnce texts = (number : ℕ) (text : List ℕ) → slice_get texts number ≡ Some text → number_of text texts ≡ Some number
 
--- with these too, one after another
+-- the texts once these too are interned, one after another
 abbrev pub all_interned : List (List ℕ) → List (List ℕ) → List (List ℕ)
 all_interned texts [] = texts
 all_interned texts (word ∷ words) = all_interned (interned texts word) words

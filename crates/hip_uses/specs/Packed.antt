@@ -1,4 +1,4 @@
--- What a hasher of texts feeds the hasher below it.
+-- The numbers that a hasher of texts feeds the hasher below it.
 use Rattle.std.specs.Prelude.{ℕ, ◌-◌, ◌*◌, ◌%◌, ◌^◌, bit_or, Bool, ◌&&◌, ◌==◌, List, [], ◌∷◌, length, if◌then◌else◌, nat_lt, slice_index, fold}
 use Rattle.std.specs.Hash as feeding
 use Rattle.std.specs.Hash.FoldHasher as folding

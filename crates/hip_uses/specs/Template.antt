@@ -1,4 +1,4 @@
--- What a template is, as it is written and as it is filled.
+-- A template, as it is written and as it is filled.
 use Rattle.std.specs.Prelude.{◌≡◌, ℕ, ◌+◌, ◌<◌, ◌≤◌, nat_eq, List, [], ◌∷◌, ◌++◌, length, slice_index, Option, None, Some, Result, Ok, Err, IsSome, MatchOption, All, codes, map, if◌then◌else◌}
 use Rattle.std.specs.List.{flat_map}
 use Rattle.std.specs.Map.{lookup}
@@ -7,7 +7,7 @@ use Rattle.std.specs.Option.{option_map_or}
 use Rattle.std.specs.Cmp.Lexicographic.{pointwise}
 use Rattle.hipstr.specs.Handle.{Handle}
 use Rattle.hipstr.specs.Parted.{IsParted, Lacks}
-use Rattle.hip_uses.specs.Number.{bytes_of}
+use Rattle.hip_uses.specs.Number.{text_bytes}
 use Rattle.hip_uses.specs.declared.template.Hole.{Hole}
 use Rattle.hip_uses.specs.declared.fault.TemplateFault.{TemplateFault}
 use Rattle.hip_uses.specs.declared.fault.TemplateFault.TheVariants.{Unclosed, Unknown, Memory}
@@ -32,25 +32,25 @@ hole_written hole = hole.before.items ++ (opening ++ (hole.name.items ++ closing
 abbrev pub written : {B S P : Type 0} → List (Hole B S P) → List ℕ
 written holes = flat_map hole_written holes
 
--- what goes under a name
+-- the value under a name
 abbrev pub value_of : List (Handle × Handle) → List ℕ → Option Handle
 value_of values name = lookup (λ key. pointwise nat_eq name key.items) values
 
--- what goes under a name once this value goes under that one
+-- the value under a name once another value is set
 abbrev pub value_with : List (Handle × Handle) → List ℕ → Handle → List ℕ → Option Handle
 value_with values name value other = if pointwise nat_eq name other then Some value else value_of values other
 
 -- a hole that is filled, with what lies before it
 abbrev pub hole_filled : {B S P : Type 0} → List (Handle × Handle) → Hole B S P → List ℕ
-hole_filled values hole = hole.before.items ++ option_map_or bytes_of (value_of values hole.name.items) []
+hole_filled values hole = hole.before.items ++ option_map_or text_bytes (value_of values hole.name.items) []
 
 -- the bytes of lent texts, one by one
 abbrev pub all_shown : List (Bor (List ℕ)) → List (List ℕ)
 all_shown texts = map (λ text. text.now) texts
 
--- the bytes of what goes into a hole
+-- the bytes of a hole's value
 abbrev pub value_in : {B S P : Type 0} → List (Handle × Handle) → Hole B S P → List ℕ
-value_in values hole = option_map_or bytes_of (value_of values hole.name.items) []
+value_in values hole = option_map_or text_bytes (value_of values hole.name.items) []
 
 -- the text before a hole, and its value
 abbrev pub hole_pieces : {B S P : Type 0} → List (Handle × Handle) → Hole B S P → List (List ℕ)
@@ -63,7 +63,7 @@ woven values holes = flat_map (hole_pieces values) holes
 abbrev pub filled : {B S P : Type 0} → List (Handle × Handle) → List (Hole B S P) → List ℕ
 filled values holes = flat_map (hole_filled values) holes
 
--- something goes under each name
+-- each name has a value
 abbrev pub AllKnown : {B S P : Type 0} → List (Handle × Handle) → List (Hole B S P) → Type 0
 AllKnown values holes = All (λ hole. IsSome (value_of values hole.name.items)) holes
 
@@ -109,19 +109,19 @@ abbrev pub CutsHole : {B S P : Type 0} → List ℕ → Hole B S P → List ℕ 
 CutsHole text hole after =
     (behind : List ℕ) × IsParted opening text hole.before.items behind × IsParted closing behind hole.name.items after
 
--- the name is told, or want of memory
+-- the fault tells this name, or that memory was refused
 abbrev pub IsUnknown : {B S P : Type 0} → List ℕ → TemplateFault B S P → Type 0
 IsUnknown name (Unclosed text) = ⊥
 IsUnknown name (Unknown unknown) = unknown.items ≡ name
 IsUnknown name Memory = Unit {0}
 
--- the hole has this name, and nothing goes under it
+-- the hole has this name, which has no value
 abbrev pub HoleFails : {B S P : Type 0} → List (Handle × Handle) → Hole B S P → TemplateFault B S P → Type 0
 HoleFails values hole (Unclosed text) = ⊥
 HoleFails values hole (Unknown name) = (value_of values name.items ≡ None) × (hole.name.items ≡ name.items)
 HoleFails values hole Memory = Unit {0}
 
--- the first hole that can't be filled has this name, and nothing goes under it
+-- the first hole that can't be filled has this name, which has no value
 abbrev pub FillFails : {B S P : Type 0} → List (Handle × Handle) → List (Hole B S P) → TemplateFault B S P → Type 0
 FillFails values holes (Unclosed text) = ⊥
 FillFails {B} {S} {P} values holes (Unknown name) =

@@ -1,4 +1,4 @@
--- What a token is of its source.
+-- A token as a part of its source.
 use Rattle.std.specs.Prelude.{◌≡◌, ◌≢◌, ℕ, ◌+◌, ◌<◌, ◌≤◌, ◌==◌, ◌||◌, nat_le, Bool, List, length, slice_index, slice_range, if◌then◌else◌}
 use Rattle.std.specs.Char.{is_ascii_alphabetic, is_ascii_digit, is_ascii_whitespace}
 use Rattle.hipstr.specs.Handle.{Handle}
@@ -27,8 +27,8 @@ pub record IsRun (bytes : List ℕ) (class : Class) (start end : ℕ) : Type 0 w
   pub one_class : (k : ℕ) → start ≤ k → k < end → class_of (slice_index bytes k) ≡ class
   pub longest : end < length bytes → class_of (slice_index bytes end) ≢ class
 
-abbrev pub bytes_of : {B S P : Type 0} → Token B S P → List ℕ
-bytes_of token = token.text.items
+abbrev pub token_bytes : {B S P : Type 0} → Token B S P → List ℕ
+token_bytes token = token.text.items
 
 abbrev pub end_of : {B S P : Type 0} → Token B S P → ℕ
 end_of token = token.start + length token.text.items

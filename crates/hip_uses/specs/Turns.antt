@@ -7,15 +7,15 @@ use Rattle.hip_uses.specs.Token.{class_of}
 abbrev pub IsTurn : List ℕ → ℕ → Type 0
 IsTurn text k = class_of (slice_index text k) ≢ class_of (slice_index text (k + 1))
 
--- of the same
+-- the byte at k is of the same class as the next
 abbrev pub NoTurnAt : List ℕ → ℕ → Type 0
 NoTurnAt text k = class_of (slice_index text k) ≡ class_of (slice_index text (k + 1))
 
--- what a bit says of a place
+-- a bit tells whether a place is a turn
 abbrev pub Tells : List ℕ → ℕ → ℕ → Type 0
 Tells text k bit = (bit ≡ 0 → NoTurnAt text k) × (bit ≡ 1 → IsTurn text k)
 
--- each bit says so of a place from `at` on
+-- each bit tells whether a place from `at` on is a turn
 abbrev pub AreTurns : List ℕ → ℕ → ℕ → Type 0
 AreTurns text at turns = (k : ℕ) → k < 63 → Tells text (at + k) (bit_at turns k)
 

@@ -1,4 +1,4 @@
--- What a queue is seen as: the bytes of the messages that wait, and how many may.
+-- A queue as contracts see it: the bytes of the messages that wait, and how many may.
 use Rattle.std.specs.Prelude.{◌≡◌, ℕ, ◌<◌, List, [], ◌∷◌, ◌++◌, length, map}
 use Rattle.hipstr.specs.Handle.{Handle}
 
@@ -6,8 +6,8 @@ pub record Waiting : Type 0 where
   pub messages : List (List ℕ)
   pub limit : ℕ
 
-abbrev pub bytes_of : Handle → List ℕ
-bytes_of message = message.items
+abbrev pub message_bytes : Handle → List ℕ
+message_bytes message = message.items
 
 abbrev pub IsFull : Waiting → Type 0
 IsFull queue = length queue.messages ≡ queue.limit
@@ -19,6 +19,6 @@ HasRoom queue = length queue.messages < queue.limit
 abbrev pub with_message : List ℕ → Waiting → Waiting
 with_message message queue = record { messages = queue.messages ++ message ∷ []; limit = queue.limit }
 
--- each of the queues with it
+-- each of the queues with the message at its end
 abbrev pub all_with : List ℕ → List Waiting → List Waiting
 all_with message queues = map (with_message message) queues

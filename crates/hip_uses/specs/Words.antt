@@ -17,6 +17,6 @@ abbrev pub filled_parts : List ℕ → List (ℕ × ℕ) → List (List ℕ)
 filled_parts text [] = []
 filled_parts text (range ∷ ranges) = with_filled (slice_range text range.0 range.1) (filled_parts text ranges)
 
--- those between the occurrences of a pattern
+-- the parts between the occurrences of a pattern that aren't empty
 abbrev pub parts_between : (List ℕ → ℕ → Option ℕ) → List ℕ → List (List ℕ)
 parts_between ends text = filled_parts text (split (ends text) (length text))

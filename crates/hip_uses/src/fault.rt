@@ -126,7 +126,7 @@ impl<'b, B: Backend, T: Drop> From<AllocFailed<T>> for TemplateFault<'b, B> {
     }
 }
 
-/// A filled template that is longer than any text is told as want of memory.
+/// A filled template that is longer than any text is reported as [`TemplateFault::Memory`].
 impl<'b, B: Backend> From<GrowFault> for TemplateFault<'b, B> {
     ghost from_gives = { λ _ fault. fault ≡ template_memory };
 

@@ -30,15 +30,15 @@ impl<'b, B: Backend, S: BuildHasher> Model for Interner<'b, B, S> {
     ghost use Rattle.std.specs.Prelude.{◌≡◌, ℕ, List, map};
     ghost use Rattle.std.specs.HashMap.{get};
     ghost use Rattle.hipstr.specs.Handle.{Handle};
-    ghost use Rattle.hip_uses.specs.Number.{bytes_of, number_of, same_text, StandOnce};
+    ghost use Rattle.hip_uses.specs.Number.{text_bytes, number_of, same_text, StandOnce};
 
     ghost Value = { List (List ℕ) };
 
-    ghost view = { λ interner. map bytes_of interner.texts.items };
+    ghost view = { λ interner. map text_bytes interner.texts.items };
 
-    ghost invariant = { λ interner. StandOnce (map bytes_of interner.texts.items)
+    ghost invariant = { λ interner. StandOnce (map text_bytes interner.texts.items)
         × ((key : Handle) → get same_text interner.numbers key
-        ≡ number_of key.items (map bytes_of interner.texts.items)) };
+        ≡ number_of key.items (map text_bytes interner.texts.items)) };
 }
 
 impl<'b, B: Backend> Interner<'b, B> {
@@ -61,7 +61,7 @@ impl<'b, B: Backend, S: BuildHasher> Interner<'b, B, S> {
         }
     }
 
-    /// How many different texts there are.
+    /// The number of different texts.
     pub fn len(&self) -> usize
         ensures { result ≡ length self.now }
     {

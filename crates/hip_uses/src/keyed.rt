@@ -17,7 +17,7 @@ pub(crate) fn found<'m, K: Hash + Eq, V, S: BuildHasher>(
     map.get(key)
 }
 
-/// Puts a value under a key. Only a new key may want memory.
+/// Puts a value under a key. Only a new key may allocate.
 pub(crate) fn put<K: Hash + Eq + Drop, V: Drop, S: BuildHasher>(
     map: &mut HashMap<K, V, S>,
     key: K,

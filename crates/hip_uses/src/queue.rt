@@ -14,7 +14,7 @@ use std::alloc::{AllocError, Global};
 use std::collections::VecDeque;
 use std::marker::Model;
 
-/// The messages that one subscriber has still to receive: at most so many, with room for all of them.
+/// The messages that one subscriber has still to receive: at most a number that is fixed, with room for all of them.
 #[derive(Drop)]
 pub struct Queue<'b, B: Backend> {
     messages: VecDeque<HipByt<'b, B>>,
@@ -24,19 +24,19 @@ pub struct Queue<'b, B: Backend> {
 impl<'b, B: Backend> Model for Queue<'b, B> {
     ghost use Rattle.std.specs.Prelude.{◌≤◌, length, map};
     ghost use Rattle.std.specs.VecDeque.{deque_capacity};
-    ghost use Rattle.hip_uses.specs.Waiting.{Waiting, bytes_of};
+    ghost use Rattle.hip_uses.specs.Waiting.{Waiting, message_bytes};
 
     ghost Value = { Waiting };
 
     ghost view = { λ queue.
-        record { messages = map bytes_of queue.messages.items; limit = queue.limit } };
+        record { messages = map message_bytes queue.messages.items; limit = queue.limit } };
 
     ghost invariant = { λ queue. (length queue.messages.items ≤ queue.limit)
         × (queue.limit ≤ deque_capacity queue.messages) };
 }
 
 impl<'b, B: Backend> Queue<'b, B> {
-    /// A queue of at most so many messages.
+    /// A queue of at most `limit` messages.
     pub fn new(alloc: Global, limit: usize) -> Result<Self, AllocError>
         ensures { IfOk result (λ queue. queue ≡ record { messages = []; limit = limit }) }
     {

@@ -56,7 +56,7 @@ impl<'b, B: Backend> Table<'b, B> {
         Ok(Table { header, rows })
     }
 
-    /// How many rows there are below the header.
+    /// The number of rows below the header.
     pub fn len(&self) -> usize
         ensures { result ≡ length self.now.rows }
     {

@@ -30,7 +30,7 @@ pub struct Template<'b, B: Backend> {
     pub holes: Vec<Hole<'b, B>>,
     /// The text behind the last hole.
     pub rest: HipStr<'b, B>,
-    /// For each hole the place of one before it of its name, or its own, as it was parsed.
+    /// For each hole the position of an earlier hole with its name, or its own, as the template was made.
     earlier_places: Vec<usize>,
 }
 

@@ -4,7 +4,7 @@ ghost use Rattle.std.specs.Prelude.{All, IfOk, IsTrue};
 ghost use Rattle.std.specs.List.{flat_map};
 ghost use Rattle.std.specs.Str.{IsCharBoundary};
 ghost use Rattle.hipstr.specs.Meter.{RisesAtMost};
-ghost use Rattle.hip_uses.specs.Token.{IsRun, IsTokenOf, bytes_of, class_of};
+ghost use Rattle.hip_uses.specs.Token.{IsRun, IsTokenOf, token_bytes, class_of};
 ghost use Rattle.hip_uses.specs.Turns.{Ahead};
 
 use crate::tokens::turns::Turns;
@@ -105,7 +105,7 @@ pub fn tokens<'b, B: Backend>(
     source: &HipStr<'b, B>,
     meter: &mut Meter,
 ) -> Result<Vec<Token<'b, B>>, AllocError>
-    ensures joined { IfOk result (λ tokens. flat_map bytes_of tokens.items ≡ source.now.items) }
+    ensures joined { IfOk result (λ tokens. flat_map token_bytes tokens.items ≡ source.now.items) }
     ensures each { IfOk result (λ tokens. All (IsTokenOf source.now) tokens.items) }
     ensures shared { B.SHARES ≡ true → IfOk result (λ tokens.
         RisesAtMost meter.old meter.new (23 * length tokens.items)) }

@@ -1,4 +1,4 @@
-//! Walks over the ranges of a text, for a driver that measures them beside those of Rust's `str` (bench/walks.rs).
+//! The benchmark of hip_match: walks over the ranges of a text, which bench/walks.rs measures beside those of Rust's `str`.
 //!
 //! Each function makes the same walk `rounds` times and answers the sum of the lengths of its ranges, one more for each. A C caller
 //! passes a text as a pointer and a length. Where it isn't UTF-8, or the pattern lacks a character, the answer is 0.
@@ -28,7 +28,7 @@ fn drained<R: Ranges + Drop>(mut ranges: R) -> u64
     sum
 }
 
-/// The same from the back.
+/// Like [`drained`], from the back.
 #[inline(never)]
 fn drained_back<R: RangesBack + Drop>(mut ranges: R) -> u64
     requires { R.ready ranges }

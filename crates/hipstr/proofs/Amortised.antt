@@ -40,7 +40,7 @@ pub unchanged-paid : (pushed : Option ℕ) (old new : List SlotState) (before af
 unchanged-paid None old new before after same counted = tt
 unchanged-paid (Some n) old new before after same counted = omega (arith, ap pots same, counted)
 
--- what a step adds to the amortised cost pays for what it copies and for the pots that it leaves
+-- a step's addition to the amortised cost pays for the bytes that it copies and for the pots that it leaves
 pub step-paid : (shares : Bool) (old new : List SlotState) (command : Command) (before after cost : ℕ) → shares ≡ false
     → PushesArePaid shares old command new before after → Costs shares old command cost → RisesAtMost before after cost
     → (amortised : ℕ) × CostsAmortised shares old command new amortised × (after + pots new ≤ before + pots old + amortised)

@@ -58,7 +58,7 @@ slot-step shares {old} {new} {t} {was} {slot} at command fault Needs is_text P r
           subst (λ (reason : Reason). Step shares old command (Refused reason) new) (sym answers.0)
           (faulted shares old new command first (is ∙ ap (λ (none : Option Reason). option_or none (Some first)) there) (as-it-was old new t slot at.put answers.1))
 
--- what a refused Mutate leaves of a slot, by its fault
+-- a slot after a refused Mutate, by its fault
 abbrev AfterRefusal : SlotState → SlotState → Reason → Option Reason → Type 0
 AfterRefusal old new reason fault =
     MatchOption fault ((reason ≡ Memory) × (new.is_text ≡ old.is_text) × IsHalfMutated old.handle new.handle) (λ first. (reason ≡ first) × (new ≡ old))

@@ -34,7 +34,7 @@ pub length-next : (slots : List SlotState) (first i : ℕ) (sep shown : List ℕ
 length-next slots first i sep shown len gap more mid total within so_far is_gap is_slot is_more to_mid to_total =
     omega (arith, length-joined_slots-next slots first i sep within, ap length is_slot)
 
--- and that it is no longer than the whole
+-- the next item's end lies within the whole
 pub next-fits : (slots : List SlotState) (first i count : ℕ) (sep shown : List ℕ) (len gap more : ℕ)
     → first + count ≤ length slots → i < count → len ≡ length (joined_slots slots first i sep) → gap ≡ length (gap_at i sep) → shown ≡ (slot_at slots (first + i)).items
     → more ≡ length shown → (len + gap) + more ≤ length (joined_slots slots first count sep)
@@ -45,7 +45,7 @@ next-fits slots first i count sep shown len gap more within before so_far is_gap
       length-joined_slots-within slots first (i + 1) count sep (omega arith),
     )
 
--- nor is what stands before the slot
+-- the gap before the item lies within the whole
 pub gap-fits : (slots : List SlotState) (first i count : ℕ) (sep : List ℕ) (len gap : ℕ)
     → first + count ≤ length slots → i < count → len ≡ length (joined_slots slots first i sep) → gap ≡ length (gap_at i sep)
     → len + gap ≤ length (joined_slots slots first count sep)
@@ -59,7 +59,7 @@ joined-pieces slots first count sep pieces shown is same =
     ap (joined sep) is ∙ joined-map (λ (piece : Bor (List ℕ)). piece.now) sep pieces ∙ ap (join_by (λ piece. piece) sep) same
     ∙ sym (joined-map items_of sep (take count (drop first slots)))
 
--- what a join that answers so holds, and when it is too long
+-- an answer of a join holds its items, and tells when they are too long
 pub join-holds : (items : List ℕ) (result : Result Handle GrowFault) → JoinAnswers items result → IfOk result (λ handle. HoldsByLength handle items)
 join-holds items (Ok handle) answers = answers.0
 join-holds items (Err fault) answers = tt

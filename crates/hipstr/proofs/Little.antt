@@ -15,14 +15,14 @@ use Rattle.hipstr.specs.declared.command.Command.{Command}
 use Rattle.hipstr.specs.declared.command.Command.TheVariants.{Clone, Slice, Trim, TrimMatches, Strip, Pieces, Once}
 use Rattle.hipstr.specs.declared.command.Reason.{Reason}
 
--- of one part and of one clone
+-- one part and one clone cost at most 23 bytes
 pub one_part : (shares : Bool) → shares ≡ true → (kind : Kind) (len : ℕ) → cut_cost shares kind len ≤ 23
 one_part shares shared kind len = subst (λ (b : Bool). cut_cost b kind len ≤ 23) (sym shared) (shared_part_is_little kind len)
 
 pub one_clone : (shares : Bool) → shares ≡ true → (kind : Kind) (len : ℕ) → clone_cost shares kind len ≤ 23
 one_clone shares shared kind len = subst (λ (b : Bool). clone_cost b kind len ≤ 23) (sym shared) (shared_clone_is_little kind len)
 
--- what is little stays so where there is a fault, for which nothing is copied
+-- a cost that is little stays so where there is a fault, for which nothing is copied
 unless-refused : (source : Handle) (count : ℕ) (allowed : Bool) (copied cost : ℕ) → IsLittle source count copied → cost ≡ (if allowed then copied else 0) → IsLittle source count cost
 unless-refused source count true copied cost little is = record { at_most = omega (arith, little.at_most, is); lent = λ lent. is ∙ little.lent lent }
 unless-refused source count false copied cost little is = record { at_most = omega (arith, is); lent = λ lent. is }
@@ -30,7 +30,7 @@ unless-refused source count false copied cost little is = record { at_most = ome
 clone-little : (source : Handle) (len : ℕ) → IsLittle source 1 (clone_cost true source.kind len)
 clone-little source len = record { at_most = omega (arith, shared_clone_is_little source.kind len); lent = λ lent. ap (λ (kind : Kind). clone_cost true kind len) lent }
 
--- what is made at most where there is something to make
+-- a strip costs little, whether there is something to strip or not
 strip-little : (source : Handle) (range : Option (ℕ × ℕ)) → IsLittle source 1 (option_cost (part_cost true source) range)
 strip-little source None = record { at_most = omega arith; lent = λ lent. refl }
 strip-little source (Some range) = part-little source (range.1 - range.0)

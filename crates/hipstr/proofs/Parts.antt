@@ -74,7 +74,7 @@ needs-append : (kind : Kind) (drawn : List (ℕ × ℕ)) (range : ℕ × ℕ) (m
 needs-append kind [] range more needs = inl needs
 needs-append kind (first ∷ drawn) range more needs = inr (needs-append kind drawn range more needs)
 
--- what was drawn of all, what is to come, and what that was
+-- the ranges that were drawn of all, and those still to come
 pub record SoFar (shares : Bool) (source : Handle) (all to_come : List (ℕ × ℕ)) (count : ℕ) (slots : List SlotState) (before after : ℕ) : Type 0 where
   pub drawn : List (ℕ × ℕ)
   pub count_is : count ≡ length drawn
@@ -181,7 +181,7 @@ drop-next default (part ∷ parts) (suc i) within = drop-next default parts i (o
 next-is : (i : ℕ) → suc i ≡ i + 1
 next-is i = omega arith
 
--- the same, where a loop counts on
+-- like `empties-next`, where a loop counts on
 pub empties-on : (slots : List SlotState) (i : ℕ) (slot : SlotState) → i < length slots → slot ≡ empty_slot → take i slots ≡ replicate i empty_slot
     → take (i + 1) (slice_set slots i slot) ≡ replicate (i + 1) empty_slot
 empties-on slots i slot within is so_far = subst (λ n. take n (slice_set slots i slot) ≡ replicate n empty_slot) (next-is i) (empties-next slots i slot within is so_far)
@@ -267,7 +267,7 @@ draw-within [] (end ∷ script) = omega arith
 draw-within (range ∷ ranges) (Front ∷ script) = omega (arith, draw-within ranges script)
 draw-within (range ∷ ranges) (Back ∷ script) = omega (arith, draw-within (but_last range ranges) script)
 
--- what is put, of the text in a slot
+-- the pieces of the text in a slot are put
 pub pieces-put : (slots spare new : List SlotState) (text : Handle) (s first count : ℕ) (ranges : Handle → List (ℕ × ℕ))
     → text ≡ slot_at slots s → count ≡ length (ranges text) → HoldParts text (ranges text) spare → first + count ≤ length slots → new ≡ put_all slots first (take count spare)
     → (count ≡ length (ranges (slot_at slots s))) × PutsParts (slot_at slots s) slots first (ranges (slot_at slots s)) new

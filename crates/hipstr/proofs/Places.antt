@@ -22,7 +22,7 @@ use Rattle.hipstr.specs.declared.pool.Slot.{Slot}
 -- a place that is written with what it holds stays as it is
 pub ruleset in_place = (common_steps, texts, map-set, get_or-map, length-map, set-get_or)
 
--- what the pool's list of states is when a slot is put, or changed where it stands
+-- the pool's list of states when a slot is put, or changed where it stands
 pub put-is : {B S P : Type 0} (items : List (Slot B S P)) (slots : List SlotState) (t : ℕ) (slot : Slot B S P) → map state_of items ≡ slots
     → map state_of (slice_set items t slot) ≡ slice_set slots t (state_of slot)
 put-is items slots t slot is = map-set state_of items t slot ∙ ap (λ l. slice_set l t (state_of slot)) is
@@ -39,7 +39,7 @@ pub placed : (old new : List SlotState) (t : ℕ) (is_text : Bool) (handle : Han
     → t < length old → new ≡ slice_set old t (record { is_text = is_text; handle = handle }) → P handle → Replaces old new t is_text P
 placed old new t is_text handle P within put p = replaced old new t (record { is_text = is_text; handle = handle }) is_text P within put refl p
 
--- what a trim of the source left, and was put
+-- a trim of the source was put
 pub trimmed-put : (old new : List SlotState) (t : ℕ) (text source left : Handle) (P : Handle → ℕ × ℕ → Type 0)
     → t < length old → text ≡ source → (range : ℕ × ℕ) × P text range × IsPartAt text range left → new ≡ slice_set old t (record { is_text = true; handle = left })
     → (range : ℕ × ℕ) × P source range × Replaces old new t true (IsPartAt source range)

@@ -1,4 +1,4 @@
--- What is walked over has the pieces of the way to take a text apart, and as many ends.
+-- The walk of a way to take a text apart has that way's pieces, and as many ends.
 use Rattle.std.proofs.Common.{◌≡◌, ℕ, List, refl}
 use Rattle.hipstr.specs.Cut.{has_one_end, pieces_of}
 use Rattle.hipstr.specs.Ways.{pieces_walked, walked_of, walks_one_way}

@@ -21,7 +21,7 @@ rises old [] = 0
 rises [] (after ∷ new) = handle_pot after.handle + rises [] new
 rises (before ∷ old) (after ∷ new) = (handle_pot after.handle - handle_pot before.handle) + rises old new
 
--- how many bytes a command adds to an allocated slot by a push, if that is what it does
+-- the number of bytes that a push adds to an allocated slot; `None` for any other command
 abbrev pub added_to : Kind → ℕ → Option ℕ
 added_to Inline added = None
 added_to Borrowed added = None
@@ -31,13 +31,14 @@ abbrev pub pushed_onto_owner : List SlotState → Command → Option ℕ
 pushed_onto_owner slots (Push t bytes) = added_to (slot_at slots t).kind (length bytes.now)
 pushed_onto_owner slots command = None
 
--- such a push, for which the meter goes from `before` to `after`: what it copies, and the pots that it leaves, are paid by the pots
--- that there were and three times the addition
+-- a push onto an allocated slot, for which the meter goes from `before` to `after`: what it copies, and the pots that it leaves, are paid
+-- by the pots that there were and three times the addition
 abbrev pub PushesArePaid : Bool → List SlotState → Command → List SlotState → ℕ → ℕ → Type 0
 PushesArePaid shares old command new before after =
     shares ≡ false → MatchOption (pushed_onto_owner old command) (Unit {0}) (λ added. after + pots new ≤ before + pots old + 3 * added)
 
--- what a step adds to the amortised cost: such a push three times its addition, any other command its cost and what the pots rise by
+-- a step's addition to the amortised cost: such a push three times the bytes that it adds, any other command its cost and what the pots
+-- rise by
 abbrev pub CostsAmortised : Bool → List SlotState → Command → List SlotState → ℕ → Type 0
 CostsAmortised shares old command new amortised =
     MatchOption (pushed_onto_owner old command) ((cost : ℕ) × Costs shares old command cost × (amortised ≡ cost + rises old new)) (λ added. amortised ≡ 3 * added)

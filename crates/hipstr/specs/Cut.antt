@@ -71,7 +71,7 @@ pieces_of Lines text = lines text
 pieces_of Words text = split_whitespace text
 pieces_of AsciiWords text = split_ascii_whitespace text
 
--- pieces that come from the front alone: those by a text, and so many at most
+-- pieces that come from the front alone: those by a text, and those of a number at most
 abbrev pub is_text : Pat → Bool
 is_text (Text pattern) = true
 is_text (Char c) = false
@@ -100,7 +100,7 @@ PutsParts source old first [] new = new ≡ old
 PutsParts source old first (range ∷ ranges) new =
     (between : List SlotState) × Replaces old between first true (IsPartAt source range) × PutsParts source between (first + 1) ranges new
 
--- a part at one of these ranges may want memory
+-- a part at one of these ranges may need memory
 abbrev pub SomeNeedsMemory : Kind → List (ℕ × ℕ) → Type 0
 SomeNeedsMemory kind [] = ⊥
 SomeNeedsMemory kind (range ∷ ranges) = CutNeedsMemory kind (range.1 - range.0) ⊎ SomeNeedsMemory kind ranges

@@ -7,7 +7,7 @@ use Rattle.hipstr.specs.Step.{drawn_of}
 use Rattle.hipstr.specs.declared.command.Command.{Command}
 use Rattle.hipstr.specs.declared.command.Command.TheVariants.{Clone, Slice, Trim, TrimMatches, Strip, Pieces, Once}
 
--- what a command makes parts of, and how many: a clone, a slice, a trim and a strip make one
+-- the handle that a command makes parts of, and the number of parts: a clone, a slice, a trim and a strip make one
 abbrev pub parts_made : List SlotState → Command → Option (Handle × ℕ)
 parts_made slots (Clone s t) = Some (slot_at slots s, 1)
 parts_made slots (Slice s t low high) = Some (slot_at slots s, 1)
@@ -16,9 +16,9 @@ parts_made slots (TrimMatches s t side pattern) = Some (slot_at slots s, 1)
 parts_made slots (Strip s t end pattern) = Some (slot_at slots s, 1)
 parts_made slots (Once s t u end pattern) = Some (slot_at slots s, 2)
 parts_made slots (Pieces s how script first) = Some (slot_at slots s, length (drawn_of slots s how script.now))
--- no other makes any
+-- no other command makes parts
 parts_made slots command = None
 
--- such a cost is little
+-- the parts that a command makes copy little
 abbrev pub CopiesLittle : List SlotState → Command → ℕ → Type 0
 CopiesLittle slots command cost = MatchOption (parts_made slots command) (Unit {0}) (λ made. IsLittle made.0 made.1 cost)

@@ -20,17 +20,17 @@ HoldParts source [] slots = slots ≡ replicate (length slots) empty_slot
 HoldParts source (range ∷ ranges) [] = ⊥
 HoldParts source (range ∷ ranges) (slot ∷ slots) = (slot.is_text ≡ true) × IsPartAt source range slot.handle × HoldParts source ranges slots
 
--- what a call that makes parts in empty slots answers: their number, or that one is refused, and then the slots are as they were
+-- the answer of a call that makes parts in empty slots: their number, or that one is refused, and then the slots are as they were
 abbrev pub PartsAnswer : {E : Type 0} → Handle → List (ℕ × ℕ) → List SlotState → Result ℕ E → List SlotState → Type 0
 PartsAnswer source ranges old (Ok count) new = (count ≡ length ranges) × HoldParts source ranges new
 PartsAnswer source ranges old (Err error) new = SomeNeedsMemory source.kind ranges × (new ≡ old)
 
--- the same within the cost of these parts
+-- like `PartsAnswer`, within the cost of these parts
 pub record MakesParts {E : Type 0} (shares : Bool) (source : Handle) (ranges : List (ℕ × ℕ)) (old : List SlotState) (result : Result ℕ E) (new : List SlotState) (before after : ℕ) : Type 0 where
   pub made : PartsAnswer source ranges old result new
   pub counted : RisesAtMost before after (parts_cost shares source ranges)
 
--- what draws one: the part at the range that this end draws of the ranges that were left, within that part's cost
+-- a draw of one part: at the range that this end draws of the ranges that were left, within that part's cost
 abbrev pub DrawsPart : {E : Type 0} → Bool → End → Left → Option (Result Handle E) → Left → ℕ → ℕ → Type 0
 DrawsPart shares end old None new before after = (old.rest ≡ []) × (after ≡ before)
 DrawsPart shares end old (Some part) new before after =

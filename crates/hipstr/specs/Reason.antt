@@ -1,4 +1,4 @@
--- What the faults of the calls are as reasons.
+-- The reasons that the faults of calls are told as.
 use Rattle.std.specs.Prelude.{Result, Ok, Err}
 use Rattle.hip_bytes.specs.SliceError.{error_kind as bytes_error_kind}
 use Rattle.hip_bytes.specs.declared.grow_fault.GrowFault.{GrowFault}

@@ -7,7 +7,7 @@ use Rattle.hip_bytes.specs.declared.kind.TheConstants.{INLINE_CAPACITY}
 use Rattle.hipstr.specs.declared.pool.Slot.{Slot}
 use Rattle.hipstr.specs.declared.pool.Slot.TheVariants.{Bytes, Text}
 
--- what a slot of a pool is to the machine
+-- a slot of a pool, as the machine sees it
 pub record SlotState : Type 0 where
   pub is_text : Bool
   pub handle : Handle
@@ -24,7 +24,7 @@ empty_slot = record { is_text = false; handle = record { kind = Inline; items = 
 abbrev pub state_at : List SlotState → ℕ → SlotState
 state_at slots i = slice_index_or slots i empty_slot
 
--- its handle, and whether it is a text
+-- the handle of the slot at a position, and whether it is a text
 abbrev pub slot_at : List SlotState → ℕ → Handle
 slot_at slots i = (state_at slots i).handle
 

@@ -45,8 +45,8 @@ abbrev pub slot_fault : List SlotState → ℕ → Option Reason
 slot_fault slots i = if nat_lt i (length slots) then None else Some NoSlot
 
 -- a range that the slot doesn't have, which for a text has to begin and end at boundaries
-abbrev pub range_fault : List SlotState → ℕ → Bound ℕ → Bound ℕ → Option Reason
-range_fault slots s low high =
+abbrev pub slot_range_fault : List SlotState → ℕ → Bound ℕ → Bound ℕ → Option Reason
+slot_range_fault slots s low high =
     if text_at slots s
     then option_map text_reason_of (text_slice_fault low high (slot_at slots s).items)
     else option_map reason_of (slice_fault low high (length (slot_at slots s).items))
@@ -92,7 +92,7 @@ slots_fault slots first count = if nat_le (first + count) (length slots) then No
 abbrev pub overlap_fault : ℕ → ℕ → ℕ → Option Reason
 overlap_fault s first count = if nat_le first s && nat_lt s (first + count) then Some Overlap else None
 
--- what comes from one end alone
+-- the fault of asking the other end of pieces that come from one end alone
 abbrev pub one_end_fault : Bool → Option Reason
 one_end_fault is_asked = if is_asked then Some OneEnd else None
 
@@ -130,7 +130,7 @@ fault_of slots (Copy t bytes) = slot_fault slots t
 fault_of slots (Room t capacity) = slot_fault slots t
 fault_of slots (Clone s t) = option_or (slot_fault slots s) (slot_fault slots t)
 fault_of slots (Slice s t low high) =
-    option_or (slot_fault slots s) (option_or (slot_fault slots t) (range_fault slots s low high))
+    option_or (slot_fault slots s) (option_or (slot_fault slots t) (slot_range_fault slots s low high))
 fault_of slots (Push t bytes) = option_or (slot_fault slots t) (addition_fault (state_at slots t) bytes.now)
 fault_of slots (Pop t) = slot_fault slots t
 fault_of slots (Truncate t n) = option_or (slot_fault slots t) (end_fault (state_at slots t) n)
@@ -166,7 +166,7 @@ fault_of slots (Len t) = slot_fault slots t
 fault_of slots (Kind t) = slot_fault slots t
 fault_of slots (Capacity t) = slot_fault slots t
 
--- a command without a fault may be refused for want of memory
+-- a command without a fault may be refused for lack of memory
 abbrev pub MayNeedMemory : Bool → List SlotState → Command → Type 0
 MayNeedMemory shares slots (Copy t bytes) = INLINE_CAPACITY < length bytes.now
 MayNeedMemory shares slots (Room t capacity) = INLINE_CAPACITY < capacity
@@ -267,7 +267,7 @@ Step shares old command answer new =
     MatchOption (fault_of old command) (Performs shares old command answer new) (λ reason. (answer ≡ Refused reason) × (new ≡ old))
 
 -- A call on one slot may answer this, and go on from the old slot to the new: its fault; or that it is done, and then the slot is a text or
--- bytes, of whose handle P holds; or want of memory where it may want some. Where it is refused the slot is as it was.
+-- bytes, of whose handle P holds; or that memory was refused, where it may need some. Where it is refused the slot is as it was.
 abbrev pub SlotAnswers : Option Reason → Type 0 → Bool → (Handle → Type 0) → SlotState → Result Answer Reason → SlotState → Type 0
 SlotAnswers fault Needs is_text P old (Ok answer) new = (fault ≡ None) × (answer ≡ Done) × (new.is_text ≡ is_text) × P new.handle
 SlotAnswers fault Needs is_text P old (Err reason) new = MatchOption fault ((reason ≡ Memory) × Needs) (λ first. reason ≡ first) × (new ≡ old)
@@ -289,16 +289,16 @@ SlotPops old (Char c) new = (old.is_text ≡ true) × (new.is_text ≡ true) × 
 SlotPops old Nothing new = (old.handle.items ≡ []) × (new ≡ old)
 SlotPops old answer new = ⊥
 
--- what is made at most where there is something to make
+-- the cost of something that there may be
 abbrev pub option_cost : {A : Type 0} → (A → ℕ) → Option A → ℕ
 option_cost cost None = 0
 option_cost cost (Some a) = cost a
 
--- what a Mutate copies at most: all bytes out of the slot, and in again
+-- the bytes that a Mutate copies at most: all out of the slot, and in again
 abbrev pub mutate_cost : Bool → ℕ → ℕ → ℕ
 mutate_cost shares len added = len + (if shares then INLINE_CAPACITY else len + added)
 
--- how many bytes a command without a fault copies at most. What a trim copies, `Costs` says
+-- the greatest number of bytes that a command without a fault copies, but for a trim, of which `Costs` tells
 abbrev pub copies_of : Bool → List SlotState → Command → ℕ
 copies_of shares slots (Inline t bytes) = length bytes.now
 copies_of shares slots (Copy t bytes) = times_copied shares (length bytes.now)
@@ -323,15 +323,15 @@ copies_of shares slots (Once s t u end pattern) =
 -- any other copies none
 copies_of shares slots command = 0
 
--- what is copied unless there is a fault, and then none
+-- the bytes that are copied, none where there is a fault
 abbrev pub unless : Option Reason → ℕ → ℕ
 unless fault copied = if is_none fault then copied else 0
 
--- the cost of a command: how many bytes it copies at most; one with a fault copies none
+-- the cost of a command: the greatest number of bytes that it copies; one with a fault copies none
 abbrev pub cost_of : Bool → List SlotState → Command → ℕ
 cost_of shares slots command = unless (fault_of slots command) (copies_of shares slots command)
 
--- so many bytes does a command copy at most: a trim as many as the part that it leaves, any other its cost
+-- the bytes that a command copies at most: a trim as many as the part that it leaves has, any other its cost
 abbrev pub Costs : Bool → List SlotState → Command → ℕ → Type 0
 Costs shares slots (Trim s t side) cost =
     MatchOption (fault_of slots (Trim s t side))

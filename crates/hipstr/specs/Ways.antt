@@ -24,7 +24,7 @@ pieces_by RTerminator ends n = rsplit_terminator ends n
 pieces_by (RSplitN count) ends n = rsplitn count ends n
 pieces_by RMatches ends n = rightmost ends n
 
--- so many pieces at most, which come from the front alone
+-- pieces of a number at most, which come from the front alone
 abbrev pub is_counted : Way → Bool
 is_counted (SplitN count) = true
 is_counted (RSplitN count) = true
@@ -33,7 +33,7 @@ is_counted way = false
 abbrev pub goes_one_way : Way → Pat → Bool
 goes_one_way way pattern = is_counted way || is_text pattern
 
--- what a way to take a text apart walks over, the pieces there, and whether they come from the front alone
+-- the walk of a way to take a text apart, its pieces, and whether they come from the front alone
 abbrev pub walked_of : How → Walked
 walked_of (how_split pattern) = By Split pattern
 walked_of (how_inclusive pattern) = By Inclusive pattern

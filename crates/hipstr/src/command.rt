@@ -37,7 +37,7 @@ pub enum How<'b> {
     Inclusive(Pat<'b>),
     /// Into the parts between, without the last where that is empty.
     Terminator(Pat<'b>),
-    /// Into so many parts at most.
+    /// Into at most this many parts.
     SplitN(usize, Pat<'b>),
     /// Into the occurrences.
     Matches(Pat<'b>),
@@ -45,7 +45,7 @@ pub enum How<'b> {
     RSplit(Pat<'b>),
     /// Into the parts between, from the end, without the first where that is empty.
     RTerminator(Pat<'b>),
-    /// Into so many parts at most, from the end.
+    /// Into at most this many parts, from the end.
     RSplitN(usize, Pat<'b>),
     /// Into the occurrences, from the end.
     RMatches(Pat<'b>),
@@ -78,9 +78,9 @@ pub enum Command<'b> {
     Push(usize, &'b [u8]),
     /// The slot's last byte, or a text's last character, is taken off, and answered.
     Pop(usize),
-    /// The slot keeps its first items, as many as are told.
+    /// The slot keeps its first items, up to this number.
     Truncate(usize, usize),
-    /// The slot lets go of its items.
+    /// The slot's items are removed.
     Clear(usize),
     /// The slot gives room back, down to so many bytes.
     Shrink(usize, usize),
@@ -104,7 +104,7 @@ pub enum Command<'b> {
     Bytes(usize),
     /// The second slot becomes the text of the first, without white space at these ends.
     Trim(usize, usize, Side),
-    /// The second slot becomes the text of the first, without what occurs again and again at these ends.
+    /// The second slot becomes the text of the first, without the pattern's occurrences at these ends, one after another.
     TrimMatches(usize, usize, Side, Pat<'b>),
     /// The second slot becomes the text of the first without one occurrence at that end, if there is one.
     Strip(usize, usize, End, Pat<'b>),
@@ -120,7 +120,7 @@ pub enum Command<'b> {
     Len(usize),
     /// Where the slot's bytes lie.
     Kind(usize),
-    /// How many bytes the slot can hold where they lie.
+    /// The number of bytes that the slot can hold where they lie.
     Capacity(usize),
 }
 
@@ -133,7 +133,7 @@ pub enum Answer {
     Nothing,
     /// The number that was asked for.
     Number(usize),
-    /// How the first stands to the second.
+    /// The order of the first and the second.
     Order(Ordering),
     /// The byte that was taken off.
     Byte(u8),

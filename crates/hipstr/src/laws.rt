@@ -13,10 +13,10 @@ pub use hip_cuts::laws::{
     split_once_parts_at_the_first,
 };
 
-/// Where owners are shared, a clone, a slice, a trim or a strip costs at most the 23 bytes that a handle holds itself, whatever its
-/// source holds; a text that is parted in two that for each of its parts, and pieces for each that is drawn; and each of them nothing
-/// where the source is borrowed. With the contract of [`run`](crate::run), whose meter rises by no more than these costs, that is what a
-/// list of commands copies.
+/// Where owners are shared, a clone, a slice, a trim or a strip costs at most the 23 bytes that a handle holds itself, whatever its source
+/// holds. A text that is parted in two costs that for each part, and pieces cost it for each that is drawn. Where the source is borrowed,
+/// each of them costs nothing. By the contract of [`run`](crate::run), whose meter rises by no more than these costs, a list of commands
+/// copies no more.
 #[tactic(auto, using(crate::proofs::Little::copies_little))]
 pub fn parts_copy_little(command: Command<'_>)
     ensures { (slots : List SlotState) (cost : ℕ) → Costs true slots command.entry cost

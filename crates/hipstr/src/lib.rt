@@ -5,17 +5,18 @@
 //! are those of a machine that keeps one plain list for each handle, so that no write through one handle shows in another, and
 //! that no more bytes are copied than the run costs.
 //!
-//! [`bytes`] has the byte strings themselves, [`HipByt`](bytes::HipByt) generic in the [`Backend`]: owners are shared on [`Rc`],
-//! and not on [`Unique`]. [`string`] has the texts, [`HipStr`](string::HipStr): byte strings that are UTF-8, with the
-//! calls that take them apart, and [`pattern`] what these look for and the iterators that pieces come from. [`os_string`] has the OS strings, [`HipOsStr`](os_string::HipOsStr), which needn't be UTF-8, and [`path`] the
-//! paths, [`HipPath`](path::HipPath), which are compared by their components. Anyone may implement [`Backend`]; the names that this takes,
-//! and the three representations of a byte string ([`Inline`], [`Borrowed`], [`Allocated`]), are handed on here.
+//! [`bytes`] has the byte strings themselves, [`HipByt`](bytes::HipByt) generic in the [`Backend`]: owners are shared on [`Rc`], and not on
+//! [`Unique`]. [`string`] has the texts, [`HipStr`](string::HipStr): byte strings that are UTF-8, with the calls that take them apart, and
+//! [`pattern`] the patterns of these calls and the iterators that pieces come from. [`os_string`] has the OS strings,
+//! [`HipOsStr`](os_string::HipOsStr), which needn't be UTF-8, and [`path`] the paths, [`HipPath`](path::HipPath), which are compared by
+//! their components. Anyone may implement [`Backend`]; the names that this takes, and the three representations of a byte string
+//! ([`Inline`], [`Borrowed`], [`Allocated`]), are handed on here.
 //!
 //! Byte strings and texts are written to a [`ByteSink`] and read from a [`ByteSource`] in the form of Borsh; these, and their
 //! implementors, stand here. All four types are made JSON values of the crate serde_json, and made of them.
 //!
-//! What the clauses of `run` say in words is defined in `specs/`: `Slot` (the machine's state), `Step` (one command: its fault, its
-//! answer, what it leaves, its cost) and `Run` (many commands).
+//! The words of `run`'s clauses are defined in `specs/`: `Slot` (the machine's state), `Step` (one command: its fault, its answer, what it
+//! leaves, its cost) and `Run` (many commands).
 #![tactic(auto)]
 
 pub mod bits;

@@ -80,8 +80,8 @@ impl<'b, B: Backend> Pool<'b, B> {
 
 /// Performs the commands in their order, and gives the answer to each.
 ///
-/// A refused command doesn't end the run. Room for all answers is taken first: `Err` says that it couldn't be had, and then pool and
-/// meter are as they were.
+/// A refused command doesn't end the run. Room for all answers is reserved first: `Err` says that it was refused, and then pool and meter
+/// are as they were.
 pub fn run<'b, B: Backend>(
     alloc: Global,
     pool: &mut Pool<'b, B>,

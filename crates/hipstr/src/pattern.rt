@@ -1,7 +1,8 @@
 //! Patterns that are looked for in a text, and the iterators that its pieces come from.
 //!
 //! A [`Pattern`] is a text, a character, a set of characters, of ASCII ([`AsciiSet`]) or of any, or a closure over characters
-//! ([`CharPred`]); a [`ReversePattern`] is looked for from the end too. [`OneChar`] and [`DoubleEndedPattern`] say of which patterns pieces are drawn, and trims are made, at both ends.
+//! ([`CharPred`]); a [`ReversePattern`] is looked for from the end too. [`OneChar`] and [`DoubleEndedPattern`] say of which patterns pieces
+//! are drawn, and trims are made, at both ends.
 //!
 //! An iterator goes over the [`Ranges`] of a text, from both ends where it is one of [`RangesBack`], and gives the same ranges again where
 //! it is one of [`CloneRanges`], as it is by a [`ClonePattern`]. It is the last parameter of an

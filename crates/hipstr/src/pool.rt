@@ -78,7 +78,7 @@ impl<'b, B: Backend> Slot<'b, B> {
         }
     }
 
-    /// How many bytes the slot can hold where they lie.
+    /// The number of bytes that the slot can hold where they lie.
     #[inline]
     pub fn capacity(&self) -> usize
         ensures capacity { result ≡ (state_of self.now).handle.capacity }
@@ -94,7 +94,7 @@ impl<'b, B: Backend> Slot<'b, B> {
 #[derive(Drop)]
 pub struct Pool<'b, B: Backend> {
     pub(crate) slots: Vec<Slot<'b, B>>,
-    // As many, in which pieces are made before they go to their slots. Between two commands all are empty.
+    // As many spare slots, in which pieces are made before they go to their own. Between two commands all are empty.
     pub(crate) spare: Vec<Slot<'b, B>>,
 }
 
@@ -121,7 +121,7 @@ impl<'b, B: Backend> Pool<'b, B> {
         })
     }
 
-    /// How many slots there are.
+    /// The number of slots.
     #[inline]
     pub fn len(&self) -> usize
         ensures { result ≡ length self.now }

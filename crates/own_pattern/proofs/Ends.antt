@@ -66,7 +66,7 @@ module _ (table : TruthTable) (t : List ℕ) (utf8 : IsUtf8 t) where
       (λ (ge : b ≤ at). let here : at - 1 ≡ a = omega (arith, one) in absurd (none-some b (sym none ∙ ap ends here ∙ is)))
       (cases_lt at b)
 
-  -- and at last none ends before
+  -- at the start of the text none ends before
   pub none_before : (to at : ℕ) → at ≤ 0 → ((a b : ℕ) → ends a ≡ Some b → at < b → to < b) → (a b : ℕ) → ends a ≡ Some b → to < b
   none_before to at first last a b is = let one = one_byte a b is in last a b is (omega (arith, one))
 
@@ -88,5 +88,5 @@ module _ (table : TruthTable) (t : List ℕ) (utf8 : IsUtf8 t) where
 -- a step of a walk from the end
 pub ruleset steps = (one_byte, step_back, none_before)
 
--- what ends at a place
+-- the occurrences that end at a place
 pub ruleset ends_there = (start_of_one, start_of_none, start_of_zero)

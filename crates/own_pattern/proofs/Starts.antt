@@ -61,5 +61,5 @@ module _ (table : TruthTable) (t : List ℕ) (utf8 : IsUtf8 t) (k : ℕ) (lt : k
       let pair : (found.0, k + len_utf8 found.0) ≡ (byte, k + 1) = same_Some _ _ (sym found.1.at ∙ char_at-ascii t k utf8 cut lt under) in
       char_ends-yes (in_table table) t k found.0 found.1 (ap (λ (c : ℕ × ℕ). in_table table c.0) pair ∙ is) ∙ ap (λ (c : ℕ × ℕ). Some c.1) pair
 
--- what occurs at a place
+-- the occurrences at a place
 pub ruleset starts = (byte_no, byte_yes, ends_past)

@@ -9,7 +9,7 @@ use crate::kind::INLINE_CAPACITY;
 use hip_raw::{Backend, ByteSink, ByteSource, Inline, IoFault};
 use std::alloc::Global;
 
-/// How many bytes a vector that is read into grows by at most in one step, so that a length that lies takes little memory.
+/// The greatest number of bytes that a vector grows by in one step of a read, so that a false length allocates little.
 const AT_ONCE: usize = 4096;
 
 impl<'b, B: Backend> HipByt<'b, B> {
@@ -30,7 +30,7 @@ impl<'b, B: Backend> HipByt<'b, B> {
         Ok(())
     }
 
-    /// Reads a Borsh form, as [`HipByt::serialize`] writes it, and takes no byte behind it. Memory is taken as the bytes come, at most 4,096
+    /// Reads a Borsh form, as [`HipByt::serialize`] writes it, and takes no byte behind it. It allocates as the bytes come, at most 4,096
     /// bytes ahead of them. A read that fails isn't tried again.
     pub fn deserialize_reader<R: ByteSource>(
         alloc: Global,
@@ -90,7 +90,7 @@ fn read_whole<R: ByteSource>(source: &mut R, room: &mut [u8]) -> Result<(), Bors
     Ok(())
 }
 
-/// Reads so many bytes into a vector, which grows as they come.
+/// Reads `len` bytes into a vector, which grows as they come.
 fn read_vec<R: ByteSource>(alloc: Global, source: &mut R, len: usize) -> Result<Vec<u8>, BorshFault>
     ensures moved { MovesIn vec_items len (R.to_come source.old) (R.to_come source.new) result }
     ensures failures { CountsReads result (R.failures source.old) (R.failures source.new) }

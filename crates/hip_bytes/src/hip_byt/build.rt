@@ -117,7 +117,7 @@ impl<'b, B: Backend> HipByt<'b, B> {
         let Some(len) = joined_len(pieces, sep) else {
             return Err(GrowFault::TooLong);
         };
-        // A meter of its own, since what was lent to a call that isn't inlined lies in memory.
+        // A call that isn't inlined keeps in memory what it is lent, so it gets a meter of its own.
         let mut apart = Meter::new();
         if !B::SHARES && len > INLINE_CAPACITY {
             let made = joined_in_owner(alloc, pieces, sep, len, &mut apart);
@@ -138,7 +138,7 @@ fn gap(i: usize, sep: &[u8]) -> &[u8]
     if i == 0 { &[] } else { sep }
 }
 
-/// How many bytes a join has, if that is a `usize`.
+/// The length of a join, if it is a `usize`.
 fn joined_len<P: Piece>(pieces: &[P], sep: &[u8]) -> Option<usize>
     ensures { SomeIff result (length (join_by P.bytes sep.now pieces.now) < 2 ^ 64)
         (length (join_by P.bytes sep.now pieces.now)) }
@@ -209,7 +209,7 @@ fn joined_in_owner<B: Backend, P: Piece>(
 }
 
 impl<'b, B: Backend> HipByt<'b, B> {
-    /// A clone, where a refusal has to say that the length isn't at fault.
+    /// Like [`HipByt::clone_metered`], but a refusal is a [`GrowFault::Memory`].
     #[inline]
     fn cloned(&self, alloc: Global, meter: &mut Meter) -> Result<Self, GrowFault>
         ensures clone { CloneAnswers self.now result }
@@ -226,7 +226,7 @@ impl<'b, B: Backend> HipByt<'b, B> {
     }
 }
 
-/// How many bytes a repetition copies in one stretch, so that they are still at hand for the next.
+/// The greatest number of bytes that a repetition copies at once, so that they are still in the cache for the next copy.
 const AT_ONCE: usize = 4096;
 
 /// The bytes `n` times, which are `len` in all.

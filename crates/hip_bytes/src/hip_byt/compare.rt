@@ -22,7 +22,7 @@ impl<'b, B: Backend> HipByt<'b, B> {
         equal(self.as_slice(), other)
     }
 
-    /// How the bytes stand to these, in the order of their numbers.
+    /// The lexicographic order of the bytes and these.
     #[inline]
     pub fn cmp_slice(&self, other: &[u8]) -> Ordering
         ensures { result ≡ slice_cmp nat_cmp self.now.items other.now }
@@ -38,7 +38,7 @@ impl<'b, B: Backend> HipByt<'b, B> {
         self.eq_slice(other.as_slice())
     }
 
-    /// How the bytes stand to those of a value on another backend.
+    /// The lexicographic order of the bytes and those of a value on another backend.
     #[inline]
     pub fn cmp_with<B2: Backend>(&self, other: &HipByt<'_, B2>) -> Ordering
         ensures { result ≡ slice_cmp nat_cmp self.now.items other.now.items }

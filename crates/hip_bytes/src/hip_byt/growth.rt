@@ -100,7 +100,7 @@ impl<'b, B: Backend> HipByt<'b, B> {
         outcome
     }
 
-    // The same by a copy.
+    // Appends by a copy of all bytes: those of the handle have no room behind them, are borrowed, or are shared.
     #[cold]
     #[inline(never)]
     fn push_copied(
@@ -151,7 +151,7 @@ impl<'b, B: Backend> HipByt<'b, B> {
         self.push_slice_metered(alloc, &[byte], meter)
     }
 
-    /// Keeps the first bytes, as many as are told, or all where there are no more.
+    /// Keeps the first `len` bytes, or all where there are fewer.
     #[inline]
     pub fn truncate(&mut self, len: usize)
         ensures shortened { IsShortened self.old self.new len }
@@ -177,7 +177,7 @@ impl<'b, B: Backend> HipByt<'b, B> {
         }
     }
 
-    /// Lets go of all bytes.
+    /// Removes all bytes.
     #[inline]
     pub fn clear(&mut self)
         ensures shortened { IsShortened self.old self.new 0 }
@@ -219,7 +219,7 @@ impl<'b, B: Backend> HipByt<'b, B> {
         }
     }
 
-    // The same where the bytes may become few enough for the handle itself, or don't lie with an owner.
+    // Like [`HipByt::pop_metered`], where the rest may fit in the handle itself, or the bytes don't lie with an owner.
     #[inline(never)]
     fn pop_short(&mut self, meter: &mut Meter) -> Option<u8>
         ensures pop { PopAnswers self.old result self.new }

@@ -91,7 +91,7 @@ impl<'b, B: Backend> HipByt<'b, B> {
         ensures counted { GatherCosts B.SHARES P.bytes I.into_iter_gives I.IntoIter.next_gives
             pieces sep.now result meter.old meter.new }
     {
-        // A meter of its own, since what was lent to a call that isn't inlined lies in memory.
+        // A call that isn't inlined keeps in memory what it is lent, so it gets a meter of its own.
         let mut apart = Meter::new();
         let made = gathered(alloc, pieces, sep, &mut apart);
         meter.add(&apart);

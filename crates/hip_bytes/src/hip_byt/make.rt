@@ -19,7 +19,7 @@ impl<'b, B: Backend> HipByt<'b, B> {
         HipByt::of(Repr::Inline(Inline::empty()))
     }
 
-    /// These bytes, in the handle itself. [`HipByt::try_inline`] tests for the length.
+    /// These bytes, in the handle itself. [`HipByt::try_inline`] tests their number.
     #[inline]
     pub fn inline(bytes: &[u8]) -> Self
         requires { length bytes.now ≤ INLINE_CAPACITY }
@@ -65,7 +65,7 @@ impl<'b, B: Backend> HipByt<'b, B> {
         }
     }
 
-    /// No bytes, with room for so many.
+    /// No bytes, with room for `capacity`.
     #[inline]
     pub fn with_capacity(alloc: Global, capacity: usize) -> Result<Self, AllocError>
         ensures holds { IfOk result (λ handle. Holds handle (by_length capacity) []) }

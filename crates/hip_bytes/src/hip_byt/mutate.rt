@@ -66,7 +66,7 @@ impl<'b, B: Backend> Source for HipByt<'b, B> {
 
 impl<'b, B: Backend> HipByt<'b, B> {
     /// Lends the bytes out in a vector, which [`RefMut::finish`] writes back. Until then the value is empty. Where the bytes begin the
-    /// list of an owner that no other handle shares, neither call takes memory of its own. A refused call changes nothing, as
+    /// list of an owner that no other handle shares, neither call allocates anything of its own. A refused call changes nothing, as
     /// [`Source::lend_vec_metered`] says of its own. What a guard leaves is known in functions that are generic in the [`Source`].
     pub fn mutate(&mut self, alloc: Global) -> Result<RefMut<'_, Self>, AllocError>
         ensures same_reference { IfOk result (λ guard. lender guard ≡ self.entry.ghost_name) }

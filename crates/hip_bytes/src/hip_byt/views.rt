@@ -8,7 +8,7 @@ use hip_raw::Backend;
 use std::convert::AsSlice;
 
 impl<'b, B: Backend> HipByt<'b, B> {
-    /// How many bytes there are.
+    /// The number of bytes.
     #[inline]
     pub fn len(&self) -> usize
         ensures len { result ≡ length self.now.items }
@@ -88,7 +88,7 @@ impl<'b, B: Backend> HipByt<'b, B> {
         !self.is_allocated() || self.len() > INLINE_CAPACITY
     }
 
-    /// How many bytes a handle holds in itself at most.
+    /// The greatest number of bytes that a handle holds in itself.
     #[inline]
     pub fn inline_capacity() -> usize
         ensures { result ≡ INLINE_CAPACITY }
@@ -96,7 +96,7 @@ impl<'b, B: Backend> HipByt<'b, B> {
         INLINE_CAPACITY
     }
 
-    /// How many bytes the handle can hold where they lie.
+    /// The number of bytes that the handle can hold where they lie.
     #[inline]
     pub fn capacity(&self) -> usize
         ensures capacity { result ≡ self.now.capacity }

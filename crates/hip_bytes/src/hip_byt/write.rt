@@ -180,7 +180,7 @@ impl<'b, B: Backend> HipByt<'b, B> {
         self.with_to_mut_slice_metered(alloc, |bytes| make_ascii_lowercase(bytes), meter)
     }
 
-    /// The same bytes with the letters `A` to `Z` moved to `a` to `z`.
+    /// A copy in which the letters `A` to `Z` are `a` to `z`.
     #[inline]
     pub fn to_ascii_lowercase(&self, alloc: Global) -> Result<Self, AllocError>
         ensures copy { CopyAnswers self.now (map to_ascii_lowercase self.now.items) result }
@@ -229,7 +229,7 @@ impl<'b, B: Backend> HipByt<'b, B> {
         self.with_to_mut_slice_metered(alloc, |bytes| make_ascii_uppercase(bytes), meter)
     }
 
-    /// The same bytes with the letters `a` to `z` moved to `A` to `Z`.
+    /// A copy in which the letters `a` to `z` are `A` to `Z`.
     #[inline]
     pub fn to_ascii_uppercase(&self, alloc: Global) -> Result<Self, AllocError>
         ensures copy { CopyAnswers self.now (map to_ascii_uppercase self.now.items) result }

@@ -1,5 +1,5 @@
-//! What the tests ask of a byte string: its calls, by their own names. A name with more behind it is that call of one kind of range, of so
-//! many pieces, or with one closure. The methods say nothing of their answers, so that a test knows nothing but what it compares.
+//! The calls of a byte string that the tests make, by their own names. A longer name is that call with one kind of range, with a number of
+//! pieces, or with one closure. The methods have no contracts, so that a test knows nothing but what it compares.
 use super::faults::{Part, Tried};
 use hip_bytes::{GrowFault, Kind, Meter, RefMut, Source};
 use std::alloc::{AllocError, Global};
@@ -113,7 +113,7 @@ pub trait Bytes: Source + Hash + Ord + fmt::Debug {
 
     fn slice_to(&self, alloc: Global, end: usize) -> Part<Self>;
 
-    /// Of an inclusive range.
+    /// `slice` of an inclusive range.
     fn slice_through(&self, alloc: Global, start: usize, last: usize) -> Part<Self>;
 
     fn slice_full(&self, alloc: Global) -> Result<Self, AllocError>;
@@ -122,7 +122,7 @@ pub trait Bytes: Source + Hash + Ord + fmt::Debug {
 
     fn slice_unchecked(&self, alloc: Global, range: Range<usize>) -> Part<Self>;
 
-    /// Of an inclusive range that has no start.
+    /// `slice_unchecked` of an inclusive range that has no start.
     fn slice_unchecked_through(&self, alloc: Global, last: usize) -> Part<Self>;
 
     fn slice_unchecked_metered(
@@ -162,20 +162,20 @@ pub trait Bytes: Source + Hash + Ord + fmt::Debug {
 
     fn cmp_slice(&self, other: &[u8]) -> Ordering;
 
-    /// With a lent value of `Unique`.
+    /// `eq_with` a lent value of `Unique`.
     fn eq_with(&self, other: &'static [u8]) -> bool;
 
-    /// With a lent value of `Unique`.
+    /// `cmp_with` a lent value of `Unique`.
     fn cmp_with(&self, other: &'static [u8]) -> Ordering;
 
     fn as_mut_slice(&mut self) -> Option<&mut [u8]>;
 
     fn to_mut_slice(&mut self, alloc: Global) -> Result<&mut [u8], AllocError>;
 
-    /// With the closure that reverses the bytes.
+    /// `with_mut_slice` with the closure that reverses the bytes.
     fn with_mut_slice_reverse(&mut self) -> Option<()>;
 
-    /// With the closure that makes the letters capitals.
+    /// `with_to_mut_slice_metered` with the closure that makes the letters capitals.
     fn with_to_mut_slice_metered_uppercase(
         &mut self,
         alloc: Global,

@@ -1,4 +1,4 @@
-//! Into vectors and borrowed-or-owned values, and back.
+//! Conversions into vectors and borrowed-or-owned values, and back.
 use super::bytes::Bytes;
 use super::suite::{Suite, run_on_each};
 use super::support::{LETTERS, is, must, must_refuse};

@@ -130,7 +130,7 @@ fn stays<H: Bytes>(rt: &impl Abort, alloc: Global, mut handle: H) {
     );
 }
 
-/// On bytes that another handle shares, and on room in which nothing stands.
+/// A push of nothing, on bytes that another handle shares, and on room in which nothing stands.
 fn nothing_is_pushed<H: Bytes>(rt: &impl Abort, alloc: Global) {
     let letters = must(rt, H::from_slice(alloc, LETTERS));
     stays(rt, alloc, must(rt, letters.clone(alloc)));
@@ -173,7 +173,7 @@ fn unchecked_slices<H: Bytes>(rt: &impl Abort, alloc: Global) {
     part_is(rt, handle.slice_unchecked_through(alloc, 1), b"ab");
 }
 
-/// Of 23 bytes each is copied into the new handle.
+/// A slice of 23 bytes copies each into the new handle.
 fn short_slice<H: Bytes>(rt: &impl Abort, alloc: Global) {
     let letters = must(rt, H::from_slice(alloc, LETTERS));
     let mut meter = Meter::new();
@@ -183,7 +183,7 @@ fn short_slice<H: Bytes>(rt: &impl Abort, alloc: Global) {
     assert_eq!(rt; meter.copied(), 23);
 }
 
-/// Of 24 bytes none is copied where owners are shared, and the slice outlives what it was cut from.
+/// A slice of 24 bytes copies none where owners are shared, and outlives the handle that it was cut from.
 fn long_slice<H: Bytes>(rt: &impl Abort, alloc: Global) {
     let letters = must(rt, H::from_slice(alloc, LETTERS));
     let mut meter = Meter::new();

@@ -126,7 +126,7 @@ const REFUSED: &[Refused] = &[
     },
 ];
 
-/// What the error tells, or the end of the test where a range was none that is refused.
+/// The error of a refused range. A range that wasn't refused ends the test.
 fn told<H: Bytes>(rt: &impl Abort, outcome: Result<H, Refusal>) -> Told {
     match outcome {
         Err(Refusal::Slice(told)) => told,

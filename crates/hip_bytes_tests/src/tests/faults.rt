@@ -25,7 +25,7 @@ pub enum Refusal {
     Memory,
 }
 
-/// What a `SliceError` tells, by its calls and as it is shown.
+/// A `SliceError`, by the answers of its calls and by its texts.
 #[derive(Drop)]
 pub struct Told {
     pub kind: SliceErrorKind,

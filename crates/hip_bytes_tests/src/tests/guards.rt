@@ -86,7 +86,7 @@ const MANY: &[u8] = &[b'a'; 42];
 
 const ONE_MORE: &[u8] = b"aaaaaaaaaaaaaaaaaaaaaaaaaaaaaaaaaaaaaaaaaab";
 
-/// What is written through a guard doesn't show in a clone.
+/// A write through a guard doesn't show in a clone.
 fn lends_a_shared_list<H: Bytes>(rt: &impl Abort, alloc: Global) {
     let mut handle = must(rt, H::from_slice(alloc, MANY));
     let clone = must(rt, handle.clone(alloc));

@@ -1,4 +1,4 @@
-//! A byte string on any backend is what the tests ask of one.
+//! The tests' calls of a byte string, for any backend.
 use super::bytes::Bytes;
 use super::faults::{Part, RangeFault, Tried, part_or_told};
 use hip_bytes::{

@@ -1,4 +1,4 @@
-//! What the owner of one handle copies as it grows, and what room it has then.
+//! The bytes that the owner of one handle copies as it grows, and the room that it has then.
 use super::bytes::Bytes;
 use super::suite::{Suite, run_on_unique};
 use super::support::{LETTERS, must};
@@ -79,7 +79,7 @@ fn a_vector_goes_in_and_out(rt: HostRuntime) {
     run_on_unique::<GoesInAndOut>(&rt, rt.alloc());
 }
 
-/// Appends that fit, and a loan for writing, take no memory: the capacity stays.
+/// Appends that fit, and a loan for writing, allocate nothing: the capacity stays.
 struct IsFilled;
 
 impl Suite for IsFilled {

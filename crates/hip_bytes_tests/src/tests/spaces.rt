@@ -1,4 +1,4 @@
-//! The same 32 bytes by each maker: equal wherever they lie, and different from a part of them.
+//! 32 spaces by each maker: equal wherever they lie, and different from a part of them.
 use super::bytes::Bytes;
 use super::suite::{Suite, run_on_each};
 use super::support::{holds, must};

@@ -1,5 +1,5 @@
-//! Tests that are run on the byte strings of each backend. That a byte string is what the tests ask of it costs seconds in each function that
-//! needs it, and more in one that is generic in the backend, so these two name theirs.
+//! Tests that are run on the byte strings of each backend. The proof that a byte string has the tests' calls costs seconds in each function
+//! that needs it, and more in one that is generic in the backend, so these two name theirs.
 use super::bytes::Bytes;
 use hip_bytes::{HipByt, Rc, Unique};
 use std::alloc::Global;

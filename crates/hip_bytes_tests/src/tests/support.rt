@@ -1,4 +1,4 @@
-//! What ends a test, and what several modules assert.
+//! The ends of a test, and the assertions of several modules.
 use super::bytes::Bytes;
 use hip_bytes::Kind;
 use std::alloc::{AllocError, Global};
@@ -28,12 +28,12 @@ pub(crate) fn holds<H: Bytes>(rt: &impl Abort, handle: &H, items: &[u8], kind: K
     );
 }
 
-/// The same of a handle that nothing else is asked of.
+/// Like [`holds`], for a handle that isn't used any more.
 pub(crate) fn is<H: Bytes>(rt: &impl Abort, handle: H, items: &[u8], kind: Kind) {
     holds(rt, &handle, items, kind);
 }
 
-/// What a refused call answers, or the end of the test where it wasn't refused.
+/// The error of a refused call. A call that wasn't refused ends the test.
 pub(crate) fn must_refuse<T: Drop, E>(rt: &impl Abort, outcome: Result<T, E>) -> E {
     match outcome {
         Ok(_) => panic!(rt; "a call wasn't refused"),

@@ -34,7 +34,7 @@ fn written_over<H: Bytes>(rt: &impl Abort, alloc: Global, handle: &mut H) -> u12
     meter.copied()
 }
 
-/// What is written through one handle doesn't show in its clone.
+/// A write through one handle doesn't show in its clone.
 fn beside_a_clone<H: Bytes>(rt: &impl Abort, alloc: Global) {
     let mut whole = must(rt, H::from_slice(alloc, LETTERS));
     let clone = must(rt, whole.clone(alloc));

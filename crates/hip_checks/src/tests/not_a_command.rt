@@ -1,4 +1,4 @@
-//! What is told of a line that is no command, and with which exit status.
+//! The message for a line that is no command, and the exit status.
 use super::support::{must, must_refuse};
 use hip_script::play::play;
 use hipstr::Rc;

@@ -1,4 +1,4 @@
-//! What runs the lists of commands (`sessions`), the texts that are cut once (`cuts`) and those that are taken apart (`ways`).
+//! Runs the lists of commands (`sessions`), the texts that are cut once (`cuts`) and those that are taken apart (`ways`).
 use super::cuts::{Cut, parted, stripped, trimmed};
 use super::sessions::{
     Row, Session, borrowed_pieces, cases, cuts, empty, four_pushes, many_bytes, pieces, pushed,
@@ -13,7 +13,7 @@ use std::alloc::Global;
 use std::ops::Bound;
 use std::process::Abort;
 
-/// What commands answer. What `run` promises is left here: a function that knows it is dear, and a test compares.
+/// The answers of commands. It drops the contract of `run`: a function that knows it is dear to prove, and a test compares.
 fn answers_to<'b, B: Backend>(
     rt: &impl Abort,
     alloc: Global,
@@ -132,7 +132,7 @@ fn doubles(rt: &impl Abort, alloc: Global) {
     );
 }
 
-/// Byte by byte, each is copied three times at most.
+/// A push of one byte after another copies each three times at most.
 fn grows_one_by_one(rt: &impl Abort, alloc: Global) {
     let mut pool = must(rt, Pool::<Unique>::new(alloc, 1));
     let mut meter = Meter::new();
@@ -193,7 +193,7 @@ fn are_cut<B: Backend>(rt: &impl Abort, alloc: Global, cuts: &[Cut]) {
     }
 }
 
-/// Each of these texts.
+/// Cuts each of these texts.
 fn cuts_all<B: Backend>(rt: &impl Abort, alloc: Global) {
     are_cut::<B>(rt, alloc, trimmed());
     are_cut::<B>(rt, alloc, stripped());
@@ -258,7 +258,7 @@ fn ends_of(number: u8) -> [End; 6] {
     script
 }
 
-/// Each of these ways, by each beginning of a script.
+/// Takes a text apart in each of these ways, by each beginning of a script.
 fn takes_each_apart<B: Backend>(rt: &impl Abort, alloc: Global, taken: Taken, script: &[End; 6]) {
     let (text, ways) = taken;
     for (i, way) in ways.iter().enumerate() {
@@ -271,7 +271,7 @@ fn takes_each_apart<B: Backend>(rt: &impl Abort, alloc: Global, taken: Taken, sc
     }
 }
 
-/// Each way, by every script of up to six ends: the ends of a script of six are the digits of a number, and its beginnings are the others.
+/// Takes each text apart by every script of up to six ends: a script of six is the digits of a number, and the others are its beginnings.
 fn takes_all_apart<B: Backend>(rt: &impl Abort, alloc: Global) {
     for number in 0..64 {
         for taken in all() {
@@ -280,7 +280,7 @@ fn takes_all_apart<B: Backend>(rt: &impl Abort, alloc: Global) {
     }
 }
 
-/// All of it, on a backend.
+/// All tests of this module, on a backend.
 pub(crate) fn on<B: Backend>(rt: &impl Abort, alloc: Global) {
     pools::<B>(rt, alloc);
     plays::<B>(rt, alloc, cuts());
@@ -327,7 +327,7 @@ fn a_sole_owner_is_written_in_place(rt: HostRuntime) {
     in_place::<Unique>(&rt, rt.alloc());
 }
 
-/// What an owner that no other shares copies as it grows.
+/// The bytes that an owner which no other shares copies as it grows.
 #[test]
 fn a_full_room_doubles(rt: HostRuntime) {
     doubles(&rt, rt.alloc());

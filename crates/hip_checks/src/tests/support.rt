@@ -1,4 +1,4 @@
-//! What ends a test.
+//! The ends of a test.
 use std::process::Abort;
 
 /// The value, or the end of the test where it was refused. A test with no way out but this is a straight line, and cheap to prove.
@@ -9,7 +9,7 @@ pub(crate) fn must<T, E: Drop>(rt: &impl Abort, outcome: Result<T, E>) -> T {
     }
 }
 
-/// What a refused call answers, or the end of the test where it wasn't refused.
+/// The error of a refused call. A call that wasn't refused ends the test.
 pub(crate) fn must_refuse<T: Drop, E>(rt: &impl Abort, outcome: Result<T, E>) -> E {
     match outcome {
         Ok(_) => panic!(rt; "a call wasn't refused"),

@@ -7,7 +7,7 @@ pub(crate) type Way = (How<'static>, bool, &'static [&'static str]);
 /// A text, and ways in which it is taken apart.
 pub(crate) type Taken = (&'static str, &'static [Way]);
 
-// What stands in one branch of a function costs the square of what it borrows, so these are parts of one table.
+// A branch of a function costs the square of what the function borrows, so these are parts of one table.
 
 const LETTERS: Taken = (
     "a,b,c,d",

@@ -17,7 +17,7 @@ use hip_match::trim::trim_matches;
 use std::process::Abort;
 use std::test::Fail;
 
-// What the script draws of the pieces between digits.
+// Draws the pieces between digits by the script into `drawn`.
 fn between_digits(text: &str, script: &[End], drawn: &mut [(usize, usize)]) -> usize
     requires { length script.now ≤ length drawn.old }
 {
@@ -25,7 +25,7 @@ fn between_digits(text: &str, script: &[End], drawn: &mut [(usize, usize)]) -> u
     draw_into(&mut pieces, script, drawn)
 }
 
-// What the script draws of the pieces between characters `wanted`.
+// Draws the pieces between characters `wanted` by the script into `drawn`.
 fn between_wanted(text: &str, wanted: char, script: &[End], drawn: &mut [(usize, usize)]) -> usize
     requires { length script.now ≤ length drawn.old }
 {
@@ -71,7 +71,7 @@ fn capturing_closure(rt: HostRuntime) {
     );
 }
 
-// That `wanted` alone passes.
+// Answers by which `wanted` alone passes.
 fn chosen_for(wanted: char) -> Chosen
     ensures { (c : ℕ) → IsScalar c → answer_at result.answers c ≡ (c == wanted) }
 {

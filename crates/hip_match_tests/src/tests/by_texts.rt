@@ -101,7 +101,7 @@ const PLACES: &[MatchPlaces] = &[
     MatchPlaces("aaa", "aa", &[(0, 2)], &[(1, 3)]),
     MatchPlaces("ababababa", "aba", &[(0, 3), (4, 7)], &[(6, 9), (2, 5)]),
     MatchPlaces("é", "", &[(0, 0), (2, 2)], &[(2, 2), (0, 0)]),
-    // Signs of the pattern that stand where it doesn't.
+    // Punctuation of the pattern that stands where the pattern doesn't.
     MatchPlaces("--> a-> -->", "-->", &[(0, 3), (8, 11)], &[(8, 11), (0, 3)]),
     MatchPlaces("-a--a", "a--", &[(1, 4)], &[(1, 4)]),
     MatchPlaces("> <--> b<--> >", " <-->", &[(1, 6)], &[(1, 6)]),

@@ -36,7 +36,7 @@ fn clones_go_on_alike(rt: HostRuntime) {
     );
 }
 
-// The clone of a walk by a text wants no memory, nor does that of lines.
+// The clone of a walk by a text allocates nothing, nor does that of lines.
 fn of_a_text<'h>(ranges: &Split<'h, &'h str>) -> Result<Split<'h, &'h str>, AllocError>
     ensures { IsOk result }
 {

@@ -13,7 +13,7 @@ use std::test::Fail;
 /// The text in which the patterns are looked for.
 pub(crate) const TEXT: &str = "ééaébé";
 
-/// What each walk gives.
+/// Each walk, with the texts that it gives.
 pub(crate) fn each_walk() -> &'static [(Walk, &'static [&'static str])] {
     &[
         (Walk::Matches, &["é", "é", "é", "é"]),
@@ -30,11 +30,11 @@ pub(crate) fn each_walk() -> &'static [(Walk, &'static [&'static str])] {
     ]
 }
 
-/// What a script draws from a walk.
+/// A walk, the ends that a script draws from, and the texts that it draws.
 #[derive(Clone, Copy)]
 pub(crate) struct Drawn(pub Walk, pub &'static str, pub &'static [&'static str]);
 
-/// What scripts draw of the pieces.
+/// Scripts of the walks that give pieces, with the texts that they draw.
 pub(crate) fn each_drawn() -> &'static [Drawn] {
     &[
         Drawn(Walk::Split, "FBFBF", &["", "", "", "b", "a"]),
@@ -48,10 +48,10 @@ pub(crate) fn each_drawn() -> &'static [Drawn] {
 /// The matches, drawn from the front and the back in turn.
 const LEFTMOST: &[(usize, usize)] = &[(0, 2), (8, 10), (2, 4), (5, 7)];
 
-/// The rightmost matches, drawn so.
+/// The rightmost matches, drawn from the front and the back in turn.
 const RIGHTMOST: &[(usize, usize)] = &[(8, 10), (0, 2), (5, 7), (2, 4)];
 
-/// What each walk over matches draws so.
+/// Each walk over matches, with the matches drawn from the front and the back in turn.
 const TURNS: &[(Walk, &[(usize, usize)])] = &[
     (Walk::Matches, LEFTMOST),
     (Walk::MatchIndices, LEFTMOST),
@@ -63,7 +63,7 @@ pub(crate) fn each_turn() -> &'static [(Walk, &'static [(usize, usize)])] {
     TURNS
 }
 
-/// What is left of the text by a call that takes matches off.
+/// Each call that takes matches off, with the range of the text that it leaves.
 pub(crate) fn each_cut() -> &'static [(Cut, (usize, usize))] {
     &[
         (Cut::TrimStart, (4, 10)),
@@ -83,7 +83,7 @@ fn draws_by_turns<R: RangesBack + Drop>(rt: &impl Abort, mut ranges: R, want: &[
     assert_eq!(rt; &drawn[..4], want);
 }
 
-/// Asserts what a walk over matches draws so.
+/// Asserts which matches a walk draws from the front and the back in turn.
 pub(crate) fn matches_by_turns<P: OneChar>(
     rt: &impl Abort,
     kind: Walk,

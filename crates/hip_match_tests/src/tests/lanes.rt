@@ -10,7 +10,7 @@ use std::str;
 /// The longest text.
 const LONGEST: usize = 130;
 
-/// By the list of Rust's documentation, without the vertical tab.
+/// Whether a byte is ASCII white space by the list of Rust's documentation, which lacks the vertical tab.
 fn is_space(byte: u8) -> bool {
     match byte {
         b' ' | b'\t' | b'\n' | b'\x0C' | b'\r' => true,
@@ -34,7 +34,7 @@ fn first_run(bytes: &[u8], from: usize, to: usize) -> Option<(usize, usize)> {
     start.map(|start| (start, to))
 }
 
-/// The last.
+/// Like [`first_run`], the last run.
 fn last_run(bytes: &[u8], from: usize, to: usize) -> Option<(usize, usize)> {
     let mut last = None;
     let mut start = None;
@@ -95,7 +95,7 @@ fn agrees<R: RangesBack + Drop>(rt: &impl Abort, text: &str, mut ranges: R, ends
     }
 }
 
-/// The same from each end, and from both in turn.
+/// Calls [`agrees`] with each end, and with both in turn.
 fn agrees_each_way(rt: &impl Abort, text: &str) {
     for ends in [Ends::Front, Ends::Back, Ends::InTurn] {
         agrees(rt, text, SplitAsciiWhitespace::new(text), ends);
@@ -118,7 +118,7 @@ fn one_space_at_each_place(rt: HostRuntime) {
     }
 }
 
-/// Of each kind, alone and in runs, beside bytes that are near to them: vertical tab, zero, those of characters past ASCII.
+/// White space of each kind, alone and in runs, beside bytes that are near to it: vertical tab, zero, those of characters past ASCII.
 const MIXED: &str =
     "a b\tc\nd\x0Ce\rf\x0Bg  h\r\n\r\nвеч\u{a0}ер \u{85}\u{2003} no\0 white\x08space\x0E!\x1F here   but\x7F \u{109}\u{10a}\u{10c}\u{10d}\u{120} there \
     \t\t\t\t and\nwhat\nfollows is\none\x0Cword\ra\tline\u{3000}日本 語 and a last one  of words that go on over the end of\tblocks ";

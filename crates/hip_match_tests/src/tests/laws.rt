@@ -1,4 +1,4 @@
-//! That laws can be stated by a caller, and the tests at a place.
+//! A caller states the laws, and the tests at a place.
 use hip_match::draw::End;
 use hip_match::laws::{
     ended_pieces_are_the_text, ends_match_starts, ends_meet, join_undoes_split,

@@ -25,7 +25,7 @@ impl<'b, B: Backend> HipOsStr<'b, B> {
         self.bytes.eq_slice(other)
     }
 
-    /// How the bytes stand to these, in the order of their numbers.
+    /// The lexicographic order of the bytes and these.
     #[inline]
     pub fn os_str_cmp(&self, other: &[u8]) -> Ordering
         ensures { result ≡ slice_cmp nat_cmp self.now.items other.now }
@@ -41,7 +41,7 @@ impl<'b, B: Backend> HipOsStr<'b, B> {
         components_eq(self.as_os_str(), other)
     }
 
-    /// How this one, as a path, stands to the bytes, as another, in the order of their components.
+    /// The order of this one and of the bytes as paths, by their components.
     #[inline]
     pub fn path_cmp(&self, other: &[u8]) -> Ordering
         ensures { result ≡ path_order self.now.items other.now }

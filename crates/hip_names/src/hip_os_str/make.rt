@@ -22,7 +22,7 @@ impl<'b, B: Backend> HipOsStr<'b, B> {
         }
     }
 
-    /// The empty OS string, with room for so many bytes.
+    /// The empty OS string, with room for `capacity` bytes.
     #[inline]
     pub fn with_capacity(alloc: Global, capacity: usize) -> Result<Self, AllocError>
         ensures holds { IfOk result (λ name. Holds name (by_length capacity) []) }

@@ -6,7 +6,7 @@ use super::HipOsStr;
 use hip_bytes::{Backend, INLINE_CAPACITY, Kind};
 
 impl<'b, B: Backend> HipOsStr<'b, B> {
-    /// How many bytes there are.
+    /// The number of bytes.
     #[inline]
     pub fn len(&self) -> usize
         ensures len { result ≡ length self.now.items }
@@ -55,7 +55,7 @@ impl<'b, B: Backend> HipOsStr<'b, B> {
         self.bytes.is_allocated()
     }
 
-    /// How many bytes an OS string holds in itself at most.
+    /// The greatest number of bytes that an OS string holds in itself.
     #[inline]
     pub fn inline_capacity() -> usize
         ensures { result ≡ INLINE_CAPACITY }
@@ -63,7 +63,7 @@ impl<'b, B: Backend> HipOsStr<'b, B> {
         INLINE_CAPACITY
     }
 
-    /// How many bytes the OS string can hold where they lie.
+    /// The number of bytes that the OS string can hold where they lie.
     #[inline]
     pub fn capacity(&self) -> usize
         ensures capacity { result ≡ self.now.capacity }

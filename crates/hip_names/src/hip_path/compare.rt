@@ -23,7 +23,7 @@ impl<'b, B: Backend> HipPath<'b, B> {
         components_eq(self.as_path(), other)
     }
 
-    /// How this one, as a path, stands to the bytes, as another, in the order of their components.
+    /// The order of this one and of the bytes as paths, by their components.
     #[inline]
     pub fn path_cmp(&self, other: &[u8]) -> Ordering
         ensures { result ≡ path_order self.now.items other.now }

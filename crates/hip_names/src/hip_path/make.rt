@@ -70,7 +70,7 @@ impl<'b, B: Backend> HipPath<'b, B> {
         })
     }
 
-    /// The same bytes, which no other value lends. Only lent bytes are copied. A refused value is handed back.
+    /// An equal path that no other value lends. Only lent bytes are copied. A refused value is handed back.
     #[inline]
     pub fn into_owned(self, alloc: Global) -> Result<HipPath<'static, B>, Self>
         ensures owned { OwnedAnswers self.entry result }

@@ -57,7 +57,7 @@ impl<'b, B: Backend> HipPath<'b, B> {
         self.name.is_allocated()
     }
 
-    /// How many bytes a path holds in itself at most.
+    /// The greatest number of bytes that a path holds in itself.
     #[inline]
     pub fn inline_capacity() -> usize
         ensures { result ≡ INLINE_CAPACITY }
@@ -65,7 +65,7 @@ impl<'b, B: Backend> HipPath<'b, B> {
         INLINE_CAPACITY
     }
 
-    /// How many bytes the path can hold where they lie.
+    /// The number of bytes that the path can hold where they lie.
     #[inline]
     pub fn capacity(&self) -> usize
         ensures capacity { result ≡ self.now.capacity }

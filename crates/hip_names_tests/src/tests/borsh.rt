@@ -42,7 +42,7 @@ const BYTES: &[(&[u8], &[u8])] = &[
     ),
 ];
 
-/// How many bytes there are, and the first four of their form by the same crate, before the bytes themselves.
+/// A number of bytes, and the first four of their form by the same crate, before the bytes themselves.
 const LENGTHS: &[(usize, [u8; 4])] = &[
     (255, [255, 0, 0, 0]),
     (256, [0, 1, 0, 0]),
@@ -178,7 +178,7 @@ fn forms_stand_one_behind_another(rt: HostRuntime) {
     one_behind_another::<HipByt<'static, Unique>, HipStr<'static, Unique>>(&rt, rt.alloc());
 }
 
-/// To a writer and from a reader of the standard library.
+/// Forms that are written to a writer and read from a reader of the standard library.
 #[test]
 fn by_writers_and_readers(rt: HostRuntime) {
     let mut form = Vec::new(rt.alloc());

@@ -14,7 +14,7 @@ fn is<N: Name>(rt: &impl Abort, name: N, text: &str) {
     assert_eq!(rt; name.bytes(), text.as_bytes());
 }
 
-/// Of a clone of the text that a `Cow` makes, and of the text itself.
+/// Makes names of a clone of the text that a `Cow` makes, and of the text itself.
 fn from_text<B: Backend>(rt: &impl Abort, alloc: Global, cow: CowStr<'static>) {
     let text = must(rt, HipStr::<B>::from_cow(alloc, cow));
     let (first, second) = (must(rt, text.clone(alloc)), must(rt, text.clone(alloc)));
@@ -33,7 +33,7 @@ fn are_letters<B: Backend>(rt: &impl Abort, name: HipOsStr<'_, B>, path: HipPath
     );
 }
 
-/// Of a text that is lent, and of one that is owned.
+/// Makes names of a text that is lent, and of one that is owned.
 fn from_texts<B: Backend>(rt: &impl Abort, alloc: Global) {
     let string = must(rt, String::from_str(alloc, LETTERS));
     from_text::<B>(rt, alloc, CowStr::Owned(string));
@@ -130,7 +130,7 @@ fn orders_by_name<N: Name>(rt: &impl Abort, alloc: Global) {
     }
 }
 
-/// These, of an OS string or of a path.
+/// The tests of an OS string or of a path.
 pub(crate) fn of_either<N: Name>(rt: &impl Abort, alloc: Global) {
     into_cows::<N>(rt, alloc);
     no_room::<N>(rt, alloc);
@@ -154,7 +154,7 @@ fn pushes<N: OsStr>(rt: &impl Abort, alloc: Global) {
     is(rt, name, "abcdef");
 }
 
-/// And these, of an OS string.
+/// The tests of an OS string alone.
 pub(crate) fn of_os_strings<N: OsStr>(rt: &impl Abort, alloc: Global) {
     rooms::<N>(rt, alloc);
     pushes::<N>(rt, alloc);

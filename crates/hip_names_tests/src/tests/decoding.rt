@@ -54,14 +54,14 @@ fn debugs<N: Name>(rt: &impl Abort, alloc: Global) {
     assert_eq!(rt; said.as_str(), "\"a\\\"\\n\\xffb\"");
 }
 
-/// These, of an OS string or of a path.
+/// The tests of an OS string or of a path.
 pub(crate) fn of_either<N: Name>(rt: &impl Abort) {
     for row in DECODED {
         becomes_text::<N>(rt, *row);
     }
 }
 
-/// And these, of an OS string.
+/// The tests of an OS string alone.
 pub(crate) fn of_os_strings<N: OsStr>(rt: &impl Abort, alloc: Global) {
     for row in DECODED {
         is_decoded::<N>(rt, alloc, *row);

@@ -1,4 +1,4 @@
-//! What the tests ask of all four types, and of those that have a form or a JSON value. The methods say nothing of their answers, so that a
+//! The calls that the tests make on all four types, and on those that have a form or a JSON value. The methods have no contracts, so that a
 //! test knows nothing but what it compares.
 use hip_bytes::{BorshFault, ByteSink, ByteSource, JsonFault, Kind};
 use serde_json::Value;
@@ -6,12 +6,12 @@ use std::alloc::Global;
 
 /// A handle of any of the four types.
 pub trait Handle: Drop {
-    /// What these bytes make, which are lent.
+    /// A handle of these lent bytes; the reason where they make none.
     fn lent(bytes: &'static [u8]) -> Result<Self, &'static str>;
 
     fn bytes(&self) -> &[u8];
 
-    /// What `is_inline`, `is_borrowed` and `is_allocated` say, of which just one is true.
+    /// The kind by `is_inline`, `is_borrowed` and `is_allocated`; `None` unless just one of these is true.
     fn kind(&self) -> Option<Kind>;
 }
 

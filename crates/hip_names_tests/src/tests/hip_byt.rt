@@ -1,4 +1,4 @@
-//! What the tests ask of a byte string.
+//! The tests' calls of a byte string.
 use super::handle::{Form, Handle, Json};
 use super::support::kind_of;
 use hip_bytes::{Backend, BorshFault, ByteSink, ByteSource, HipByt, JsonFault, Kind};

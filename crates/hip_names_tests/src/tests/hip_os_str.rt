@@ -1,4 +1,4 @@
-//! What they ask of an OS string.
+//! The tests' calls of an OS string.
 use super::handle::{Handle, Json};
 use super::name::{Name, OsStr};
 use super::support::kind_of;

@@ -1,4 +1,4 @@
-//! What they ask of a path.
+//! The tests' calls of a path.
 use super::handle::{Handle, Json};
 use super::name::Name;
 use super::support::kind_of;

@@ -1,4 +1,4 @@
-//! What they ask of a text.
+//! The tests' calls of a text.
 use super::handle::{Form, Handle, Json};
 use super::support::kind_of;
 use hip_bytes::{Backend, BorshFault, ByteSink, ByteSource, HipByt, JsonFault, Kind};

@@ -6,7 +6,7 @@ use std::collections::{BTreeMap, HashMap, HashSet};
 use std::hash::Hash;
 use std::process::Abort;
 
-/// What a hash map says of a key, once it has 7 under another.
+/// The value of `sought` in a hash map that has 7 under `key`.
 fn found<K: Hash + Eq + Drop>(
     alloc: Global,
     key: K,
@@ -17,7 +17,7 @@ fn found<K: Hash + Eq + Drop>(
     Ok(ages.get(sought).copied())
 }
 
-/// What an ordered map says of it.
+/// The value of `sought` in an ordered map that has 7 under `key`.
 fn found_in_order<K: Ord + Drop>(
     alloc: Global,
     key: K,
@@ -28,7 +28,7 @@ fn found_in_order<K: Ord + Drop>(
     Ok(ages.get(sought).copied())
 }
 
-/// Whether a set has it, once it has two.
+/// Whether a set of two keys has `sought`.
 fn is_in_set<K: Hash + Eq + Drop>(
     alloc: Global,
     first: K,
@@ -41,7 +41,7 @@ fn is_in_set<K: Hash + Eq + Drop>(
     Ok(set.contains(sought))
 }
 
-/// Asserts what a hash map and an ordered one say of a key, where they have another, and a set that has two.
+/// Asserts whether `sought` is found in a hash map and an ordered one that have another key, and in a set that has two.
 fn is_told<K: Hash + Ord + Drop>(
     rt: &impl Abort,
     alloc: Global,

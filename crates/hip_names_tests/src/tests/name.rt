@@ -1,5 +1,5 @@
-//! What the tests ask of an OS string and of a path alike, and of an OS string alone: their calls, by their own names. Names of two calls are
-//! of one after another. The methods say nothing of their answers, so that a test knows nothing but what it compares.
+//! The calls that the tests make on an OS string and on a path alike, and on an OS string alone, by their own names. A name of two calls is
+//! the one after the other. The methods have no contracts, so that a test knows nothing but what it compares.
 use super::handle::Handle;
 use hip_bytes::{Kind, RefMut, Source};
 use std::alloc::{AllocError, Global};
@@ -64,20 +64,20 @@ pub trait Name: Handle + Source + Hash + Ord + fmt::Debug {
     /// By each `From`: to the other type, from it to a byte string, and back.
     fn there_and_back(self) -> Self;
 
-    /// Of a text that is lent for a while.
+    /// `into_owned` of a text that is lent for a while.
     fn borrowed_into_owned(alloc: Global, text: &str) -> Result<Self, AllocError>;
 
-    /// Of an OS string.
+    /// `with_capacity` and `push` of an OS string.
     fn with_capacity_push(alloc: Global, capacity: usize, text: &str) -> Result<Self, AllocError>;
 
-    /// Of the byte string.
+    /// `into_cow` of the byte string.
     fn into_cow(self, alloc: Global) -> Result<CowSlice<'static, u8>, AllocError>;
 
     /// Whether the text is this, by `str_eq`, and where it lies.
     fn into_str_eq(self, text: &str) -> Result<(bool, Kind), Self>;
 }
 
-/// What an OS string alone has.
+/// The calls that an OS string alone has.
 pub trait OsStr: Name {
     fn len(&self) -> usize;
 

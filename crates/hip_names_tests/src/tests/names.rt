@@ -1,4 +1,4 @@
-//! What hipstr's own tests ask of OS strings and of paths, each by its own calls.
+//! hipstr's own tests of OS strings and of paths, each by its own calls.
 use super::handle::Handle;
 use super::name::{Name, OsStr};
 use super::support::{are_equal, must, text_of};
@@ -20,7 +20,7 @@ const STARS: &str = "******************************************";
 #[derive(Clone, Copy)]
 enum Way {
     Taken,
-    /// Of a string that has room for 42 bytes.
+    /// Taken over from a string with room for 42 bytes.
     TakenWithRoom,
     Copied,
     Lent,
@@ -49,7 +49,7 @@ fn made<N: Name>(rt: &impl Abort, alloc: Global, way: Way, text: &'static str) -
     }
 }
 
-/// Of a string that had room for so many bytes.
+/// A name that takes over a string with room for `room` bytes.
 fn taken<N: Name>(rt: &impl Abort, alloc: Global, room: usize, text: &str) -> N {
     let mut string = must(rt, String::with_capacity(alloc, room));
     must(rt, string.push_str(text));
@@ -94,7 +94,7 @@ fn plain<N: Name>(rt: &impl Abort) {
     is(rt, N::borrowed("0123456789"), "0123456789", Kind::Borrowed);
 }
 
-/// How many bytes are copied, and where they lie then.
+/// A number of bytes that are copied, and where they lie then.
 const LENGTHS: &[(usize, Kind)] = &[
     (0, Kind::Inline),
     (1, Kind::Inline),
@@ -115,7 +115,7 @@ fn lengths<N: Name>(rt: &impl Abort, alloc: Global) {
     }
 }
 
-/// A long one gives its vector, any other is handed back.
+/// A long name gives its vector, any other is handed back.
 fn gives_vector<N: Name>(rt: &impl Abort, outcome: Result<Vec<u8>, N>, text: &str, kind: Kind) {
     match outcome {
         Ok(vec) => assert_eq!(rt; (vec.as_slice(), kind), (text.as_bytes(), Kind::Allocated)),
@@ -126,7 +126,7 @@ fn gives_vector<N: Name>(rt: &impl Abort, outcome: Result<Vec<u8>, N>, text: &st
     }
 }
 
-/// By each call that gives one.
+/// Vectors by each call that gives one.
 fn into_vectors<N: Name>(rt: &impl Abort, alloc: Global) {
     for (way, text, kind) in WAYS {
         let name = made::<N>(rt, alloc, *way, text);
@@ -173,7 +173,7 @@ fn into_texts<N: Name>(rt: &impl Abort, alloc: Global) {
     }
 }
 
-/// What is lent is shown and given, anything else is handed back, equal to a clone that was made before.
+/// Lent bytes are shown and handed out; any others are handed back, equal to a clone that was made before.
 fn borrows<N: Name>(rt: &impl Abort, alloc: Global) {
     for (way, text, kind) in WAYS {
         let name = made::<N>(rt, alloc, *way, text);
@@ -254,7 +254,7 @@ const GROWN: &[Grown] = &[
     ),
 ];
 
-/// To paths a part is added.
+/// Like [`GROWN`], for paths, to which a part is added.
 const GROWN_PATHS: &[Grown] = &[
     (
         Way::Lent,
@@ -311,7 +311,7 @@ fn debugs<N: Name>(rt: &impl Abort, alloc: Global) {
     assert_eq!(rt; said.as_str(), "\"abc\"");
 }
 
-/// What is lent is copied, anything else stays where it lies.
+/// Lent bytes are copied, any others stay where they lie.
 fn owns<N: Name>(rt: &impl Abort, alloc: Global) {
     for (way, text, kind) in WAYS {
         let name = made::<N>(rt, alloc, *way, text);
@@ -384,7 +384,7 @@ fn on_paths<N: Name>(rt: &impl Abort, alloc: Global) {
     hostile::of_paths::<N>(rt);
 }
 
-// That a name is what the tests ask of it costs seconds, and more in a function that is generic in the backend.
+// The proof that a type is a `Name` costs seconds, and more in a function that is generic in the backend.
 
 #[test]
 fn os_strings_are_handles_of_bytes(rt: HostRuntime) {

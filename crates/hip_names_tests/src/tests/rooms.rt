@@ -38,7 +38,7 @@ fn shrinks_lent<N: Name>(rt: &impl Abort, alloc: Global) {
     assert_eq!(rt; (room, name.capacity()), (3, 3));
 }
 
-/// These, of an OS string or of a path.
+/// These tests of an OS string or of a path.
 pub(crate) fn of_either<N: Name>(rt: &impl Abort, alloc: Global) {
     rooms::<N>(rt, alloc);
     shrinks::<N>(rt, alloc);

@@ -7,7 +7,7 @@ use std::process::Abort;
 
 const FORM: &[u8] = b"\x03\x00\x00\x00abc";
 
-/// Writes to a writer that takes so many bytes a call at most and fails at its `k`-th call alone, and tells how many writes failed.
+/// Writes to a writer that takes at most `most` bytes a call and fails at its `k`-th call alone, and answers how many writes failed.
 fn write_to<F: Form>(
     value: &F,
     taken: &mut Vec<u8>,
@@ -19,7 +19,7 @@ fn write_to<F: Form>(
     (written, sink.failures())
 }
 
-/// Reads from such a reader.
+/// Reads from a reader that gives at most `most` bytes a call and fails at its `k`-th call alone, and answers how many reads failed.
 fn read_from<F: Form>(
     alloc: Global,
     rest: &mut &[u8],
@@ -106,7 +106,7 @@ fn takes_nothing<F: Form>(rt: &impl Abort, alloc: Global) {
     );
 }
 
-/// All of these, of a byte string or of a text.
+/// All tests of streams, of a byte string or of a text.
 pub(crate) fn all<F: Form>(rt: &impl Abort, alloc: Global) {
     reads_slowly::<F>(rt, alloc);
     far_too_short::<F>(rt, alloc);

@@ -1,4 +1,4 @@
-//! What ends a test, and what several modules ask of a value.
+//! The ends of a test, and the questions that several modules ask of a value.
 use hip_bytes::Kind;
 use std::alloc::{AllocError, Global};
 use std::cmp::Ordering;
@@ -28,7 +28,7 @@ pub(crate) fn text_of<T: fmt::Debug>(alloc: Global, value: &T) -> Result<String,
     format!(in alloc; "{value:?}")
 }
 
-/// What a refused call answers, or the end of the test where it wasn't refused.
+/// The error of a refused call. A call that wasn't refused ends the test.
 pub(crate) fn must_refuse<T: Drop, E>(rt: &impl Abort, outcome: Result<T, E>) -> E {
     match outcome {
         Ok(_) => panic!(rt; "a call wasn't refused"),

@@ -1,7 +1,7 @@
 //! Lengths that take few bytes.
 ghost use Rattle.std.specs.Prelude.{◌≡◌, ◌≤◌, ℕ};
 
-/// How many bytes at most lie in a handle of the layers above.
+/// The greatest number of bytes that a handle of the layers above holds in itself.
 pub const INLINE_CAPACITY: usize = 23;
 
 /// A length of at most `N`.

@@ -86,7 +86,7 @@ fn writes_lent<B: Backend>(rt: &impl Abort, bytes: &mut Allocated<B>) {
     has(rt, bytes, b"AC***************************************B");
 }
 
-/// What stands behind the first two goes, and room is given back.
+/// Cuts off all but the first two bytes, appends three, and gives room back.
 fn cuts_and_shrinks<B: Backend>(
     rt: &impl Abort,
     alloc: Global,

@@ -6,16 +6,16 @@ use hip_raw::{common_prefix, equal, make_ascii_lowercase, make_ascii_uppercase, 
 use std::cmp::Ordering;
 use std::process::Abort;
 
-/// The most bytes of which each length is tried.
+/// The greatest length up to which each is tried.
 const LONGEST: usize = 130;
 
 /// Lengths of up to two stretches of 256 bytes, with blocks and rests behind them.
 const LONGER: &[usize] = &[256, 257, 321, 512, 600];
 
-/// The greatest of these.
+/// The greatest of [`LONGER`].
 const COMPARED: usize = 600;
 
-/// Whether the bytes are the same, as a plain loop tells it.
+/// Whether the bytes are the same, by a plain loop.
 fn plainly_equal(a: &[u8], b: &[u8]) -> bool {
     for (x, y) in a.iter().zip(b) {
         if x != y {
@@ -25,7 +25,7 @@ fn plainly_equal(a: &[u8], b: &[u8]) -> bool {
     a.len() == b.len()
 }
 
-/// How the bytes stand to each other, as a plain loop tells it.
+/// The order of the bytes, by a plain loop.
 fn plainly_ordered(a: &[u8], b: &[u8]) -> Ordering {
     for (x, y) in a.iter().zip(b) {
         if x != y {
@@ -35,7 +35,7 @@ fn plainly_ordered(a: &[u8], b: &[u8]) -> Ordering {
     a.len().cmp(&b.len())
 }
 
-/// How many bytes both begin with alike, as a plain loop tells it.
+/// The length of the prefix that both have in common, by a plain loop.
 fn plainly_common(a: &[u8], b: &[u8]) -> usize {
     let mut common = 0usize;
     for (x, y) in a.iter().zip(b) {
@@ -47,7 +47,7 @@ fn plainly_common(a: &[u8], b: &[u8]) -> usize {
     common
 }
 
-/// Asserts all three, each way round.
+/// Asserts that `equal`, `order` and `common_prefix` agree with the plain loops, each way round.
 fn compares(rt: &impl Abort, a: &[u8], b: &[u8]) {
     assert_eq!(rt;
         (equal(a, b), equal(b, a)),
@@ -72,7 +72,7 @@ fn counted() -> [u8; COMPARED] {
     bytes
 }
 
-/// Compares so many bytes with themselves, and with those that differ from them at one place.
+/// Compares the first `len` bytes with themselves, and with those that differ from them at one place.
 fn one_byte_differs_of(rt: &impl Abort, bytes: &[u8; COMPARED], len: usize) {
     let len = len.min(COMPARED);
     compares(rt, &bytes[..len], &bytes[..len]);
@@ -94,7 +94,7 @@ fn one_byte_differs(rt: HostRuntime) {
     }
 }
 
-/// Compares so many bytes with those that differ from them at two places as far from either end: one has the least byte, the other
+/// Compares the first `len` bytes with those that differ from them at two places as far from either end: one has the least byte, the other
 /// the greatest.
 fn two_bytes_differ_of(rt: &impl Abort, bytes: &[u8; COMPARED], len: usize) {
     let len = len.min(COMPARED);
@@ -117,7 +117,7 @@ fn two_bytes_differ(rt: HostRuntime) {
     }
 }
 
-/// So many bytes from the front.
+/// The first `len` bytes, or all where there are fewer.
 fn front_of(bytes: &[u8; COMPARED], len: usize) -> &[u8] {
     &bytes[..len.min(COMPARED)]
 }

@@ -53,7 +53,7 @@ fn inline_limits(rt: HostRuntime) {
     assert_eq!(rt; two.as_slice(), b"abcd".as_slice());
 }
 
-/// Of each number of bytes that it can hold.
+/// A list of each number of bytes that it can hold.
 #[test]
 fn inline_of_each_length(rt: HostRuntime) {
     let letters = b"abcdefghijklmnopqrstuvwxyzABCDEFGHIJKLMNOPQRSTUVWXYZ0123456789+/";

@@ -1,4 +1,4 @@
-//! What an owner promises.
+//! The contracts of an owner of bytes.
 use super::support::{must, must_refuse};
 use hip_raw::{Appended, Backend, Meter, Rc, Room, Unique};
 use std::alloc::Global;
@@ -75,7 +75,7 @@ fn an_owner_hands_out_the_byte_that_it_was_given(rt: HostRuntime) {
     the_last_is_sole(&rt, rt.alloc());
 }
 
-/// What is written in one owner doesn't show in its part.
+/// A write in a part that has an owner of its own doesn't show in the owner that it was taken from.
 #[test]
 fn an_owner_of_its_own_is_written_alone(rt: HostRuntime) {
     let alloc = rt.alloc();

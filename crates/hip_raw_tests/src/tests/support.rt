@@ -13,7 +13,7 @@ pub(crate) fn must<T, E: Drop>(rt: &impl Abort, outcome: Result<T, E>) -> T
     }
 }
 
-/// What a refused call answers, or the end of the test where it wasn't refused.
+/// The error of a refused call. A call that wasn't refused ends the test.
 pub(crate) fn must_refuse<T: Drop, E>(rt: &impl Abort, outcome: Result<T, E>) -> E
     ensures { outcome ≡ Err result }
 {

@@ -8,19 +8,19 @@ use std::process::Abort;
 /// A call.
 #[derive(Clone, Copy)]
 pub(crate) enum Call {
-    /// That changes the handle. A refused one leaves it as it was.
+    /// Changes the handle. A refused one leaves it as it was.
     Change(Change),
-    /// That makes a handle of another, which stays as it is.
+    /// Makes a handle of another, which stays as it is.
     Copying(Copying),
-    /// That makes something else of the handle. A refused one hands it back.
+    /// Makes something else of the handle. A refused one hands it back.
     Conversion(Conversion),
-    /// That makes a handle of a vector, or of what has one. A refused one hands that back.
+    /// Makes a handle of a vector, or of what has one. A refused one hands that back.
     Taking(Taking),
-    /// That makes a handle of what it leaves as it is.
+    /// Makes a handle of something that it leaves as it is.
     Making(Making),
-    /// That tells of the handle, which stays as it is.
+    /// Tells something of the handle, which stays as it is.
     Telling(Telling),
-    /// That lends the bytes out. Where they can't be lent the handle is as it was, where they can't be put back they are handed back.
+    /// Lends the bytes out. Where they can't be lent the handle is as it was, where they can't be put back they are handed back.
     Lending(Lending),
 }
 
@@ -170,7 +170,7 @@ fn told<H: Handle>(rt: &impl Abort, alloc: Global, trial: Trial, telling: Tellin
     refused
 }
 
-/// What a handle without bytes is seen as.
+/// The place and the capacity of a handle without bytes.
 const EMPTY: Place = ((true, false, false), 23);
 
 fn lent<H: Handle>(rt: &impl Abort, alloc: Global, trial: Trial, lending: Lending) -> bool {
@@ -219,7 +219,7 @@ fn of<H: Handle>(rt: &impl Abort, alloc: Global, call: Call) -> usize {
     refusals
 }
 
-/// Runs calls on a type whose owners are shared, and on the same where they aren't. Each of them takes memory on one of them.
+/// Runs calls on a type whose owners are shared, and on the same where they aren't. Each of them allocates on one of them.
 fn are_on_both<S: Handle, U: Handle>(rt: &impl Abort, alloc: Global, calls: &[Call]) {
     for (i, call) in calls.iter().enumerate() {
         let met = of::<S>(rt, alloc, *call).saturating_add(of::<U>(rt, alloc, *call));
@@ -231,7 +231,7 @@ fn are_on_both<S: Handle, U: Handle>(rt: &impl Abort, alloc: Global, calls: &[Ca
     }
 }
 
-/// The same of tables of calls.
+/// Like [`are_on_both`], for the calls of several tables.
 pub(crate) fn on_both<S: Handle, U: Handle>(rt: &impl Abort, alloc: Global, tables: &[&[Call]]) {
     for calls in tables {
         are_on_both::<S, U>(rt, alloc, calls);

@@ -17,7 +17,7 @@ const SHORT: &[u8] = b" ab";
 /// Slot 0 becomes a text.
 pub(crate) const TEXTS: &[Command<'static>] = &[Command::Text(0)];
 
-// What makes the value of slot 0, and what stands in a slot that commands replace.
+// Commands that make the value of slot 0, and a value in a slot that later commands replace.
 
 const INLINE: &[Command<'static>] = &[Command::Copy(0, SHORT), Command::Copy(2, BYTES)];
 

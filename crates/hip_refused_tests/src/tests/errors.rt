@@ -33,7 +33,7 @@ fn is_cloned<B: Backend>(rt: &impl Abort, alloc: Global, held: Held, k: usize) -
     refused
 }
 
-/// How many requests are refused for the clones of all such errors.
+/// The number of requests that are refused for the clones of all such errors.
 fn met<B: Backend>(rt: &impl Abort, alloc: Global) -> usize {
     let mut refusals = 0usize;
     for held in EACH_HELD {

@@ -1,4 +1,4 @@
-//! Records of fields: want of memory is told just where a request was refused, and the text is as it was.
+//! Records of fields: a refusal of memory is told just where a request was refused, and the text is as it was.
 use super::held::{EACH_HELD, Held, text_of};
 use super::refusing::{each, refuse, was_refused};
 use hip_fields::reader::Records;

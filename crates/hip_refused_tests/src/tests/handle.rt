@@ -1,6 +1,6 @@
-//! What the scenarios ask of a handle: each call by its own name, of each type by its own impl. The calls say nothing of their answers, so that
-//! a scenario knows nothing but what it compares. A call that a type lacks ends the test; each impl names all of them, so that a new one has to be
-//! put to a call of each type's, or to those that it lacks, before anything compiles.
+//! The calls that the scenarios make on a handle, each by its own name, with an impl for each type. The calls have no contracts, so that a
+//! scenario knows nothing but what it compares. A call that a type lacks ends the test; each impl names all of them, so that a new one has
+//! to be put to a call of each type's, or to those that it lacks, before anything compiles.
 use super::calls::Place;
 use super::held::Held;
 use hipstr::bytes::JsonFault;
@@ -120,7 +120,7 @@ pub trait Handle: Drop {
     /// How they can be held.
     fn each_held() -> &'static [Held];
 
-    /// What takes these bytes over, with their room.
+    /// A handle that takes these bytes over, with their room.
     fn of_vec(alloc: Global, vec: Vec<u8>) -> Result<Self, AllocError>;
 
     fn lent(bytes: &'static [u8]) -> Result<Self, AllocError>;

@@ -24,29 +24,29 @@ pub(crate) const EACH_HELD: &[Held] = &[Held::Inline, Held::Lent, Held::Sole, He
 pub(crate) const TEXT: &str =
     " aaaaaaaaaaaaaaaaaaaaaaaaaaaaaa,bbbbbbbbbbbbbbbbbbbbbbbbbbbbbb,cccccccccccccccccccccccccccccc ";
 
-/// The same as bytes.
+/// [`TEXT`] as bytes.
 pub(crate) const BYTES: &[u8] =
     b" aaaaaaaaaaaaaaaaaaaaaaaaaaaaaa,bbbbbbbbbbbbbbbbbbbbbbbbbbbbbb,cccccccccccccccccccccccccccccc ";
 
 /// Its first part, without the space.
 pub(crate) const PART: &str = "aaaaaaaaaaaaaaaaaaaaaaaaaaaaaa";
 
-/// The same as bytes.
+/// [`PART`] as bytes.
 pub(crate) const PART_BYTES: &[u8] = b"aaaaaaaaaaaaaaaaaaaaaaaaaaaaaa";
 
 /// 40 bytes that are no text, nor is their front.
 pub(crate) const BROKEN: &[u8] = b"a\xFFbbbbbbbbbbbbbbbbbbbbbbbbbbbbbbbbbbbbbb";
 
-/// What is added to others.
+/// The text that is added to others.
 pub(crate) const ADDED: &str = "0123456789abcdefghijklmnopqrstuvwxyz";
 
-/// The same as bytes.
+/// [`ADDED`] as bytes.
 pub(crate) const ADDED_BYTES: &[u8] = b"0123456789abcdefghijklmnopqrstuvwxyz";
 
-/// What a text has.
+/// The values of texts.
 pub(crate) const TEXTS: &[&[u8]] = &[BYTES];
 
-/// What bytes have that need be no text.
+/// The values of byte strings, which need be no text.
 pub(crate) const LISTS: &[&[u8]] = &[BYTES, BROKEN];
 
 /// A form of 30 bytes.

@@ -21,7 +21,7 @@ fn without<T: Copy + Drop>(rt: &impl Abort, alloc: Global, items: &[T], at: usiz
     rest
 }
 
-/// What commands answer where memory is ample.
+/// The answers of commands where memory is ample.
 fn answers_of<'b, B: Backend>(
     rt: &impl Abort,
     alloc: Global,
@@ -53,7 +53,7 @@ fn is_same<B: Backend>(slot: &Slot<'_, B>, other: &Slot<'_, B>) -> bool {
         && slot.capacity() == other.capacity()
 }
 
-/// What may differ in two pools.
+/// The difference that two pools may have.
 #[derive(Clone, Copy)]
 enum Apart {
     Nothing,
@@ -75,7 +75,7 @@ fn is_by_length<B: Backend>(slot: &Slot<'_, B>, bytes: &[u8]) -> bool {
             }
 }
 
-/// Whether two slots at a position hold the same, save what may differ.
+/// Whether two slots at a position hold the same, but for what may differ.
 fn is_alike<B: Backend>(slot: &Slot<'_, B>, other: &Slot<'_, B>, at: usize, apart: Apart) -> bool {
     let is_like = match apart {
         Apart::Room(t) if t == at => is_by_length(slot, other.as_bytes()),
@@ -87,7 +87,7 @@ fn is_alike<B: Backend>(slot: &Slot<'_, B>, other: &Slot<'_, B>, at: usize, apar
     is_same(slot, other) || is_like && slot.is_text() == other.is_text()
 }
 
-/// Asserts that two pools hold the same, save what may differ.
+/// Asserts that two pools hold the same, but for what may differ.
 fn are_same<B: Backend>(rt: &impl Abort, pool: &Pool<'_, B>, other: &Pool<'_, B>, apart: Apart) {
     for i in 0..SLOTS {
         let slot = must(rt, pool.slot(i).ok_or("no slot"));
@@ -96,7 +96,7 @@ fn are_same<B: Backend>(rt: &impl Abort, pool: &Pool<'_, B>, other: &Pool<'_, B>
     }
 }
 
-/// What may differ where a request was refused: in the slot of a `Mutate`, if there is one.
+/// The difference that a refused request may leave: in the slot of a `Mutate`, if there is one.
 fn apart_by(commands: &[Command<'static>], refused_at: usize) -> Apart {
     for (i, command) in commands.iter().enumerate() {
         if let Command::Mutate(slot, _) = command {

@@ -60,7 +60,8 @@ impl<B: Backend> Handle for HipStr<'static, B> {
     fn copy(&self, rt: &impl Abort, alloc: Global, copying: Copying) -> Result<Self, AllocError> {
         match copying {
             Copying::Clone => self.clone(alloc),
-            // That the whole is a range of the text is found out first, which takes memory as the slice does.
+            // Whether the whole is a range of the text is tested first, which allocates as the
+            // slice does.
             Copying::Slice => match self.try_slice(alloc, ..) {
                 Ok(_) => self.slice(alloc, ..),
                 Err(_) => Err(AllocError),
@@ -181,7 +182,7 @@ impl<B: Backend> Handle for HipStr<'static, B> {
     }
 }
 
-/// What is cut of a text, or the last of what is taken out of it.
+/// The part of a text that a call cuts out, or the last one where it gives several.
 fn cut_of<B: Backend>(
     text: &HipStr<'static, B>,
     alloc: Global,

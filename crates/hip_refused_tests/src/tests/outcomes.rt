@@ -1,11 +1,11 @@
-//! What calls answer, told alike: whether memory was wanting, and what is handed back.
+//! The outcomes of calls in one form: whether memory was refused, and what is handed back.
 use hipstr::bytes::{BorshFault, GrowFault, JsonFault, MutateFault};
 use hipstr::string::{BytesFault, Utf16Fault};
 use hipstr::{ByteSink, VecSink};
 use std::alloc::AllocError;
 use std::borrow::CowSlice;
 
-/// What was made, or whether memory was wanting.
+/// The value that was made, or `true`, as memory was refused.
 pub(crate) fn of_memory<T>(outcome: Result<T, AllocError>) -> Result<T, bool> {
     match outcome {
         Ok(made) => Ok(made),
@@ -48,7 +48,7 @@ pub(crate) fn of_bytes<T>(outcome: Result<T, BytesFault>) -> Result<T, bool> {
     }
 }
 
-/// What a guard had to put back.
+/// The value that a guard couldn't put back.
 pub(crate) fn put_back<V: Drop>(outcome: Result<(), V>) -> Result<(), Option<V>> {
     match outcome {
         Ok(()) => Ok(()),
@@ -56,7 +56,7 @@ pub(crate) fn put_back<V: Drop>(outcome: Result<(), V>) -> Result<(), Option<V>>
     }
 }
 
-/// What a closure wasn't called with, or left to be put back.
+/// The outcome of a mutation: `Err(None)` where the closure wasn't called, `Err(Some(_))` with the value that couldn't be put back.
 pub(crate) fn lent_back<V: Drop>(outcome: Result<(), MutateFault<(), V>>) -> Result<(), Option<V>> {
     match outcome {
         Ok(_) => Ok(()),

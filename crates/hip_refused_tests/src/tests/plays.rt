@@ -1,4 +1,4 @@
-//! A script, played to a writer that takes no memory: whatever request is refused, that is the fault that is told.
+//! A script, played to a writer that doesn't allocate: whatever request is refused, that is the fault that is told.
 use super::refusing::{each, refuse, was_refused};
 use hip_script::PlayFault;
 use hip_script::play::play;
@@ -11,7 +11,7 @@ const SCRIPT: &[u8] =
 
 const ANSWERS: &[u8] = b"done\ndone\n4\ntext \"d\"\nborrowed\n";
 
-/// What was written before a refusal stays, and is a beginning of the answers.
+/// The bytes that were written before a refusal stay, and are a beginning of the answers.
 fn is_played<B: Backend>(rt: &impl Abort, alloc: Global, k: usize) -> bool {
     let mut room = [0; 64];
     refuse(alloc, k);

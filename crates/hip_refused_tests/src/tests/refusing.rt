@@ -5,7 +5,7 @@ use std::process::Abort;
 
 const GREATEST: usize = isize::MAX as usize;
 
-/// How many requests of a scenario are refused at most.
+/// The greatest number of requests of a scenario that are refused.
 const MOST: usize = 10_000;
 
 /// Orders that the `k`-th request from here on is refused, and no other.

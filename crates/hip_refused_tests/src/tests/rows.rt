@@ -15,7 +15,7 @@ fn many<B: Backend>(rt: &impl Abort, alloc: Global) -> HipStr<'static, B> {
     must(rt, fields)
 }
 
-/// How many pieces there are of 30 bytes, and of none, and how many of all that were drawn.
+/// The number of pieces of 30 bytes, of those of none, and of all that were drawn.
 fn drawn<B: Backend>(
     text: &HipStr<'_, B>,
     alloc: Global,
@@ -40,7 +40,7 @@ fn drawn<B: Backend>(
     (long, empty, all)
 }
 
-/// Its clone, its bytes from 100 to 3,000, and its fields, with how many bytes are copied for all of these.
+/// The number of bytes that are copied for a clone of the text, its bytes from 100 to 3,000, and its fields.
 fn cut<B: Backend>(rt: &impl Abort, alloc: Global, text: &HipStr<'_, B>) -> u128 {
     let mut meter = Meter::new();
     let clone = must(rt, text.clone_metered(alloc, &mut meter));
@@ -84,7 +84,7 @@ fn nothing_pushed_on_a_clone_takes_none(rt: HostRuntime) {
     );
 }
 
-/// Appends that fit, and a loan for writing.
+/// Appends that fit, and a loan for writing, meet no refusal.
 #[test]
 fn room_filled_takes_none(rt: HostRuntime) {
     let mut handle = must(&rt, HipByt::<Unique>::with_capacity(rt.alloc(), 64));

@@ -1,4 +1,4 @@
-//! The calls of each type that can take memory.
+//! The calls of each type that may allocate.
 use super::calls::{Call, on_both};
 use super::handle::{Change, Conversion, Copying, Cut, Lending, Making, Taking, Telling};
 use hipstr::bytes::HipByt;
@@ -17,7 +17,7 @@ const OF_OWNERS: &[Call] = &[
     Call::Making(Making::CopyCounted),
 ];
 
-/// What all handles have.
+/// The calls that all handles have.
 const OF_ALL: &[Call] = &[
     Call::Change(Change::ShrinkTo),
     Call::Change(Change::ShrinkToFit),
@@ -29,7 +29,7 @@ const OF_ALL: &[Call] = &[
     Call::Lending(Lending::WithMutated),
 ];
 
-/// What byte strings and texts have.
+/// The calls that byte strings and texts have.
 const OF_LISTS: &[Call] = &[
     Call::Change(Change::Push),
     Call::Change(Change::MakeAsciiUppercase),

@@ -39,7 +39,7 @@ const WALKS: &[Walk] = &[
     Walk::Placed(Placed::PiecesAt),
 ];
 
-/// How many items a walk gave, and how many of them were errors.
+/// The number of items that a walk gave, and of those that were errors.
 #[derive(Clone, Copy)]
 struct Tally {
     items: usize,
@@ -71,7 +71,7 @@ fn given<'h, 'b, B: Backend, I: Unnumbered + Drop>(pieces: IterWrapper<'h, 'b, B
     tally
 }
 
-/// From the back, of a walk of fewer than ten pieces.
+/// Like [`given`], from the back, of a walk of fewer than ten pieces.
 fn given_from_back<'h, 'b, B: Backend, I: Unnumbered + RangesBack + Drop>(
     pieces: IterWrapper<'h, 'b, B, I>,
 ) -> Tally {
@@ -86,7 +86,7 @@ fn given_from_back<'h, 'b, B: Backend, I: Unnumbered + RangesBack + Drop>(
     tally
 }
 
-/// Of pieces with their places.
+/// Like [`given`], of pieces with their places.
 fn given_with_places<T: Drop, I: Iterator<Item = (usize, Result<T, AllocError>)> + Drop>(
     pieces: I,
 ) -> Tally
@@ -141,7 +141,7 @@ fn is_walked<B: Backend>(rt: &impl Abort, alloc: Global, held: Held, walk: Walk,
     refused
 }
 
-/// Pieces take memory where owners aren't shared, and there alone.
+/// Pieces allocate where owners aren't shared, and there alone.
 fn are_walked<B: Backend>(rt: &impl Abort, alloc: Global, i: usize, walk: Walk) {
     let mut refusals = 0usize;
     for held in EACH_HELD {

@@ -22,7 +22,7 @@ impl<'b, B: Backend> HipStr<'b, B> {
         self.bytes.eq_slice(other.as_bytes())
     }
 
-    /// How the text stands to this one, in the order of their bytes.
+    /// The lexicographic order of the bytes of the text and of this one.
     #[inline]
     pub fn str_cmp(&self, other: &str) -> Ordering
         ensures { result ≡ slice_cmp nat_cmp self.now.items other.now }
@@ -38,7 +38,7 @@ impl<'b, B: Backend> HipStr<'b, B> {
         self.str_eq(other.as_str())
     }
 
-    /// How the text stands to that of a value on another backend.
+    /// The lexicographic order of the bytes of the text and of one on another backend.
     #[inline]
     pub fn cmp_with<B2: Backend>(&self, other: &HipStr<'_, B2>) -> Ordering
         ensures { result ≡ slice_cmp nat_cmp self.now.items other.now.items }

@@ -25,7 +25,7 @@ impl<'b, B: Backend> HipStr<'b, B> {
     }
 
     /// Reads a Borsh form, as [`HipStr::serialize`] writes it, and takes no byte behind it. Whether the bytes are UTF-8 is tested once all
-    /// are there. Memory is taken as the bytes come, at most 4,096 bytes ahead of them. A read that fails isn't tried again.
+    /// are there. It allocates as the bytes come, at most 4,096 bytes ahead of them. A read that fails isn't tried again.
     pub fn deserialize_reader<R: ByteSource>(
         alloc: Global,
         source: &mut R,

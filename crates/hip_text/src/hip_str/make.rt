@@ -18,7 +18,7 @@ impl<'b, B: Backend> HipStr<'b, B> {
         HipStr::from_utf8_unchecked(HipByt::new())
     }
 
-    /// The empty text, with room for so many bytes.
+    /// The empty text, with room for `capacity` bytes.
     #[inline]
     pub fn with_capacity(alloc: Global, capacity: usize) -> Result<Self, AllocError>
         ensures holds { IfOk result (λ text. Holds text (by_length capacity) []) }

@@ -57,7 +57,7 @@ impl<'b, B: Backend> TextSource for HipStr<'b, B> {
 
 impl<'b, B: Backend> HipStr<'b, B> {
     /// Lends the text out in a `String`, which [`RefMut::finish`] writes back. Until then the value is empty. Where the bytes begin the
-    /// list of an owner that no other handle shares, neither call takes memory of its own. A refused call changes nothing, as
+    /// list of an owner that no other handle shares, neither call allocates anything of its own. A refused call changes nothing, as
     /// [`TextSource::lend_string_metered`] says of its own. What a guard leaves is known in functions that are generic in the
     /// [`TextSource`].
     pub fn mutate(&mut self, alloc: Global) -> Result<RefMut<'_, Self>, AllocError>

@@ -8,7 +8,7 @@ use std::convert::{AsSlice, AsStr};
 use std::str::from_utf8_unchecked;
 
 impl<'b, B: Backend> HipStr<'b, B> {
-    /// How many bytes the text has.
+    /// The number of bytes of the text.
     #[inline]
     pub fn len(&self) -> usize
         ensures len { result ≡ length self.now.items }
@@ -77,7 +77,7 @@ impl<'b, B: Backend> HipStr<'b, B> {
         self.bytes.is_allocated()
     }
 
-    /// How many bytes a text holds in itself at most.
+    /// The greatest number of bytes that a text holds in itself.
     #[inline]
     pub fn inline_capacity() -> usize
         ensures { result ≡ INLINE_CAPACITY }
@@ -85,7 +85,7 @@ impl<'b, B: Backend> HipStr<'b, B> {
         INLINE_CAPACITY
     }
 
-    /// How many bytes the text can hold where they lie.
+    /// The number of bytes that the text can hold where they lie.
     #[inline]
     pub fn capacity(&self) -> usize
         ensures capacity { result ≡ self.now.capacity }

@@ -36,7 +36,7 @@ impl<'b, B: Backend> HipStr<'b, B> {
         self.bytes.make_ascii_lowercase_metered(alloc, meter)
     }
 
-    /// The same text with the letters `A` to `Z` moved to `a` to `z`.
+    /// A copy in which the letters `A` to `Z` are `a` to `z`.
     #[inline]
     pub fn to_ascii_lowercase(&self, alloc: Global) -> Result<Self, AllocError>
         ensures copy { CopyAnswers self.now (map to_ascii_lowercase self.now.items) result }
@@ -86,7 +86,7 @@ impl<'b, B: Backend> HipStr<'b, B> {
         self.bytes.make_ascii_uppercase_metered(alloc, meter)
     }
 
-    /// The same text with the letters `a` to `z` moved to `A` to `Z`.
+    /// A copy in which the letters `a` to `z` are `A` to `Z`.
     #[inline]
     pub fn to_ascii_uppercase(&self, alloc: Global) -> Result<Self, AllocError>
         ensures copy { CopyAnswers self.now (map to_ascii_uppercase self.now.items) result }

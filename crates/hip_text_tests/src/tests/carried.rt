@@ -1,4 +1,4 @@
-//! What hipstr's own tests ask of texts, and worked cases.
+//! hipstr's own tests of texts, and worked cases.
 use super::suite::{Suite, run_on_each};
 use super::support::{holds, is, must, reads};
 use super::text::{Bytes, Text};
@@ -60,7 +60,7 @@ fn has<T: Text>(rt: &impl Abort, bytes: T::Bytes, text: &str, kind: Kind) {
     assert_eq!(rt; (bytes.as_slice(), bytes.kind()), (text.as_bytes(), kind));
 }
 
-/// By the call of that name, and by `From`.
+/// A text becomes bytes by the call of that name, and by `From`.
 fn into_bytes<T: Text>(rt: &impl Abort, alloc: Global) {
     for (way, text, kind) in WAYS {
         has::<T>(
@@ -193,7 +193,7 @@ fn example<T: Text>(rt: &impl Abort, alloc: Global) {
     is(rt, name, "John", Kind::Inline);
 }
 
-/// What is pushed at the limit of the handle, how long the text is then, and where it lies.
+/// The number of `a` before the character that is pushed, the character, the length of the text then, and where it lies.
 type Pushed = (usize, char, usize, Kind);
 
 const AT_THE_LIMIT: &[Pushed] = &[
@@ -253,7 +253,7 @@ fn texts_are_their_bytes_wherever_they_lie(rt: HostRuntime) {
     run_on_each::<Carried>(&rt, rt.alloc());
 }
 
-/// What borrows from a string stays borrowed, beside what borrows from elsewhere.
+/// A text that borrows from a string stays borrowed, beside one that borrows from elsewhere.
 fn stays_borrowed<B: Backend>(rt: &impl Abort, alloc: Global) {
     let string = must(rt, String::from_str(alloc, "abc"));
     let text = must(

@@ -20,7 +20,7 @@ fn by_a_character(alloc: Global) -> Result<bool, AllocError> {
     Ok(gives(copy, &["b", "c"]) & gives(pieces, &["b", "c"]))
 }
 
-/// By a closure, before a piece is drawn.
+/// Whether a walk by a closure and its clone, made before a piece is drawn, give the same.
 fn by_a_closure(alloc: Global, wanted: char) -> Result<bool, AllocError> {
     let source = HipStr::<Rc>::borrowed(TEXT);
     let pattern = CharPred::with(|c| c == wanted, chosen_for(wanted));

@@ -13,14 +13,14 @@ use hip_cuts::hip_match::split::Split;
 use hip_cuts::{Backend, HipStr, PiecesAt, Rc, TextCuts, Unique, Walk};
 use std::alloc::{AllocError, Global};
 
-/// That the digits pass.
+/// Answers by which the digits pass.
 fn chosen_digits() -> Chosen
     ensures { (c : ℕ) → IsScalar c → answer_at result.answers c ≡ is_ascii_digit c }
 {
     choose_by(&())
 }
 
-/// That `wanted` alone passes.
+/// Answers by which `wanted` alone passes.
 pub(crate) fn chosen_for(wanted: char) -> Chosen
     ensures { (c : ℕ) → IsScalar c → answer_at result.answers c ≡ (c == wanted) }
 {
@@ -54,14 +54,14 @@ pub(crate) fn places_of<'h, 'b, I: Ranges + Drop>(
     Ok(seen)
 }
 
-/// Those of the parts between digits.
+/// The places of the parts between digits.
 fn places(alloc: Global) -> Result<u64, AllocError> {
     let source = HipStr::<Rc>::borrowed("a1b22c");
     let pattern = CharPred::with(|c| c.is_ascii_digit(), chosen_digits());
     places_of(source.pieces_at(alloc, Split::new(source.as_str(), pattern)))
 }
 
-/// The same from the back.
+/// Like [`places_of`], from the back.
 fn places_back_of<'h, 'b, I: RangesBack + Drop>(
     pieces: PiecesAt<'h, HipStr<'b, Rc>, I>,
 ) -> Result<u64, AllocError>

@@ -30,7 +30,7 @@ const END_MID: SliceErrorKind = SliceErrorKind::EndNotACharBoundary;
 
 const MAX: usize = usize::MAX;
 
-/// Of the bytes 61 C3 A9 7A.
+/// Ranges that are refused, of the bytes 61 C3 A9 7A.
 const OF_THREE: &[Refused] = &[
     (
         Included(5),
@@ -74,7 +74,7 @@ const OF_THREE: &[Refused] = &[
     ),
 ];
 
-/// Of the bytes C3 A9.
+/// Ranges that are refused, of the bytes C3 A9.
 const OF_ONE: &[Refused] = &[
     (
         Included(1),
@@ -110,7 +110,7 @@ const OF_ONE: &[Refused] = &[
     ),
 ];
 
-/// Of the bytes 61 C3 A9 F0 9F 98 80: numbers are looked at before boundaries.
+/// Ranges that are refused, of the bytes 61 C3 A9 F0 9F 98 80: numbers are looked at before boundaries.
 const OF_FOUR: &[Refused] = &[
     (
         Included(2),
@@ -217,7 +217,7 @@ fn is_kept<T: Text>(rt: &impl Abort, bytes: T::Bytes, kind: Kind) {
     );
 }
 
-/// Lent, alone, and with an owner that has room.
+/// Bytes that aren't UTF-8: lent, alone, and with an owner that has room.
 fn not_utf8<T: Text>(rt: &impl Abort, alloc: Global) {
     is_kept::<T>(rt, T::Bytes::borrowed(b"abc\xFF"), Kind::Borrowed);
     let bytes = must(rt, T::Bytes::from_slice(alloc, b"abc\xFF"));

@@ -5,7 +5,7 @@ use std::ops::Range;
 /// A part of a text, or why there is none.
 pub type Part<S> = Result<S, RangeFault>;
 
-/// What a `SliceError` tells, by its calls and as it is shown.
+/// A `SliceError`, by the answers of its calls and by its texts.
 #[derive(Drop)]
 pub struct Told {
     pub source: String,

@@ -1,4 +1,4 @@
-//! A text on any backend is what the tests ask of one.
+//! The tests' calls of a text, for any backend.
 use super::faults::{Part, RangeFault, Refusal, Told};
 use super::support::both_shown;
 use super::text::{Bytes, FromUtf8Error, Text};

@@ -37,7 +37,7 @@ fn sees_first<'h, 'b, B: Backend, I: Unnumbered>(
     is_seen(piece, meter, want)
 }
 
-/// Whether this is seen of the last one.
+/// Whether this is seen of the last piece that is left.
 fn sees_last<'h, 'b, B: Backend, I: Unnumbered + RangesBack>(
     pieces: &mut IterWrapper<'h, 'b, B, I>,
     want: Seen,
@@ -53,7 +53,7 @@ fn sees<B: Backend>(source: &HipStr<'_, B>, alloc: Global, long: Seen, short: Se
     sees_first(&mut fields, long) & sees_first(&mut fields, short)
 }
 
-/// Whether this is seen of them, drawn from the back.
+/// Whether this is seen of the two fields, drawn from the back.
 fn sees_back<B: Backend>(source: &HipStr<'_, B>, alloc: Global, long: Seen, short: Seen) -> bool {
     let mut fields = source.split(alloc, ',');
     sees_last(&mut fields, short) & sees_last(&mut fields, long)
@@ -81,7 +81,7 @@ fn sees_comma<B: Backend>(source: &HipStr<'_, B>, alloc: Global, want: Seen) -> 
     is_comma(comma, first, want) & is_comma(back, last, want)
 }
 
-/// Whether this is seen of it among the matches from the end.
+/// Whether this is seen of the comma among the matches from the end.
 fn sees_comma_back<B: Backend>(source: &HipStr<'_, B>, alloc: Global, want: Seen) -> bool {
     let (mut first, mut last) = (Meter::new(), Meter::new());
     let comma = source.rmatch_indices(alloc, ',').next_metered(&mut first);

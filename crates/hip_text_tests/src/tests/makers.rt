@@ -37,7 +37,7 @@ fn rooms<T: Text>(rt: &impl Abort, alloc: Global) {
     is(rt, room, "", Kind::Allocated);
 }
 
-/// What is lent comes out again, and a copy is handed back.
+/// A lent text comes out again, and a copy is handed back.
 fn borrows<T: Text>(rt: &impl Abort, alloc: Global) {
     let lent = T::borrowed(LETTERS);
     assert_eq!(rt; lent.capacity(), 26);
@@ -51,7 +51,7 @@ fn borrows<T: Text>(rt: &impl Abort, alloc: Global) {
     );
 }
 
-/// What a map says of two keys, once it has 7 under another. It knows nothing of a key but its bounds.
+/// The values of two keys in a hash map that has 7 under `key`. It knows nothing of a key but its bounds.
 fn ages_of<K: Hash + Eq + Drop>(
     alloc: Global,
     key: K,

@@ -6,7 +6,7 @@ use hip_cuts::{Backend, HipStr, IterWrapper, Rc, TextCuts, Unique};
 use std::alloc::{AllocError, Global};
 use std::process::Abort;
 
-/// What a walk gives.
+/// The answer of a walk's `next`: a position and a piece.
 pub(crate) type Found<'b, B> = Option<(usize, Result<HipStr<'b, B>, AllocError>)>;
 
 /// Whether this text was found at this place, or nothing was.
@@ -66,7 +66,7 @@ fn finds_first<'h, 'b, B: Backend, P: Pattern>(
     is_match(matches.next(), place, text)
 }
 
-/// Whether this is the last one.
+/// Whether this is the last match that is left.
 fn finds_last<'h, 'b, B: Backend, P: OneChar>(
     matches: &mut IterWrapper<'h, 'b, B, MatchIndices<'h, P>>,
     place: Option<usize>,
@@ -84,7 +84,7 @@ fn rfinds_first<'h, 'b, B: Backend, P: ReversePattern>(
     is_match(matches.next(), place, text)
 }
 
-/// Whether this is the last of them.
+/// Whether this is the last that is left of the matches from the end.
 fn rfinds_last<'h, 'b, B: Backend, P: OneChar>(
     matches: &mut IterWrapper<'h, 'b, B, RMatchIndices<'h, P>>,
     place: Option<usize>,
@@ -135,7 +135,7 @@ pub(crate) fn draws_digits<B: Backend, P: OneChar>(alloc: Global, pattern: P) ->
         & finds_last(&mut matches, None, "")
 }
 
-/// Whether they are drawn from both ends of the matches from the end.
+/// Whether the digits of `a1b2c3` are drawn from both ends of the matches from the end.
 pub(crate) fn draws_digits_back<B: Backend, P: OneChar>(alloc: Global, pattern: P) -> bool
     requires { P.can_search pattern }
 {

@@ -1,5 +1,5 @@
-//! Tests that are run on the texts of each backend. That a text is what the tests ask of it costs seconds in each function that needs it,
-//! and more in one that is generic in the backend, so this one names them.
+//! Tests that are run on the texts of each backend. The proof that a text has the tests' calls costs seconds in each function that needs
+//! it, and more in one that is generic in the backend, so this one names them.
 use super::text::Text;
 use hip_text::{HipStr, Rc, Unique};
 use std::alloc::Global;

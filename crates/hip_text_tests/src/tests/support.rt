@@ -1,4 +1,4 @@
-//! What ends a test, and what several modules assert.
+//! The ends of a test, and the assertions of several modules.
 use super::text::{FromUtf8Error, Text};
 use hip_text::Kind;
 use std::alloc::{AllocError, Global};
@@ -21,12 +21,12 @@ pub(crate) fn holds<T: Text>(rt: &impl Abort, text: &T, items: &str, kind: Kind)
     );
 }
 
-/// The same of a text that nothing else is asked of.
+/// Like [`holds`], for a text that isn't used any more.
 pub(crate) fn is<T: Text>(rt: &impl Abort, text: T, items: &str, kind: Kind) {
     holds(rt, &text, items, kind);
 }
 
-/// What a refused call answers, or the end of the test where it wasn't refused.
+/// The error of a refused call. A call that wasn't refused ends the test.
 pub(crate) fn must_refuse<T: Drop, E>(rt: &impl Abort, outcome: Result<T, E>) -> E {
     match outcome {
         Ok(_) => panic!(rt; "a call wasn't refused"),

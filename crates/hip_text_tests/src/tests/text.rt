@@ -1,6 +1,5 @@
-//! What the tests ask of a text, of its bytes, and of the error of bytes that aren't one: their calls, by their own names. A name with more
-//! behind it is that call of one kind of range, or of its guard. The methods say nothing of their answers, so that a test knows nothing but
-//! what it compares.
+//! The calls that the tests make on a text, on its bytes, and on the error of bytes that aren't one, by their own names. A longer name is
+//! that call with one kind of range, or of its guard. The methods have no contracts, so that a test knows nothing but what it compares.
 use super::faults::{Part, RangeFault, Refusal};
 use hip_text::{BytesFault, GrowFault, Kind, Meter, Utf16Fault};
 use std::alloc::{AllocError, Global};
@@ -114,15 +113,15 @@ pub trait Text: Hash + Ord + Drop {
 
     fn str_eq(&self, other: &str) -> bool;
 
-    /// With a lent text of `Unique`.
+    /// `eq_with` a lent text of `Unique`.
     fn eq_with(&self, other: &str) -> bool;
 
     fn str_cmp(&self, other: &str) -> Ordering;
 
-    /// With a lent text of `Unique`.
+    /// `cmp_with` a lent text of `Unique`.
     fn cmp_with(&self, other: &str) -> Ordering;
 
-    /// Of two texts that are lent for a while.
+    /// `cmp` of two texts that are lent for a while.
     fn cmp_borrowed(left: &str, right: &str) -> Ordering;
 }
 

@@ -1,7 +1,7 @@
 //! Templates that are filled.
 ghost use Rattle.std.specs.Prelude.{◌≡◌, ◌++◌, IfErr, IfOk};
 ghost use Rattle.std.specs.Option.{option_map};
-ghost use Rattle.hip_uses.specs.Number.{bytes_of};
+ghost use Rattle.hip_uses.specs.Number.{text_bytes};
 ghost use Rattle.hip_uses.specs.Template.{AllKnown, all_shown, filled, value_of, woven};
 ghost use Rattle.hip_uses.specs.Template.{FillFails, IsUnknown};
 
@@ -12,7 +12,7 @@ use hipstr::string::HipStr;
 use std::alloc::{AllocError, Global};
 use std::hash::BuildHasher;
 
-/// That nothing goes under this name.
+/// The fault of a name that has no value.
 fn unknown<'b, B: Backend>(alloc: Global, name: &HipStr<'b, B>) -> TemplateFault<'b, B>
     ensures { IsUnknown name.now.items result }
 {
@@ -33,7 +33,7 @@ fn value_of<'v, 'b, B: Backend, S: BuildHasher>(
     requires known { AllKnown values.now earlier.now }
     requires pieces { all_shown pieces.now ≡ woven values.now earlier.now }
     ensures { option_map (λ value. value.now) result
-        ≡ option_map bytes_of (value_of values.now name.now.items) }
+        ≡ option_map text_bytes (value_of values.now name.now.items) }
 {
     if let Some(hole) = earlier.get(place) {
         if hole.name == *name {
@@ -71,7 +71,7 @@ fn pieces_of<'v, 'b, B: Backend, S: BuildHasher>(
     Ok(pieces)
 }
 
-/// The text of a template with each hole filled. Each different name is looked up once, and memory for the text is asked for once.
+/// The text of a template with each hole filled. Each different name is looked up once, and the text is allocated once.
 pub fn fill<'v, 'b, B: Backend, S: BuildHasher>(
     alloc: Global,
     template: &'v Template<'b, B>,

@@ -20,7 +20,7 @@ fn spot_of(name: &[u8]) -> usize
     ends.wrapping_add(name.len()) % AT_HAND
 }
 
-/// For each hole the place of one before it of its name, or its own where there is none.
+/// For each hole the position of an earlier hole with its name, or its own where there is none.
 ///
 /// A name that was met lately is at hand. The others are kept in the order of their hashes, which are compared in one step, and names that
 /// share a hash in the order of their bytes. So no choice of names makes this quadratic, though the hash has a fixed seed.

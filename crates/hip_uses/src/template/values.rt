@@ -46,7 +46,7 @@ impl<'b, B: Backend, S: BuildHasher> Values<'b, B, S> {
         }
     }
 
-    /// Puts a value under a name, in place of the one that was there. Only a new name may want memory.
+    /// Puts a value under a name, in place of the one that was there. Only a new name may allocate.
     pub fn set(&mut self, name: HipStr<'b, B>, value: HipStr<'b, B>) -> Result<(), AllocError>
         ensures set { OnOk result ((other : List ℕ) → value_of self.new other
             ≡ value_with self.old name.entry.items value.entry other) }

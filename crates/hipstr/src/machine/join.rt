@@ -35,7 +35,7 @@ impl<'b, B: Backend> Pool<'b, B> {
         Ok(Answer::Done)
     }
 
-    /// The items of the slots, with the separator between each two. The length is tried before any memory is asked for.
+    /// The items of the slots, with the separator between each two. The length is tested before anything is allocated.
     fn joined(
         &self,
         alloc: Global,
@@ -61,7 +61,7 @@ impl<'b, B: Backend> Pool<'b, B> {
         HipByt::join_slices_metered(alloc, &pieces, sep, meter)
     }
 
-    /// How many bytes a join of the slots has, if that is a `usize`.
+    /// The length of a join of the slots, if it is a `usize`.
     fn joined_len(&self, first: usize, count: usize, sep: &[u8]) -> Option<usize>
         requires within { first + count ≤ length self.now }
         requires fits { first + count < 2 ^ 64 }
@@ -93,7 +93,7 @@ impl<'b, B: Backend> Pool<'b, B> {
     }
 }
 
-/// How long what stands before the item at a position is.
+/// The length of the gap before the item at a position.
 fn gap_len(i: usize, sep: &[u8]) -> usize
     ensures { result ≡ length (gap_at i sep.now) }
 {

@@ -27,7 +27,7 @@ fn is_read<B: Backend>(rt: &impl Abort, alloc: Global, script: &str, answers: &s
     assert_eq!(rt; (ended, written.as_slice()), wanted, "at call {k}");
 }
 
-/// Plays it into a writer that takes one byte a call, and fails at its `k`-th call alone: nothing is written after a failure.
+/// Plays a script into a writer that takes one byte a call, and fails at its `k`-th call alone: nothing is written after a failure.
 fn is_written<B: Backend>(rt: &impl Abort, alloc: Global, script: &str, answers: &str, k: usize) {
     let (written, ended) = played_by::<B>(alloc, script.as_bytes(), WELL, (1, k as u64));
     let wanted = if 0 < k && k <= answers.len() {
@@ -38,7 +38,7 @@ fn is_written<B: Backend>(rt: &impl Abort, alloc: Global, script: &str, answers:
     assert_eq!(rt; (ended, written.as_slice()), wanted, "at call {k}");
 }
 
-/// At each call, and past the last.
+/// Failures at each call, and past the last.
 fn fails_at_each<B: Backend>(rt: &impl Abort, alloc: Global) {
     for (script, answers) in [(FIRST_RUN, FIRST_ANSWERS), (PIECES, PIECES_ANSWERS)] {
         for k in 0..script.len() + 4 {
@@ -75,7 +75,7 @@ impl Read for Starved {
     }
 }
 
-/// Want of memory is told as such, whoever wants it.
+/// A refusal of memory is told as such, whoever asked for it.
 #[test]
 fn starved_reader(rt: HostRuntime) {
     let mut out = Vec::new(rt.alloc());

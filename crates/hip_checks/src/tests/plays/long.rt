@@ -49,7 +49,7 @@ fn taken_off(rt: HostRuntime) {
     }
 }
 
-/// What stands behind some plain bytes of a literal, and what is printed of it; nothing where the line is none.
+/// The bytes that follow some plain bytes of a literal, and how they are printed; nothing where the line is no command.
 const BEHIND_PLAIN: &[(&str, &str)] = &[
     ("\"", "\""),
     ("\\\"\"", "\\\"\""),
@@ -117,7 +117,7 @@ fn failure_around_the_buffer(rt: HostRuntime) -> Result<(), Fail> {
     Ok(())
 }
 
-/// From and to what is lent, with bytes that were there before.
+/// A script from a lent reader to a lent writer, which has bytes already.
 #[test]
 fn lent(rt: HostRuntime) -> Result<(), Fail> {
     let mut reader = &b"new 0\nlen 0\n"[..];

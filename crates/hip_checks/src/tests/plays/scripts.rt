@@ -80,7 +80,7 @@ fn text_rows() -> &'static [Row] {
             "copy 0 \"a\\xFF\"\ntext 0\nbytes 0\nshow 0\nroom 1 64\ncapacity 1\ntext 1\nkind 1\ncapacity 1\nbytes 1\nkind 1\ncapacity 1\nshow 1\ncopied\n",
             "done\nrefused NotUtf8\nrefused NotText\nbytes \"a\\xff\"\ndone\n64\ndone\nallocated\n64\ndone\nallocated\n64\nbytes \"\"\n2\n",
         ),
-        // What is made of a text is a text, whatever stood there; a join is bytes.
+        // A value made of a text is a text, whatever stood in the slot; a join is bytes.
         (
             "borrow 0 \"a\\xC3\\xA9b\"\ntext 0\nclone 0 1\nslice 0 2 1..3\nrepeat 0 3 2\njoin 0 2 \"-\" 4\nshow 1\nshow 2\nshow 3\nshow 4\nkind 2\ncopied\n",
             "done\ndone\ndone\ndone\ndone\ndone\ntext \"a\\xc3\\xa9b\"\ntext \"\\xc3\\xa9\"\ntext \"a\\xc3\\xa9ba\\xc3\\xa9b\"\nbytes \"a\\xc3\\xa9b-a\\xc3\\xa9b\"\nborrowed\n17\n",
@@ -151,7 +151,7 @@ fn kind_rows() -> &'static [Row] {
             "borrow 0 \"abc\"\nclone 0 1\nkind 1\npush 1 \"\"\nkind 1\ncopied\n",
             "done\ndone\nborrowed\ndone\nborrowed\n0\n",
         ),
-        // Nor does it change an allocated value that another shares, or room in which nothing stands.
+        // Nor does a push of nothing change a shared allocated value, or room in which nothing stands.
         (
             "copy 0 \"abcdefghijklmnopqrstuvwxyz\"\nclone 0 1\npush 1 \"\"\nkind 1\nlen 1\nroom 2 42\npush 2 \"\"\nkind 2\nlen 2\n",
             "done\ndone\ndone\nallocated\n26\ndone\ndone\nallocated\n0\n",
@@ -170,7 +170,7 @@ fn kind_rows() -> &'static [Row] {
             "inline 0 \"aaaaaaaaaaaaaaaaaaaaaaa\"\ninline 1 \"aaaaaaaaaaaaaaaaaaaaaaaa\"\nkind 0\nlen 0\npush 0 \"b\"\nkind 0\nlen 0\npop 0\nkind 0\n",
             "done\nrefused TooLong\ninline\n23\ndone\nallocated\n24\nbyte 98\ninline\n",
         ),
-        // What follows a slice in its source doesn't come back.
+        // The bytes behind a slice in its source don't come back.
         (
             "copy 0 \"abcdefghijklmnopqrstuvwxyz\"\nslice 0 1 0..24\nnew 0\npush 1 \"!\"\nshow 1\nkind 1\n",
             "done\ndone\ndone\ndone\nbytes \"abcdefghijklmnopqrstuvwx!\"\nallocated\n",
@@ -244,7 +244,7 @@ fn records(rt: HostRuntime) {
     print::<Unique>(&rt, rt.alloc(), &[(LONG_FIELD, on_unique)]);
 }
 
-/// What writes over a value, makes one of another, or compares two.
+/// Scripts that write over a value, make one of another, or compare two.
 fn growth_rows() -> &'static [Row] {
     &[
         (

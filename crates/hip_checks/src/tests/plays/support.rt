@@ -9,7 +9,7 @@ pub(crate) const FIRST_RUN: &str =
 
 pub(crate) const FIRST_ANSWERS: &str = "done\ndone\ndone\ndone\n5\nbytes \"John!\"\n";
 
-/// What a script prints to a writer that takes so many bytes a call at most and fails at its `k`-th call alone, read from such a reader.
+/// The output of a script, and how it ends. `reads` and `writes` are each the number of bytes a call at most, and the one call that fails.
 pub(crate) fn played_by<B: Backend>(
     alloc: Global,
     script: &[u8],
@@ -26,7 +26,7 @@ pub(crate) fn played_by<B: Backend>(
 /// As many bytes a call as there are, and no call that fails.
 pub(crate) const WELL: (usize, u64) = (usize::MAX, 0);
 
-/// What a script prints, and how it ends.
+/// The output of a script, and how it ends.
 pub(crate) fn played<B: Backend>(alloc: Global, script: &str) -> (Vec<u8>, Result<(), PlayFault>) {
     played_by::<B>(alloc, script.as_bytes(), WELL, WELL)
 }

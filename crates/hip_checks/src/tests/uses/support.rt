@@ -1,4 +1,4 @@
-//! What the tables are compared by.
+//! The comparison of what was printed.
 use std::alloc::AllocError;
 
 /// Whether this was printed.

@@ -1,7 +1,7 @@
 use Rattle.std.proofs.Common.{◌≡◌, ◌-◌, ◌≤◌, length, map, take, drop}
 use Rattle.hip_raw.proofs.ascii_case.move_letters.Given as goal
 
--- what lies before `at` is done, and the rest is as it was
+-- the bytes before `at` are moved, and the rest is as it was
 abbrev pub invariant-loop-at : goal.invariant-loop-at
 invariant-loop-at g l = record {
   within : l.at ≤ l.n;

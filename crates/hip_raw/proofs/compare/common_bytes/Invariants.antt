@@ -2,7 +2,7 @@ use Rattle.std.proofs.Common.{◌-◌, ◌≤◌}
 use Rattle.hip_raw.specs.Alike.{Alike}
 use Rattle.hip_raw.proofs.compare.common_bytes.Given as goal
 
--- what lies before `at` is the same
+-- the bytes before `at` are the same
 abbrev pub invariant-loop-at : goal.invariant-loop-at
 invariant-loop-at l = record {
   within : l.at ≤ l.n;

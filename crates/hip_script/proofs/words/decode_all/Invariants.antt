@@ -4,7 +4,7 @@ use Rattle.hip_script.specs.Words.Place.{Plain}
 use Rattle.hip_script.proofs.Decoded.{behind}
 use Rattle.hip_script.proofs.words.decode_all.Given as goal
 
--- what was decoded stands in the buffer
+-- the bytes that were decoded stand in the buffer
 abbrev pub invariant-loop-first : goal.invariant-loop-first
 invariant-loop-first l = behind l.buffer.items (decoded Plain l.rest) ≡ behind l.fn.buffer.items (decoded Plain l.text)
 

@@ -11,7 +11,7 @@ const LINE: &str = "aaaaaaaaaaaaaaaaaaaaaaaaaaaaaaaaaaaaaaaa,bc\n";
 /// The length and the kind of a field.
 type Seen = (usize, Kind);
 
-/// What is seen of a field, or of none.
+/// The length and the kind of a field, if there is one.
 fn seen<B: Backend>(field: Option<&HipStr<'_, B>>) -> Option<Seen> {
     field.map(|field| (field.len(), field.kind()))
 }
@@ -49,7 +49,7 @@ fn allocated(rt: HostRuntime) {
     are::<Unique>(&rt, rt.alloc(), &copied(&rt, rt.alloc()), wanted);
 }
 
-/// None copies any of a borrowed text.
+/// No field copies a byte of a borrowed text.
 #[test]
 fn borrowed(rt: HostRuntime) {
     let wanted = (Kind::Borrowed, Kind::Borrowed, 0);

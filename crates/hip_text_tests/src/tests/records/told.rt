@@ -16,7 +16,7 @@ pub(crate) fn tell<B: Backend>(
     Ok(())
 }
 
-/// What records are told as.
+/// The records as one text, each as [`tell`] adds it.
 pub(crate) fn told<B: Backend>(
     alloc: Global,
     records: &[Vec<HipStr<'_, B>>],

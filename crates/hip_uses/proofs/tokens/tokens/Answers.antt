@@ -6,7 +6,7 @@ use Rattle.std.proofs.lemmas.Str.{IsCharBoundary-start}
 use Rattle.std.proofs.lemmas.List.Elements.{All-nil}
 use Rattle.hipstr.specs.Made.{IsPart}
 use Rattle.hipstr.specs.Meter.{RisesAtMost}
-use Rattle.hip_uses.specs.Token.{IsRun, IsTokenOf, bytes_of}
+use Rattle.hip_uses.specs.Token.{IsRun, IsTokenOf, token_bytes}
 use Rattle.hip_uses.specs.Turns.{Ahead}
 use Rattle.hip_uses.proofs.Little.{rises-more}
 use Rattle.hip_uses.proofs.Pushed.{All-more}
@@ -16,7 +16,7 @@ use Rattle.hip_uses.proofs.tokens.tokens.Goals as goal
 pub loop-start-init : goal.loop-start-init
 loop-start-init g c = record {
   boundary = subst (λ (l : List ℕ). IsCharBoundary l 0) c.as_str-whole.ensures.items (IsCharBoundary-start _ c.as_str-whole.ensures.utf8);
-  joined = ap (flat_map bytes_of) c.new-tokens.ensures.items;
+  joined = ap (flat_map token_bytes) c.new-tokens.ensures.items;
   each = subst (All (IsTokenOf c.args.source.now)) (sym c.new-tokens.ensures.items) (All-nil (IsTokenOf c.args.source.now));
   ahead = subst (λ (l : List ℕ). Ahead l 0 c.new-turns.result.upto c.new-turns.result.turns) (c.as_bytes.ensures.value ∙ c.as_str-whole.ensures.items) c.new-turns.ensures;
   shared = λ shares. record { never_falls = omega arith; at_most = omega arith };

@@ -6,7 +6,7 @@ use Rattle.hip_script.specs.Said.{IsWithin, held, says_in}
 use Rattle.hip_script.proofs.ScriptLaws.{put_before}
 use Rattle.hip_script.proofs.script.Script.read.Given as goal
 
--- what was read, and then what the lines say that are left
+-- the lines that were read, and then those that are left
 abbrev pub invariant-loop-line : goal.invariant-loop-line
 invariant-loop-line l = record {
   within : AllByRecursion (IsWithin (held l.script.buffers)) l.script.lines.items;

@@ -1,6 +1,7 @@
 use Rattle.std.proofs.Common.{◌≡◌, ◌∙◌, true, false, ap, arith}
 use Rattle.std.specs.Prelude.{slice_get}
-use Rattle.hip_uses.specs.Cells.{Texts, texts_of}
+use Rattle.hip_fields.specs.Records.{Texts}
+use Rattle.hip_uses.specs.Cells.{texts_of}
 use Rattle.hip_uses.proofs.Tables.{not-at-all, not-before}
 use Rattle.hip_uses.proofs.table.Table.column.Goals as goal
 
