@@ -1,16 +1,16 @@
 -- Where the braces and the holes of a template stand.
-use Rattle.std.proofs.Common.{◌≡◌, ◌∙◌, ℕ, ◌+◌, ◌-◌, ◌<◌, ◌≤◌, Bool, true, false, ◌==◌, ◌||◌, List, [], ◌∷◌, ◌++◌, Option, None, Some, length, take, drop, get_or, ap, sym, subst, refl, drop-drop, take-append-drop, length-append, length-drop, length-take-le, arith}
+use Rattle.std.proofs.Common.{◌≡◌, ◌∙◌, ℕ, ◌+◌, ◌-◌, ◌<◌, ◌≤◌, Bool, true, false, ◌==◌, ◌||◌, List, [], ◌∷◌, ◌++◌, Option, None, Some, length, take, drop, get_or, ap, sym, subst, refl, drop-drop, take-append-drop, length-append, length-drop, length-take-le, ⊎_elim, arith}
 use Rattle.std.specs.Prelude.{slice_index, slice_range}
 use Rattle.std.specs.Str.{IsCharBoundary, IsUtf8}
-use Rattle.std.proofs.lemmas.Bool.{and_parts}
+use Rattle.std.proofs.lemmas.Bool.{and_parts, cases_lt}
 use Rattle.std.proofs.lemmas.List.{drop_more, get_or-drop}
-use Rattle.std.proofs.lemmas.Option.{cond_some}
+use Rattle.std.proofs.lemmas.Option.{cond_some, none-some}
 use Rattle.std.proofs.lemmas.Slice.Eq.{bytes_eq-Decides}
 use Rattle.std.proofs.lemmas.Str.{IsCharBoundary-after_ascii, IsCharBoundary-before_ascii}
-use Rattle.hipstr.specs.Occurrence.{NoneStarts, is_boundary}
+use Rattle.hipstr.specs.Occurrence.{NoneStarts, StartsFirst, is_boundary}
 use Rattle.hipstr.specs.Parted.{IsParted, Lacks}
 use Rattle.hipstr.specs.Texts.{text_ends}
-use Rattle.hip_uses.specs.Template.{IsFirstPair, IsPair}
+use Rattle.hip_uses.specs.Template.{FindsByte, IsFirstPair, IsOneByte, IsPair}
 
 -- two of a brace
 abbrev pub pair : ℕ → List ℕ
@@ -68,6 +68,23 @@ pair-parts brace text from at found =
       first = λ k low high. none-if _ (λ b is.
           found.first (from + k) (omega arith) (omega (arith, size)) (in-text brace text from k (found-pair brace (drop from text) k b is)));
     }
+
+-- where a search that finds each brace goes on, none of these pairs was passed but at the place that it found
+pub none-before : (ends : ℕ → Option ℕ) (text : List ℕ) (brace from next start end : ℕ) → FindsByte ends text brace → ((k : ℕ) → from ≤ k → k < next → ¬ IsPair text brace k)
+    → StartsFirst ends next (start, end) → (k : ℕ) → from ≤ k → k < start → ¬ IsPair text brace k
+none-before ends text brace from next start end finds none found k low high is =
+    ⊎_elim (λ (lt : k < next). none k low lt is)
+    (λ (ge : next ≤ k). none-some (k + 1) (sym (found.first k ge high) ∙ finds k (omega (arith, is.within)) is.first))
+    (cases_lt k next)
+
+pub none-more : (ends : ℕ → Option ℕ) (text : List ℕ) (brace from next start end : ℕ) → IsOneByte ends → FindsByte ends text brace
+    → ((k : ℕ) → from ≤ k → k < next → ¬ IsPair text brace k) → StartsFirst ends next (start, end) → (from ≤ start → ¬ IsPair text brace start)
+    → (k : ℕ) → from ≤ k → k < end → ¬ IsPair text brace k
+none-more ends text brace from next start end one finds none found here k low high is =
+    let end_is : end ≡ start + 1 = one start end found.occurs in
+    ⊎_elim (λ (lt : k < start). none-before ends text brace from next start end finds none found k low lt is)
+    (λ (ge : start ≤ k). let same : k ≡ start = omega arith in here (omega arith) (subst (IsPair text brace) same is))
+    (cases_lt k start)
 
 -- two braces stand between boundaries
 pub pair-start : (brace : ℕ) (text : List ℕ) (at : ℕ) → brace < 128 → IsPair text brace at → IsCharBoundary text at

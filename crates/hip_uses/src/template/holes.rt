@@ -1,7 +1,7 @@
 //! The holes of a template, found by its braces.
-ghost use Rattle.std.specs.Prelude.{◌≡◌, ◌+◌, ◌<◌, ◌≤◌, ◌++◌, IfErr, IfOk, IfSome, drop, length, slice_range};
+ghost use Rattle.std.specs.Prelude.{◌≡◌, ◌+◌, ◌<◌, ◌≤◌, ◌++◌, IfErr, IfOk, IfSome, MatchBool, drop, length, slice_range};
 ghost use Rattle.std.specs.Str.{IsCharBoundary};
-ghost use Rattle.hip_uses.specs.Template.{FindsBraces, FindsByte, IsNextPair, IsOneByte, IsParsed, ParseFails, written};
+ghost use Rattle.hip_uses.specs.Template.{FindsBraces, FindsByte, IsNextPair, IsOneByte, IsPair, IsParsed, ParseFails, written};
 
 use crate::fault::TemplateFault;
 use crate::template::Hole;
@@ -9,6 +9,15 @@ use hipstr::pattern::Pattern;
 use hipstr::string::HipStr;
 use hipstr::{Backend, Meter};
 use std::alloc::{AllocError, Global};
+
+/// Whether two of this brace stand at a place of a text.
+#[inline(always)]
+fn is_pair(bytes: &[u8], at: usize, brace: u8) -> bool
+    requires { at < length bytes.now }
+    ensures { MatchBool result (IsPair bytes.now brace at) (¬ IsPair bytes.now brace at) }
+{
+    at + 1 < bytes.len() && bytes[at] == brace && bytes[at + 1] == brace
+}
 
 /// The first place at or after `from` where two of this brace stand, if there is one. The searcher, which finds each brace, goes on at
 /// `searched`.
@@ -34,7 +43,7 @@ fn next_pair<P: Pattern>(
     let mut next = searched;
     loop {
         let (start, end) = braces.next_match_by(searcher, text, next)?;
-        if from <= start && bytes[start] == brace && end < bytes.len() && bytes[end] == brace {
+        if from <= start && is_pair(bytes, start, brace) {
             return Some(start);
         }
         next = end;

@@ -1,4 +1,6 @@
 //! The different names of a template's holes.
+ghost use Rattle.std.specs.Prelude.{◌<◌};
+
 use crate::template::Hole;
 use hipstr::Backend;
 use std::alloc::{AllocError, Global};

@@ -1,0 +1,19 @@
+use Rattle.std.proofs.Common.{◌≡◌, ◌++◌, ℕ, ◌≤◌, ◌-◌, List, drop, length}
+use Rattle.std.specs.Str.{IsCharBoundary}
+use Rattle.hip_uses.specs.Template.{IsParsed, written}
+use Rattle.hip_uses.specs.declared.template.Hole.{Hole}
+use Rattle.hip_uses.proofs.template.holes.holes_of.Given as goal
+
+-- the text up to `from` is cut at its holes, and the searcher is ready for the rest
+abbrev pub invariant-loop-open : goal.invariant-loop-open
+invariant-loop-open g l = record {
+  ready : g.P.Pattern.is_ready l.braces l.searcher l.text l.searched;
+  searched_at : IsCharBoundary l.text l.searched;
+  from_at : IsCharBoundary l.text l.from;
+  behind : l.searched ≤ l.from;
+  written : written l.holes.items ++ drop l.from l.text ≡ l.text;
+  parsed : (more : List (Hole g.row.B.Denot g.row.B-Sole.Denot g.row.B-Extent.Denot)) (rest : List ℕ) → IsParsed (drop l.from l.text) more rest → IsParsed l.text (l.holes.items ++ more) rest;
+}
+
+abbrev pub decreases-loop-open : goal.decreases-loop-open
+decreases-loop-open g l = length l.text - l.from
