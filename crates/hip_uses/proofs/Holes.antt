@@ -1,24 +1,29 @@
 -- Where the braces and the holes of a template stand.
-use Rattle.std.proofs.Common.{◌≡◌, ◌∙◌, ℕ, ◌+◌, ◌-◌, ◌<◌, ◌≤◌, Bool, true, false, ◌==◌, ◌||◌, List, [], ◌∷◌, ◌++◌, Option, None, Some, length, take, drop, get_or, ap, sym, subst, refl, drop-drop, take-append-drop, length-append, length-drop, length-take-le, ⊎_elim, arith}
+use Rattle.std.proofs.Common.{◌≡◌, ◌∙◌, ℕ, ◌+◌, ◌-◌, ◌<◌, ◌≤◌, Bool, true, false, ◌==◌, ◌||◌, List, [], ◌∷◌, ◌++◌, Option, None, Some, length, take, drop, get_or, ap, sym, subst, refl, drop-drop, take-append-drop, take_all, length-append, length-drop, length-take-le, ⊎_elim, arith}
 use Rattle.std.specs.Prelude.{slice_index, slice_range}
 use Rattle.std.specs.Str.{IsCharBoundary, IsUtf8}
 use Rattle.std.proofs.lemmas.Bool.{and_parts, cases_lt}
 use Rattle.std.proofs.lemmas.List.{drop_more, get_or-drop}
-use Rattle.std.proofs.lemmas.Option.{cond_some, none-some}
+use Rattle.std.proofs.lemmas.Option.{cond_some, none-some, some_pair_parts}
 use Rattle.std.proofs.lemmas.Slice.Eq.{bytes_eq-Decides}
-use Rattle.std.proofs.lemmas.Str.{IsCharBoundary-after_ascii, IsCharBoundary-before_ascii}
+use Rattle.std.proofs.lemmas.Str.{IsCharBoundary-after_ascii, IsCharBoundary-before_ascii, len_utf8_ascii}
+use Rattle.std.specs.Char.{len_utf8}
+use Rattle.std.proofs.lemmas.Bool.Decides.{nat_tests}
+use Rattle.hipstr.specs.Characters.{char_ends}
+use Rattle.hipstr.specs.CharLaws.{char_at-ascii, char_ends-is, char_ends-yes, starts_char}
 use Rattle.hipstr.specs.Occurrence.{NoneStarts, StartsFirst, is_boundary}
 use Rattle.hipstr.specs.Parted.{IsParted, Lacks}
 use Rattle.hipstr.specs.Texts.{text_ends}
-use Rattle.hip_uses.specs.Template.{FindsByte, IsFirstPair, IsOneByte, IsPair}
+use Rattle.hip_uses.specs.Template.{CutsHole, FindsBraces, FindsByte, IsFirstPair, IsOneByte, IsPair, closing, opening}
+use Rattle.hip_uses.specs.declared.template.Hole.{Hole}
 
 -- two of a brace
 abbrev pub pair : ℕ → List ℕ
 pair brace = brace ∷ brace ∷ []
 
 none-if : (o : Option ℕ) → ((b : ℕ) → o ≡ Some b → ⊥) → o ≡ None
-none-if None no = refl
-none-if (Some b) no = absurd (no b refl)
+none-if None never = refl
+none-if (Some b) never = absurd (never b refl)
 
 -- a text that begins with two of a brace
 begins : (brace : ℕ) (l : List ℕ) → take 2 l ≡ pair brace → (1 < length l) × (get_or l 0 0 ≡ brace) × (get_or l 1 0 ≡ brace)
@@ -52,15 +57,21 @@ in-text brace text from k pair_is = record {
 pub pair-lacks : (brace : ℕ) (text : List ℕ) (from : ℕ) → ((k : ℕ) → from ≤ k → ¬ IsPair text brace k) → Lacks (pair brace) (drop from text)
 pair-lacks brace text from none k = none-if _ (λ b is. none (from + k) (omega arith) (in-text brace text from k (found-pair brace (drop from text) k b is)))
 
+-- a text from two of a brace on
+pub pair-here : (brace : ℕ) (text : List ℕ) (at : ℕ) → IsPair text brace at → drop at text ≡ pair brace ++ drop (at + 2) text
+pair-here brace text at is =
+    let within = is.within in
+    let two : at + 1 + 1 ≡ at + 2 = omega arith in
+    let second : drop (at + 1) text ≡ brace ∷ drop (at + 2) text = drop_more text (at + 1) 0 within ∙ (λ j. is.second j ∷ drop (two j) text) in
+    drop_more text at 0 (omega arith) ∙ (λ i. is.first i ∷ second i)
+
 -- where they stand first, they part the end of the text
 pub pair-parts : (brace : ℕ) (text : List ℕ) (from at : ℕ) → IsFirstPair text brace from at
     → IsParted (pair brace) (drop from text) (slice_range text from at) (drop (at + 2) text)
 pair-parts brace text from at found =
     let after = found.after in
     let within = found.is.within in
-    let sum : from + (at - from) ≡ at = omega arith in
-    let here : drop at text ≡ pair brace ++ drop (at + 2) text =
-    drop_more text at 0 (omega arith) ∙ (λ i. found.is.first i ∷ (drop_more text (at + 1) 0 within ∙ (λ j. found.is.second j ∷ drop (at + 2) text)) i) in
+    let here = pair-here brace text at found.is in
     let size : length (slice_range text from at) ≡ at - from = length-take-le (at - from) (drop from text) (omega (arith, length-drop from text)) in
     record {
       joined = sym (take-append-drop (at - from) (drop from text))
@@ -97,3 +108,50 @@ pub pair-end : (brace : ℕ) (text : List ℕ) (at : ℕ) → brace < 128 → Is
 pair-end brace text at low utf8 is =
     let sum : at + 1 + 1 ≡ at + 2 = omega arith in
     subst (IsCharBoundary text) sum (IsCharBoundary-after_ascii text (at + 1) utf8 is.within (omega (arith, is.second)))
+
+-- a hole between the first two braces of either kind
+pub cuts-hole : {B S P : Type 0} (text : List ℕ) (from left right : ℕ) (hole : Hole B S P) → IsFirstPair text 123 from left → IsFirstPair text 125 (left + 2) right
+    → hole.before.items ≡ slice_range text from left → hole.name.items ≡ slice_range text (left + 2) right → CutsHole (drop from text) hole (drop (right + 2) text)
+cuts-hole text from left right hole opens closes before_is name_is = (
+  drop (left + 2) text,
+  subst (λ (l : List ℕ). IsParted opening (drop from text) l (drop (left + 2) text)) (sym before_is) (pair-parts 123 text from left opens),
+  subst (λ (l : List ℕ). IsParted closing (drop (left + 2) text) l (drop (right + 2) text)) (sym name_is) (pair-parts 125 text (left + 2) right closes),
+)
+
+-- an end of a text as a range of it
+pub end-is : (text : List ℕ) (from n : ℕ) → n ≡ length text → slice_range text from n ≡ drop from text
+end-is text from n size = take_all (n - from) (drop from text) (omega (arith, size, length-drop from text))
+
+-- the text behind two opening braces, where no closing ones follow
+pub unclosed : (text : List ℕ) (left n : ℕ) (behind : List ℕ) → IsPair text 123 left → ((k : ℕ) → left + 2 ≤ k → ¬ IsPair text 125 k) → behind ≡ slice_range text (left + 2) n → n ≡ length text
+    → (front : List ℕ) × (text ≡ front ++ (opening ++ behind)) × Lacks closing behind
+unclosed text left n behind opens none is size =
+    let all : behind ≡ drop (left + 2) text = is ∙ end-is text (left + 2) n size in (
+      take left text,
+      sym (take-append-drop left text) ∙ ap (λ l. take left text ++ l) (pair-here 123 text left opens ∙ ap (λ l. opening ++ l) (sym all)),
+      subst (Lacks closing) (sym all) (pair-lacks 125 text (left + 2) none),
+    )
+
+-- a set of the two braces finds each of them
+pub finds-braces : (p : ℕ → Bool) (text : List ℕ) → IsUtf8 text → ((c : ℕ) → p c ≡ (c == 125 || (c == 123 || false))) → FindsBraces (char_ends p text) text
+finds-braces p text utf8 is = record {
+  one_byte = λ a b ends.
+      let found = char_ends-is p text a b utf8 ends in
+      let c = found.1.0 in
+      let low : c < 128 = two c (sym (is c) ∙ found.1.2) in
+      omega (arith, found.1.3, len_utf8_ascii c low);
+  opens = λ k within same. at k 123 within same (omega arith) (is 123);
+  closes = λ k within same. at k 125 within same (omega arith) (is 125);
+}
+  where
+    two : (c : ℕ) → (c == 125 || (c == 123 || false)) ≡ true → c < 128
+    two c is_one = grind (arith, nat_tests)
+
+    at : (k brace : ℕ) → k < length text → slice_index text k ≡ brace → brace < 128 → p brace ≡ true → char_ends p text k ≡ Some (k + 1)
+    at k brace within same low passes =
+        let start = IsCharBoundary-before_ascii text k within (omega (arith, same, low)) in
+        let found = starts_char text k utf8 start within in
+        let c = found.0 in
+        let pair_is = some_pair_parts c (slice_index text k) (k + len_utf8 c) (k + 1) (sym found.1.at ∙ char_at-ascii text k utf8 start within (omega (arith, same, low))) in
+        let width : k + len_utf8 c ≡ k + 1 = pair_is.1 in
+        char_ends-yes p text k c found.1 (ap p (pair_is.0 ∙ same) ∙ passes) ∙ ap (λ n. Some n) width

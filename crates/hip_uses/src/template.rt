@@ -4,7 +4,7 @@ ghost use Rattle.hip_uses.specs.Template.{IsParsed, ParseFails, written};
 
 pub use crate::fault::TemplateFault;
 pub use crate::template::filling::fill;
-use crate::template::holes::{holes_of, part};
+use crate::template::holes::{holes_of, last_part};
 use crate::template::names::earlier_places;
 pub use crate::template::values::Values;
 use hipstr::Backend;
@@ -66,10 +66,6 @@ pub fn parse<'b, B: Backend>(
 {
     let braces = AsciiSet::new().with(b'{').with(b'}');
     let (holes, end) = holes_of(alloc, template, &braces)?;
-    let rest = if holes.is_empty() {
-        template.clone(alloc)?
-    } else {
-        part(alloc, template, end, template.len())?
-    };
+    let rest = last_part(alloc, template, end, holes.is_empty())?;
     Ok(Template::new(alloc, holes, rest)?)
 }

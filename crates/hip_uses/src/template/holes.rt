@@ -1,6 +1,6 @@
 //! The holes of a template, found by its braces.
-ghost use Rattle.std.specs.Prelude.{◌≡◌, ◌+◌, ◌<◌, ◌≤◌, ◌++◌, IfErr, IfOk, IfSome, MatchBool, drop, length, slice_range};
-ghost use Rattle.std.specs.Str.{IsCharBoundary};
+ghost use Rattle.std.specs.Prelude.{◌≡◌, ◌+◌, ◌<◌, ◌≤◌, ◌++◌, IfErr, IfOk, IfSome, IsTrue, MatchBool, drop, length, slice_range};
+ghost use Rattle.std.specs.Str.{IsCharBoundary, IsUtf8};
 ghost use Rattle.hip_uses.specs.Template.{FindsBraces, FindsByte, IsNextPair, IsOneByte, IsPair, IsParsed, ParseFails, written};
 
 use crate::fault::TemplateFault;
@@ -52,7 +52,7 @@ fn next_pair<P: Pattern>(
 
 /// The part of a template between two boundaries.
 #[inline]
-pub(crate) fn part<'b, B: Backend>(
+fn part<'b, B: Backend>(
     alloc: Global,
     template: &HipStr<'b, B>,
     start: usize,
@@ -67,6 +67,23 @@ pub(crate) fn part<'b, B: Backend>(
     template.part_metered(alloc, start, end, &mut Meter::new())
 }
 
+/// The text behind the last hole: the template's end, or all of it where there is no hole.
+pub(crate) fn last_part<'b, B: Backend>(
+    alloc: Global,
+    template: &HipStr<'b, B>,
+    start: usize,
+    is_whole: bool,
+) -> Result<HipStr<'b, B>, AllocError>
+    requires boundary { IsCharBoundary template.now.items start }
+    requires whole { IsTrue is_whole → drop start template.now.items ≡ template.now.items }
+    ensures { IfOk result (λ made. made.items ≡ drop start template.now.items) }
+{
+    if is_whole {
+        return template.clone(alloc);
+    }
+    part(alloc, template, start, template.len())
+}
+
 /// The holes of a template, the leftmost first, and where the last one ends. The pattern finds each brace, so that a template is looked
 /// through once.
 pub(crate) fn holes_of<'b, B: Backend, P: Pattern>(
@@ -75,7 +92,8 @@ pub(crate) fn holes_of<'b, B: Backend, P: Pattern>(
     braces: &P,
 ) -> Result<(Vec<Hole<'b, B>>, usize), TemplateFault<'b, B>>
     requires can { P.can_search braces.now }
-    requires braces { FindsBraces (P.ends braces.now template.now.items) template.now.items }
+    requires braces { IsUtf8 template.now.items
+        → FindsBraces (P.ends braces.now template.now.items) template.now.items }
     ensures boundary { IfOk result (λ found. IsCharBoundary template.now.items found.1) }
     ensures parsed { IfOk result (λ found.
         IsParsed template.now.items found.0.items (drop found.1 template.now.items)) }

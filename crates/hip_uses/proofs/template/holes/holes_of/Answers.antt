@@ -1,0 +1,97 @@
+use Rattle.std.proofs.Common.{◌≡◌, ◌∙◌, ◌+◌, ◌++◌, ℕ, List, [], ap, drop, length, refl, subst, sym, arith}
+use Rattle.std.specs.Prelude.{slice_range}
+use Rattle.std.specs.Str.{IsCharBoundary, IsUtf8}
+use Rattle.std.proofs.lemmas.List.{append-nil}
+use Rattle.std.proofs.lemmas.Str.{IsCharBoundary-start}
+use Rattle.hip_uses.specs.Template.{CutsHole, FindsBraces, IsParsed, written}
+use Rattle.hip_uses.specs.declared.template.Hole.{Hole}
+use Rattle.hip_uses.proofs.Holes.{cuts-hole, pair-end, pair-lacks, pair-middle, unclosed}
+use Rattle.hip_uses.proofs.Templates.{parsed-more, written-more}
+use Rattle.hip_uses.proofs.template.holes.holes_of.Goals as goal
+
+pub loop-open-init : goal.loop-open-init
+loop-open-init g c =
+    let AHole : Type 0 = Hole g.row.B.Denot g.row.B-Sole.Denot g.row.B-Extent.Denot in
+    let text = c.as_str-text.result.now in
+    let start = IsCharBoundary-start text c.as_str-text.utf8 in
+    record {
+      ready = c.searcher-searcher.ensures.front start;
+      searched_at = start;
+      from_at = start;
+      behind = omega arith;
+      written = ap (λ (l : List AHole). written l ++ text) c.new-holes.ensures.items;
+      parsed = λ more rest parsed. subst (λ (l : List AHole). IsParsed text (l ++ more) rest) (sym c.new-holes.ensures.items) parsed;
+    }
+
+pub next_pair-requires-clause-one_byte : goal.next_pair-requires-clause-one_byte
+next_pair-requires-clause-one_byte g c =
+    let braces = subst (λ (l : List ℕ). FindsBraces (g.P.Pattern.ends c.args.braces.now l) l) (sym c.as_str-text.ensures.items) (c.requires.braces (subst IsUtf8 c.as_str-text.ensures.items c.as_str-text.utf8)) in
+    braces.one_byte
+
+pub next_pair-requires-clause-finds : goal.next_pair-requires-clause-finds
+next_pair-requires-clause-finds g c =
+    let braces = subst (λ (l : List ℕ). FindsBraces (g.P.Pattern.ends c.args.braces.now l) l) (sym c.as_str-text.ensures.items) (c.requires.braces (subst IsUtf8 c.as_str-text.ensures.items c.as_str-text.utf8)) in
+    braces.opens
+
+pub next_pair-requires-in-Some-clause-one_byte : goal.next_pair-requires-in-Some-clause-one_byte
+next_pair-requires-in-Some-clause-one_byte g c =
+    let braces = subst (λ (l : List ℕ). FindsBraces (g.P.Pattern.ends c.args.braces.now l) l) (sym c.as_str-text.ensures.items) (c.requires.braces (subst IsUtf8 c.as_str-text.ensures.items c.as_str-text.utf8)) in
+    braces.one_byte
+
+pub next_pair-requires-in-Some-clause-finds : goal.next_pair-requires-in-Some-clause-finds
+next_pair-requires-in-Some-clause-finds g c =
+    let braces = subst (λ (l : List ℕ). FindsBraces (g.P.Pattern.ends c.args.braces.now l) l) (sym c.as_str-text.ensures.items) (c.requires.braces (subst IsUtf8 c.as_str-text.ensures.items c.as_str-text.utf8)) in
+    braces.closes
+
+pub part-requires-clause-start_at_boundary : goal.part-requires-clause-start_at_boundary
+part-requires-clause-start_at_boundary g c =
+    subst (λ (l : List ℕ). IsCharBoundary l (c.in-Some.open + 2)) c.as_str-text.ensures.items
+    (pair-end 123 c.as_str-text.result.now c.in-Some.open (omega arith) c.as_str-text.utf8 c.in-Some.ensures.found.is)
+
+pub returns-in_default-next_pair-clause-fault : goal.returns-in_default-next_pair-clause-fault
+returns-in_default-next_pair-clause-fault g c =
+    let text = c.as_str-text.result.now in
+    let same = sym c.as_str-text.ensures.items in
+    let left = c.in-Some.open in
+    let behind = c.in_ok-behind.behind.items in
+    let shown : behind ≡ slice_range text (left + 2) (length text) = c.in_ok-behind.ensures ∙ ap (λ (l : List ℕ). slice_range l (left + 2) (length text)) same in
+    let found = unclosed text left (length text) behind c.in-Some.ensures.found.is c.in_default-next_pair.ensures.found shown refl in
+    (found.0, same ∙ found.1, found.2)
+
+pub part-requires-in-Some-2-clause-start_at_boundary : goal.part-requires-in-Some-2-clause-start_at_boundary
+part-requires-in-Some-2-clause-start_at_boundary g c =
+    subst (λ (l : List ℕ). IsCharBoundary l (c.in-Some.open + 2)) c.as_str-text.ensures.items
+    (pair-end 123 c.as_str-text.result.now c.in-Some.open (omega arith) c.as_str-text.utf8 c.in-Some.ensures.found.is)
+
+pub loop-open-preserved : goal.loop-open-preserved
+loop-open-preserved g c =
+    let AHole : Type 0 = Hole g.row.B.Denot g.row.B-Sole.Denot g.row.B-Extent.Denot in
+    let text = c.as_str-text.result.now in
+    let same = sym c.as_str-text.ensures.items in
+    let from = c.loop-open.from in
+    let left = c.in-Some.open in
+    let right = c.in-Some-next_pair.close in
+    let opens = c.in-Some.ensures.found in
+    let closes = c.in-Some-next_pair.ensures.found in
+    let hole : AHole = record { before = c.in_ok-part.field-0; name = c.in_ok-part-2.field-0 } in
+    let before_is : hole.before.items ≡ slice_range text from left = c.in_ok-part.ensures ∙ ap (λ (l : List ℕ). slice_range l from left) same in
+    let name_is : hole.name.items ≡ slice_range text (left + 2) right = c.in_ok-part-2.ensures ∙ ap (λ (l : List ℕ). slice_range l (left + 2) right) same in
+    let cut : CutsHole (drop from text) hole (drop (right + 2) text) = cuts-hole text from left right hole opens closes before_is name_is in
+    record {
+      ready = c.in-Some-next_pair.ensures.ready;
+      searched_at = pair-middle 125 text right (omega arith) closes.is;
+      from_at = pair-end 125 text right (omega arith) c.as_str-text.utf8 closes.is;
+      behind = omega arith;
+      written = written-more text (drop from text) c.loop-open.holes.items _ hole (drop (right + 2) text) c.loop-open.invariant.written cut c.in_ok-push.ensures.items;
+      parsed = parsed-more text (drop from text) c.loop-open.holes.items _ hole (drop (right + 2) text) c.loop-open.invariant.parsed cut c.in_ok-push.ensures.items;
+    }
+
+pub returns-clause-parsed : goal.returns-clause-parsed
+returns-clause-parsed g c =
+    let AHole : Type 0 = Hole g.row.B.Denot g.row.B-Sole.Denot g.row.B-Extent.Denot in
+    let text = c.as_str-text.result.now in
+    let from = c.loop-open.from in
+    let holes = c.loop-open.holes.items in
+    let lacks = pair-lacks 123 text from c.in_default.ensures.found in
+    subst (λ (l : List ℕ). IsParsed l holes (drop from l)) c.as_str-text.ensures.items
+    (subst (λ (l : List AHole). IsParsed text l (drop from text)) (append-nil holes) (c.loop-open.invariant.parsed [] (drop from text) (refl, lacks)))
