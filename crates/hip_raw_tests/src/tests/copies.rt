@@ -1,6 +1,9 @@
 //! Counted copies, and vectors that are filled.
 use super::support::must;
-use hip_raw::{Filling, Meter, copy_counted, copy_with_capacity, extend_counted, fill_counted};
+use hip_raw::{
+    Allocated, Filling, Meter, OwnerFilling, Unique, copy_counted, copy_with_capacity, extend_counted,
+    fill_counted,
+};
 use std::alloc::Global;
 use std::process::Abort;
 
@@ -52,4 +55,22 @@ fn a_vector_is_filled(rt: HostRuntime) {
         (filling.into_vec().as_slice(), sum.copied()),
         (b"abcab!, and more than six".as_slice(), 50)
     );
+}
+
+#[test]
+fn an_owner_is_filled_where_its_bytes_stay(rt: HostRuntime) {
+    let mut meter = Meter::new();
+    let mut filling = must(
+        &rt,
+        OwnerFilling::<Unique>::with_len(rt.alloc(), 7, &mut meter),
+    );
+    filling.push_behind_within(b"", b"abc", &mut meter);
+    filling.push_behind_within(b", ", b"de", &mut meter);
+    let filled = filling.into_allocated();
+    assert_eq!(rt;
+        (filled.as_slice(), filled.capacity(), meter.copied()),
+        (b"abc, de".as_slice(), 7, 7)
+    );
+    let empty = must(&rt, Allocated::<Unique>::with_capacity(rt.alloc(), 30));
+    assert_eq!(rt; (empty.len(), empty.capacity() >= 30), (0, true));
 }
