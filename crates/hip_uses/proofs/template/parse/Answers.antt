@@ -1,7 +1,7 @@
-use Rattle.std.proofs.Common.{◌≡◌, ◌∙◌, ◌++◌, ◌==◌, ◌||◌, List, ℕ, [], ap, drop, subst, sym}
+use Rattle.std.proofs.Common.{◌∙◌, ◌==◌, ◌||◌, List, ℕ, ap, subst, sym}
 use Rattle.hipstr.specs.AsciiSets.{in_set}
 use Rattle.hipstr.specs.Handle.{Handle}
-use Rattle.hip_uses.specs.Template.{IsParsed, written}
+use Rattle.hip_uses.specs.Template.{IsParsed}
 use Rattle.hip_uses.specs.declared.template.Hole.{Hole}
 use Rattle.hip_uses.proofs.Holes.{finds-braces}
 use Rattle.hip_uses.proofs.template.parse.Goals as goal

@@ -1,4 +1,4 @@
-use Rattle.std.proofs.Common.{◌≡◌, ◌≤◌, ◌+◌, length, take}
+use Rattle.std.proofs.Common.{◌≡◌, ◌+◌, length, take}
 use Rattle.std.specs.List.{join_by}
 use Rattle.hip_raw.specs.Meter.{RisesAtLeast, RisesAtMost}
 use Rattle.hip_bytes.proofs.hip_byt.build.joined_in_owner.Given as goal

@@ -1,4 +1,4 @@
-use Rattle.std.proofs.Common.{◌≡◌, ◌∙◌, [], ap}
+use Rattle.std.proofs.Common.{◌∙◌, [], ap}
 use Rattle.hipstr.specs.Join.{joined}
 use Rattle.hip_uses.proofs.Templates.{pieces-joined}
 use Rattle.hip_uses.proofs.template.filling.fill.Goals as goal
