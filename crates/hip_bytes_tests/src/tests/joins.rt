@@ -41,15 +41,18 @@ fn once<H: Bytes>(rt: &impl Abort, alloc: Global) {
     is(rt, once, LETTERS, Kind::Borrowed);
 }
 
-/// Asserts the length of a value, and how many bytes were copied for it: what is gathered in a vector is copied to an owner that can't be
-/// shared.
-fn is_counted<H: Bytes>(rt: &impl Abort, counted: H, meter: &Meter, len: usize) {
-    let copied = if H::SHARES {
+/// Asserts the length of a value, and how many bytes were copied for it.
+fn is_counted<H: Bytes>(rt: &impl Abort, counted: H, meter: &Meter, len: usize, copied: usize) {
+    assert_eq!(rt; (counted.len(), meter.copied()), (len, copied as u128));
+}
+
+/// How many bytes are copied where `len` gather in a vector, which is copied to an owner that can't be shared.
+fn gathered<H: Bytes>(len: usize) -> usize {
+    if H::SHARES {
         len
     } else {
         len.saturating_mul(2)
-    };
-    assert_eq!(rt; (counted.len(), meter.copied()), (len, copied as u128));
+    }
 }
 
 fn twice<H: Bytes>(rt: &impl Abort, alloc: Global) {
@@ -58,7 +61,7 @@ fn twice<H: Bytes>(rt: &impl Abort, alloc: Global) {
         rt,
         H::borrowed(LETTERS).repeat_metered(alloc, 2, &mut meter),
     );
-    is_counted(rt, twice, &meter, 52);
+    is_counted(rt, twice, &meter, 52, gathered::<H>(52));
 }
 
 const PIECES: [&[u8]; 3] = [b"ab", b"", b"c"];
@@ -107,14 +110,14 @@ fn long_joins<H: Bytes>(rt: &impl Abort, alloc: Global) {
     holds(rt, &joined, LETTERS_TWICE, Kind::Allocated);
     let part = must(rt, joined.try_slice(alloc, 26..30));
     is(rt, part, b", ab", Kind::Inline);
-    is_counted(rt, joined, &meter, 54);
+    is_counted(rt, joined, &meter, 54, gathered::<H>(54));
 }
 
 fn long_joins_of_slices<H: Bytes>(rt: &impl Abort, alloc: Global) {
     let mut meter = Meter::new();
     let joined = must(rt, H::join_slices_metered(alloc, &LINES, b", ", &mut meter));
     holds(rt, &joined, LETTERS_TWICE, Kind::Allocated);
-    is_counted(rt, joined, &meter, 54);
+    is_counted(rt, joined, &meter, 54, 54);
 }
 
 /// The letters, in room that was 200 bytes and was given back to 100.
