@@ -1,8 +1,8 @@
 //! Counted copies, and vectors that are filled.
 use super::support::must;
 use hip_raw::{
-    Allocated, Filling, Meter, OwnerFilling, Unique, copy_counted, copy_with_capacity, extend_counted,
-    fill_counted,
+    Allocated, Filling, Meter, OwnerFilling, Unique, copy_counted, copy_with_capacity,
+    extend_counted, fill_counted,
 };
 use std::alloc::Global;
 use std::process::Abort;

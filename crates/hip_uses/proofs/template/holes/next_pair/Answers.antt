@@ -23,10 +23,10 @@ loop-start-preserved g c =
     let found = c.in_ok-start.ensures.found in
     let cut = g.met.P.Pattern.spans c.args.braces.now c.args.text.now c.in_ok-start.start c.in_ok-start.end c.utf8.text found.occurs in
     let here : c.args.from ≤ c.in_ok-start.start → ¬ IsPair c.args.text.now c.args.brace c.in_ok-start.start = λ low is.
-        elim c.else-from-start.branch [
-          else-from-start-via-then-from-start+else-is_pair w ↦ w.if-is_pair.ensures (subst (λ (l : List ℕ). IsPair l c.args.brace c.in_ok-start.start) (sym c.as_bytes-bytes.ensures.value) is)
-        | else-from-start-via-else-from-start w ↦ absurd (omega (arith, low, w.if-from-start.false))
-        ] in
+    elim c.else-from-start.branch [
+      | else-from-start-via-then-from-start+else-is_pair w ↦ w.if-is_pair.ensures (subst (λ (l : List ℕ). IsPair l c.args.brace c.in_ok-start.start) (sym c.as_bytes-bytes.ensures.value) is)
+      | else-from-start-via-else-from-start w ↦ absurd (omega (arith, low, w.if-from-start.false))
+    ] in
     record {
       ready = c.in_ok-start.ensures.front c.in_ok-start.end (omega arith, λ lt. refl);
       boundary = cut.end;
