@@ -128,7 +128,7 @@ impl<B: Backend> Allocated<B> {
         Self::with_room_metered(alloc, &[], capacity, &mut Meter::new())
     }
 
-    // Like `from_slice_metered`, but with room for `capacity`.
+    // Like `from_slice_metered`, but with a capacity of at least `room`.
     #[inline]
     fn with_room_metered(
         alloc: Global,

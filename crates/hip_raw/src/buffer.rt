@@ -120,6 +120,7 @@ impl Buffer {
         ensures small { IfOk result (λ made. made.capacity < 2 ^ 63) }
     {
         let mut buffer = Buffer::with_capacity(alloc, len)?;
+        // The call tells the proof the buffer's bound.
         let _small = buffer.capacity();
         buffer.add_zeros(0, len);
         Ok(buffer)

@@ -46,7 +46,7 @@ fn is_counted<H: Bytes>(rt: &impl Abort, counted: H, meter: &Meter, len: usize, 
     assert_eq!(rt; (counted.len(), meter.copied()), (len, copied as u128));
 }
 
-/// How many bytes are copied where `len` gather in a vector, which is copied to an owner that can't be shared.
+/// The number of bytes that are copied where `len` gather in a vector, which is copied to an owner that can't be shared.
 fn gathered<H: Bytes>(len: usize) -> usize {
     if H::SHARES {
         len
