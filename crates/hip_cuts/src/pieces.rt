@@ -8,11 +8,12 @@ ghost use Rattle.hip_cuts.specs.Piece.{AreMatches, AreParts, parts_cost};
 ghost use Rattle.hip_cuts.specs.Piece.{DrawsFirst, DrawsFirstMatch, DrawsLast, DrawsLastMatch};
 ghost use Rattle.hip_cuts.specs.Piece.{FirstCosts, FirstMatch, FirstPiece, LastCosts, LastMatch, LastPiece};
 
+use hip_match::indices::Indices;
 use hip_match::lines::Lines;
-use hip_match::matches::{MatchIndices, Matches};
-use hip_match::pattern::{OneChar, Pattern, ReversePattern};
+use hip_match::matches::Matches;
+use hip_match::pattern::{Pattern, ReversePattern};
 use hip_match::ranges::{CloneRanges, Ranges, RangesBack};
-use hip_match::rmatches::{RMatchIndices, RMatches};
+use hip_match::rmatches::RMatches;
 use hip_match::rsplit::{RSplit, RSplitN, RSplitTerminator};
 use hip_match::split::{Split, SplitInclusive, SplitN, SplitTerminator};
 use hip_match::white_space::{SplitAsciiWhitespace, SplitWhitespace};
@@ -268,7 +269,7 @@ impl<'h, 'b, B: Backend, I: Unnumbered + RangesBack + Drop> DoubleEndedIterator
     }
 }
 
-impl<'h, 'b, B: Backend, P: Pattern> Pieces<'h, HipStr<'b, B>, MatchIndices<'h, P>> {
+impl<'h, 'b, B: Backend, I: Ranges + Drop> Pieces<'h, HipStr<'b, B>, Indices<I>> {
     /// The first match that is left, as its position and its piece. One that is refused for memory has been passed.
     #[inline(always)]
     pub fn next(&mut self) -> Option<(usize, Result<HipStr<'b, B>, AllocError>)>
@@ -313,7 +314,7 @@ impl<'h, 'b, B: Backend, P: Pattern> Pieces<'h, HipStr<'b, B>, MatchIndices<'h, 
     }
 }
 
-impl<'h, 'b, B: Backend, P: OneChar> Pieces<'h, HipStr<'b, B>, MatchIndices<'h, P>> {
+impl<'h, 'b, B: Backend, I: RangesBack + Drop> Pieces<'h, HipStr<'b, B>, Indices<I>> {
     /// The last match that is left, as its position and its piece. One that is refused for memory has been passed.
     #[inline]
     pub fn next_back(&mut self) -> Option<(usize, Result<HipStr<'b, B>, AllocError>)>
@@ -338,7 +339,7 @@ impl<'h, 'b, B: Backend, P: OneChar> Pieces<'h, HipStr<'b, B>, MatchIndices<'h, 
 }
 
 /// A `for` loop goes over it by this.
-impl<'h, 'b, B: Backend, P: Pattern> Iterator for Pieces<'h, HipStr<'b, B>, MatchIndices<'h, P>> {
+impl<'h, 'b, B: Backend, I: Ranges + Drop> Iterator for Pieces<'h, HipStr<'b, B>, Indices<I>> {
     type Item = (usize, Result<HipStr<'b, B>, AllocError>);
 
     ghost next_gives = { DrawsFirstMatch };
@@ -359,110 +360,8 @@ impl<'h, 'b, B: Backend, P: Pattern> Iterator for Pieces<'h, HipStr<'b, B>, Matc
 }
 
 /// From the back.
-impl<'h, 'b, B: Backend, P: OneChar> DoubleEndedIterator
-    for Pieces<'h, HipStr<'b, B>, MatchIndices<'h, P>> {
-    ghost next_back_gives = { DrawsLastMatch };
-
-    #[inline]
-    fn next_back(&mut self) -> Option<(usize, Result<HipStr<'b, B>, AllocError>)> {
-        self.last_match(&mut Meter::new())
-    }
-}
-
-impl<'h, 'b, B: Backend, P: ReversePattern> Pieces<'h, HipStr<'b, B>, RMatchIndices<'h, P>> {
-    /// The first match that is left, as its position and its piece. One that is refused for memory has been passed.
-    #[inline(always)]
-    pub fn next(&mut self) -> Option<(usize, Result<HipStr<'b, B>, AllocError>)>
-        ensures first { FirstMatch self.old result self.new }
-        ensures source { self.new.source ≡ self.old.source }
-    {
-        self.next_metered(&mut Meter::new())
-    }
-
-    /// [`Pieces::next`], counted.
-    #[inline(always)]
-    pub fn next_metered(
-        &mut self,
-        meter: &mut Meter,
-    ) -> Option<(usize, Result<HipStr<'b, B>, AllocError>)>
-        ensures first { FirstMatch self.old result self.new }
-        ensures counted { FirstCosts B.SHARES self.old result self.new meter.old meter.new }
-        ensures source { self.new.source ≡ self.old.source }
-    {
-        self.first_match(meter)
-    }
-
-    /// All matches that are left, in a vector, which is allocated besides what the pieces allocate.
-    pub fn collect(self) -> Result<Vec<(usize, HipStr<'b, B>)>, AllocError>
-        ensures { IfOk result
-            (λ matches. AreMatches self.entry.source self.entry.rest matches.items) }
-    {
-        self.collect_metered(&mut Meter::new())
-    }
-
-    /// [`Pieces::collect`], counted.
-    pub fn collect_metered(
-        self,
-        meter: &mut Meter,
-    ) -> Result<Vec<(usize, HipStr<'b, B>)>, AllocError>
-        ensures matches { IfOk result
-            (λ matches. AreMatches self.entry.source self.entry.rest matches.items) }
-        ensures counted { RisesAtMost meter.old meter.new
-            (parts_cost B.SHARES self.entry.source self.entry.rest) }
-    {
-        self.collect_matches(meter)
-    }
-}
-
-impl<'h, 'b, B: Backend, P: OneChar> Pieces<'h, HipStr<'b, B>, RMatchIndices<'h, P>> {
-    /// The last match that is left, as its position and its piece. One that is refused for memory has been passed.
-    #[inline]
-    pub fn next_back(&mut self) -> Option<(usize, Result<HipStr<'b, B>, AllocError>)>
-        ensures last { LastMatch self.old result self.new }
-        ensures source { self.new.source ≡ self.old.source }
-    {
-        self.next_back_metered(&mut Meter::new())
-    }
-
-    /// [`Pieces::next_back`], counted.
-    #[inline]
-    pub fn next_back_metered(
-        &mut self,
-        meter: &mut Meter,
-    ) -> Option<(usize, Result<HipStr<'b, B>, AllocError>)>
-        ensures last { LastMatch self.old result self.new }
-        ensures counted { LastCosts B.SHARES self.old result self.new meter.old meter.new }
-        ensures source { self.new.source ≡ self.old.source }
-    {
-        self.last_match(meter)
-    }
-}
-
-/// A `for` loop goes over it by this.
-impl<'h, 'b, B: Backend, P: ReversePattern> Iterator
-    for Pieces<'h, HipStr<'b, B>, RMatchIndices<'h, P>> {
-    type Item = (usize, Result<HipStr<'b, B>, AllocError>);
-
-    ghost next_gives = { DrawsFirstMatch };
-
-    ghost remaining = { item_count (λ pieces. pieces.rest) };
-
-    #[inline(always)]
-    fn next(&mut self) -> Option<(usize, Result<HipStr<'b, B>, AllocError>)> {
-        self.first_match(&mut Meter::new())
-    }
-
-    fn size_hint(&self) -> (usize, Option<usize>)
-        ensures lower { IsWithinCount result.0 (at_most (length self.now.rest)) }
-        ensures upper { IfSome result.1 (UpTo (at_most (length self.now.rest))) }
-    {
-        (0, None)
-    }
-}
-
-/// From the back.
-impl<'h, 'b, B: Backend, P: OneChar> DoubleEndedIterator
-    for Pieces<'h, HipStr<'b, B>, RMatchIndices<'h, P>> {
+impl<'h, 'b, B: Backend, I: RangesBack + Drop> DoubleEndedIterator
+    for Pieces<'h, HipStr<'b, B>, Indices<I>> {
     ghost next_back_gives = { DrawsLastMatch };
 
     #[inline]

@@ -9,12 +9,13 @@
 //! [`IterWrapper`](crate::string::IterWrapper), which gives the pieces at these ranges.
 pub use hip_match::ascii_set::AsciiSet;
 pub use hip_match::chosen::Chosen;
+pub use hip_match::indices::{Indices, MatchIndices, RMatchIndices};
 pub use hip_match::lines::Lines;
-pub use hip_match::matches::{MatchIndices, Matches};
+pub use hip_match::matches::Matches;
 pub use hip_match::pattern::{ClonePattern, DoubleEndedPattern, OneChar, Pattern, ReversePattern};
 pub use hip_match::predicate::{CharPred, choose_by};
 pub use hip_match::ranges::{CloneRanges, Ranges, RangesBack};
-pub use hip_match::rmatches::{RMatchIndices, RMatches};
+pub use hip_match::rmatches::RMatches;
 pub use hip_match::rsplit::{RSplit, RSplitN, RSplitTerminator};
 pub use hip_match::split::{Split, SplitInclusive, SplitN, SplitTerminator};
 pub use hip_match::split_byte::SplitByte;
