@@ -9,8 +9,8 @@ module _ {X : Type 0} where
   somes (Some x ∷ cs) = x ∷ somes cs
 
   -- the len places from the index from on hold values
-  abbrev pub IsRun : List (Option X) → ℕ → ℕ → Type 0
-  IsRun cs from len = (from + len ≤ length cs) × ((xs : List X) × (take len (drop from cs) ≡ map Some xs))
+  abbrev pub AreFilled : List (Option X) → ℕ → ℕ → Type 0
+  AreFilled cs from len = (from + len ≤ length cs) × ((xs : List X) × (take len (drop from cs) ≡ map Some xs))
 
   -- the values of the first len places
   abbrev pub front : ℕ → List (Option X) → List X

@@ -14,7 +14,7 @@ use Rattle.hipstr.specs.CharLaws.{char_at-ascii, char_ends-is, char_ends-yes, st
 use Rattle.hipstr.specs.Occurrence.{StartsFirst, is_boundary}
 use Rattle.hipstr.specs.Parted.{IsParted, Lacks}
 use Rattle.hipstr.specs.Texts.{text_ends}
-use Rattle.hip_uses.specs.Template.{CutsHole, FindsBraces, FindsByte, IsFirstPair, IsOneByte, IsPair, closing, opening}
+use Rattle.hip_uses.specs.Template.{CutsHole, FindsByte, IsFirstPair, IsPair, closing, opening}
 use Rattle.hip_uses.specs.declared.template.Hole.{Hole}
 
 -- two of a brace
@@ -83,17 +83,17 @@ pair-parts brace text from at found =
 -- where a search that finds each brace goes on, none of these pairs was passed but at the place that it found
 pub none-before : (ends : ℕ → Option ℕ) (text : List ℕ) (brace from next start end : ℕ) → FindsByte ends text brace → ((k : ℕ) → from ≤ k → k < next → ¬ IsPair text brace k)
     → StartsFirst ends next (start, end) → (k : ℕ) → from ≤ k → k < start → ¬ IsPair text brace k
-none-before ends text brace from next start end finds none found k low high is =
+none-before ends text brace from next start end brace_is none found k low high is =
     ⊎_elim (λ (lt : k < next). none k low lt is)
-    (λ (ge : next ≤ k). none-some (k + 1) (sym (found.first k ge high) ∙ finds k (omega (arith, is.within)) is.first))
+    (λ (ge : next ≤ k). none-some (k + 1) (sym (found.first k ge high) ∙ brace_is.finds k (omega (arith, is.within)) is.first))
     (cases_lt k next)
 
-pub none-more : (ends : ℕ → Option ℕ) (text : List ℕ) (brace from next start end : ℕ) → IsOneByte ends → FindsByte ends text brace
+pub none-more : (ends : ℕ → Option ℕ) (text : List ℕ) (brace from next start end : ℕ) → FindsByte ends text brace
     → ((k : ℕ) → from ≤ k → k < next → ¬ IsPair text brace k) → StartsFirst ends next (start, end) → (from ≤ start → ¬ IsPair text brace start)
     → (k : ℕ) → from ≤ k → k < end → ¬ IsPair text brace k
-none-more ends text brace from next start end one finds none found here k low high is =
-    let end_is : end ≡ start + 1 = one start end found.occurs in
-    ⊎_elim (λ (lt : k < start). none-before ends text brace from next start end finds none found k low lt is)
+none-more ends text brace from next start end brace_is none found here k low high is =
+    let end_is : end ≡ start + 1 = brace_is.one_byte start end found.occurs in
+    ⊎_elim (λ (lt : k < start). none-before ends text brace from next start end brace_is none found k low lt is)
     (λ (ge : start ≤ k). let same : k ≡ start = omega arith in here (omega arith) (subst (IsPair text brace) same is))
     (cases_lt k start)
 
@@ -132,26 +132,25 @@ unclosed text left n behind opens none is size =
       subst (Lacks closing) (sym all) (pair-lacks 125 text (left + 2) none),
     )
 
--- a set of the two braces finds each of them
-pub finds-braces : (p : ℕ → Bool) (text : List ℕ) → IsUtf8 text → ((c : ℕ) → p c ≡ (c == 125 || (c == 123 || false))) → FindsBraces (char_ends p text) text
-finds-braces p text utf8 is = record {
+-- a character of one byte finds each of its byte
+pub finds-byte : (byte : ℕ) (text : List ℕ) → byte < 128 → IsUtf8 text → FindsByte (char_ends (λ c. c == byte) text) text byte
+finds-byte byte text low utf8 = record {
   one_byte = λ a b ends.
-      let found = char_ends-is p text a b utf8 ends in
+      let found = char_ends-is (λ c. c == byte) text a b utf8 ends in
       let c = found.1.0 in
-      let low : c < 128 = two c (sym (is c) ∙ found.1.2) in
-      omega (arith, found.1.3, len_utf8_ascii c low);
-  opens = λ k within same. at k 123 within same (omega arith) (is 123);
-  closes = λ k within same. at k 125 within same (omega arith) (is 125);
+      let is : c ≡ byte = same c found.1.2 in
+      omega (arith, found.1.3, len_utf8_ascii byte low, ap len_utf8 is);
+  finds = λ k within is.
+      let start = IsCharBoundary-before_ascii text k within (omega (arith, is, low)) in
+      let found = starts_char text k utf8 start within in
+      let c = found.0 in
+      let pair_is = some_pair_parts c (slice_index text k) (k + len_utf8 c) (k + 1) (sym found.1.at ∙ char_at-ascii text k utf8 start within (omega (arith, is, low))) in
+      let width : k + len_utf8 c ≡ k + 1 = pair_is.1 in
+      char_ends-yes (λ c. c == byte) text k c found.1 (equal c (pair_is.0 ∙ is)) ∙ ap (λ n. Some n) width;
 }
   where
-    two : (c : ℕ) → (c == 125 || (c == 123 || false)) ≡ true → c < 128
-    two c is_one = grind (arith, nat_tests)
+    same : (c : ℕ) → (c == byte) ≡ true → c ≡ byte
+    same c is = grind (arith, nat_tests)
 
-    at : (k brace : ℕ) → k < length text → slice_index text k ≡ brace → brace < 128 → p brace ≡ true → char_ends p text k ≡ Some (k + 1)
-    at k brace within same low passes =
-        let start = IsCharBoundary-before_ascii text k within (omega (arith, same, low)) in
-        let found = starts_char text k utf8 start within in
-        let c = found.0 in
-        let pair_is = some_pair_parts c (slice_index text k) (k + len_utf8 c) (k + 1) (sym found.1.at ∙ char_at-ascii text k utf8 start within (omega (arith, same, low))) in
-        let width : k + len_utf8 c ≡ k + 1 = pair_is.1 in
-        char_ends-yes p text k c found.1 (ap p (pair_is.0 ∙ same) ∙ passes) ∙ ap (λ n. Some n) width
+    equal : (c : ℕ) → c ≡ byte → (c == byte) ≡ true
+    equal c is = grind (arith, nat_tests)

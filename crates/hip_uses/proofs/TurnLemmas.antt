@@ -8,8 +8,8 @@ use Rattle.std.specs.Int.Bits.{bit_xor}
 use Rattle.std.specs.List.{range_with_len}
 use Rattle.hip_uses.specs.declared.tokens.Class.{Class}
 use Rattle.hip_uses.specs.declared.tokens.Class.TheVariants.{Word, Digits, Space, Mark}
-use Rattle.hip_uses.specs.Token.{IsRun, class_of, is_word_or_digit, is_word_or_space}
-use Rattle.hip_uses.specs.Turns.{Ahead, AreTurns, IsNextTurn, IsTail, NoTurn, Tells}
+use Rattle.hip_uses.specs.Token.{IsClassRun, class_of, is_word_or_digit, is_word_or_space}
+use Rattle.hip_uses.specs.Turns.{TurnsAhead, AreTurns, IsNextTurn, IsTail, NoTurn, Tells}
 use Rattle.hipstr.specs.Bits.{IsLowest}
 
 -- the class by two sets: the white space and the marks, and the digits and the marks
@@ -88,14 +88,14 @@ turns-told t at m n spaces digits bytes one other ms ns k low =
 pub turns-few : (a k : ℕ) → 63 ≤ k → bit_at (bit_and a (2 ^ 63 - 1)) k ≡ 0
 turns-few a k high = bit_at_and a (2 ^ 63 - 1) k ∙ omega (arith, bit_at_ones_above 63 k high)
 
-module _ (t : List ℕ) (from upto m : ℕ) (h : Ahead t from upto m) where
+module _ (t : List ℕ) (from upto m : ℕ) (h : TurnsAhead t from upto m) where
   pub none-ahead : m ≡ 0 → NoTurn t from upto
   none-ahead none k lo hi =
       ⊎_elim (λ (before : k + 63 < upto). h.between k lo before)
       (λ (ge : upto ≤ k + 63). (h.left k lo hi ge).0 (ap (λ x. bit_at x (k + 63 - upto)) none ∙ bit_at-zero (k + 63 - upto)))
       (cases_lt (k + 63) upto)
 
-  pub ahead-more : (n : ℕ) → m ≡ 0 → upto + 64 ≤ length t → AreTurns t upto n → ((k : ℕ) → 63 ≤ k → bit_at n k ≡ 0) → Ahead t from (upto + 63) n
+  pub ahead-more : (n : ℕ) → m ≡ 0 → upto + 64 ≤ length t → AreTurns t upto n → ((k : ℕ) → 63 ≤ k → bit_at n k ≡ 0) → TurnsAhead t from (upto + 63) n
   ahead-more n none room turns few = record {
     within = omega arith;
     inside = λ some. omega arith;
@@ -147,7 +147,7 @@ module _ (t : List ℕ) (from upto m : ℕ) (h : Ahead t from upto m) where
               (cases_lt (k + 63) upto);
         }
 
-    pub turn-passed : Ahead t (upto - 63 + r + 1) upto n
+    pub turn-passed : TurnsAhead t (upto - 63 + r + 1) upto n
     unfolding at
     turn-passed =
         let full = turn-full in
@@ -168,7 +168,7 @@ module _ (t : List ℕ) (from upto m : ℕ) (h : Ahead t from upto m) where
               subst (Tells t k) (sym (others (k + 63 - upto) apart)) (h.left k (omega arith) hi ge);
         }
 
-pub ahead-new : (t : List ℕ) → Ahead t 0 0 0
+pub ahead-new : (t : List ℕ) → TurnsAhead t 0 0 0
 ahead-new t = record {
   within = omega arith;
   inside = λ some. absurd (omega arith);
@@ -181,7 +181,7 @@ ahead-new t = record {
 }
 
 -- behind the end of a run in the tail of a text
-pub ahead-tail : (t : List ℕ) (from upto turns end : ℕ) → Ahead t from upto turns → IsTail t from upto turns → upto ≤ end → Ahead t end upto turns
+pub ahead-tail : (t : List ℕ) (from upto turns end : ℕ) → TurnsAhead t from upto turns → IsTail t from upto turns → upto ≤ end → TurnsAhead t end upto turns
 ahead-tail t from upto turns end h tail past = record {
   within = h.within;
   inside = h.inside;
@@ -205,7 +205,7 @@ one-class t from (suc k) le none =
     (cases_lt from (suc k))
 
 -- up to a turn
-pub run-to-turn : (t : List ℕ) (class : Class) (start at : ℕ) → class_of (get_or t start 0) ≡ class → IsNextTurn t start at → IsRun t class start (at + 1)
+pub run-to-turn : (t : List ℕ) (class : Class) (start at : ℕ) → class_of (get_or t start 0) ≡ class → IsNextTurn t start at → IsClassRun t class start (at + 1)
 run-to-turn t class start at is next =
     let after = next.after in
     let same : (k : ℕ) → start ≤ k → k ≤ at → class_of (get_or t k 0) ≡ class = λ k lo hi. one-class t start k lo (λ j low high. next.first j low (omega arith)) ∙ is in

@@ -90,19 +90,10 @@ pub record IsFirstPair (text : List ℕ) (brace from at : ℕ) : Type 0 where
 abbrev pub IsNextPair : List ℕ → ℕ → ℕ → Option ℕ → Type 0
 IsNextPair text brace from result = MatchOption result ((k : ℕ) → from ≤ k → ¬ IsPair text brace k) (IsFirstPair text brace from)
 
--- each occurrence is one byte
-abbrev pub IsOneByte : (ℕ → Option ℕ) → Type 0
-IsOneByte ends = (a b : ℕ) → ends a ≡ Some b → b ≡ a + 1
-
--- each of these bytes of a text is an occurrence
-abbrev pub FindsByte : (ℕ → Option ℕ) → List ℕ → ℕ → Type 0
-FindsByte ends text byte = (k : ℕ) → k < length text → slice_index text k ≡ byte → ends k ≡ Some (k + 1)
-
--- each brace of a text is an occurrence, and each occurrence is one byte
-pub record FindsBraces (ends : ℕ → Option ℕ) (text : List ℕ) : Type 0 where
-  pub one_byte : IsOneByte ends
-  pub opens : FindsByte ends text 123
-  pub closes : FindsByte ends text 125
+-- each of these bytes of a text is an occurrence, and each occurrence is one byte
+pub record FindsByte (ends : ℕ → Option ℕ) (text : List ℕ) (byte : ℕ) : Type 0 where
+  pub one_byte : (a b : ℕ) → ends a ≡ Some b → b ≡ a + 1
+  pub finds : (k : ℕ) → k < length text → slice_index text k ≡ byte → ends k ≡ Some (k + 1)
 
 -- a hole at the front of a text, with what lies before it and behind it
 abbrev pub CutsHole : {B S P : Type 0} → List ℕ → Hole B S P → List ℕ → Type 0

@@ -21,7 +21,7 @@ abbrev pub is_word_or_space : ℕ → Bool
 is_word_or_space byte = nat_le 128 byte || (is_ascii_alphabetic byte || byte == 95) || is_ascii_whitespace byte
 
 -- from `start` up to `end` the bytes are of one class, and the next is of another
-pub record IsRun (bytes : List ℕ) (class : Class) (start end : ℕ) : Type 0 where
+pub record IsClassRun (bytes : List ℕ) (class : Class) (start end : ℕ) : Type 0 where
   pub filled : start < end
   pub within : end ≤ length bytes
   pub one_class : (k : ℕ) → start ≤ k → k < end → class_of (slice_index bytes k) ≡ class
@@ -37,4 +37,4 @@ end_of token = token.start + length token.text.items
 abbrev pub IsTokenOf : {B S P : Type 0} → Handle → Token B S P → Type 0
 IsTokenOf source token =
     IsPart source token.text (slice_range source.items token.start (end_of token))
-    × IsRun source.items token.class token.start (end_of token)
+    × IsClassRun source.items token.class token.start (end_of token)

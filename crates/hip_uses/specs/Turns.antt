@@ -30,7 +30,7 @@ pub record IsNextTurn (text : List ℕ) (from at : ℕ) : Type 0 where
   pub first : NoTurn text from at
 
 -- the turns of the 63 places before `upto`, those before `from` taken, and none between `from` and these places
-pub record Ahead (text : List ℕ) (from upto turns : ℕ) : Type 0 where
+pub record TurnsAhead (text : List ℕ) (from upto turns : ℕ) : Type 0 where
   pub within : upto ≤ length text
   pub inside : 0 < upto → upto < length text
   pub full : 0 < turns → 63 ≤ upto

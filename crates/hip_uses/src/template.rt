@@ -8,7 +8,6 @@ use crate::template::holes::{holes_of, last_part};
 use crate::template::names::earlier_places;
 pub use crate::template::values::Values;
 use hipstr::Backend;
-use hipstr::pattern::AsciiSet;
 use hipstr::string::HipStr;
 use std::alloc::{AllocError, Global};
 
@@ -64,8 +63,7 @@ pub fn parse<'b, B: Backend>(
         written parsed.holes.items ++ parsed.rest.items ≡ template.now.items) }
     ensures fault { IfErr result (ParseFails template.now.items) }
 {
-    let braces = AsciiSet::new().with(b'{').with(b'}');
-    let (holes, end) = holes_of(alloc, template, &braces)?;
+    let (holes, end) = holes_of(alloc, template, &'{', &'}')?;
     let rest = last_part(alloc, template, end, holes.is_empty())?;
     Ok(Template::new(alloc, holes, rest)?)
 }

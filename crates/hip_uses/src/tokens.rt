@@ -4,8 +4,8 @@ ghost use Rattle.std.specs.Prelude.{All, IfOk, IsTrue};
 ghost use Rattle.std.specs.List.{flat_map};
 ghost use Rattle.std.specs.Str.{IsCharBoundary};
 ghost use Rattle.hipstr.specs.Meter.{RisesAtMost};
-ghost use Rattle.hip_uses.specs.Token.{IsRun, IsTokenOf, token_bytes, class_of};
-ghost use Rattle.hip_uses.specs.Turns.{Ahead};
+ghost use Rattle.hip_uses.specs.Token.{IsClassRun, IsTokenOf, token_bytes, class_of};
+ghost use Rattle.hip_uses.specs.Turns.{TurnsAhead};
 
 use crate::tokens::turns::Turns;
 use hipstr::laws::one_part_copies_little;
@@ -70,7 +70,7 @@ fn run_end(text: &str, start: usize, from: usize, class: Class) -> usize
     requires bound { (start < from) × (from ≤ length text.now) }
     requires class { (k : ℕ) → start ≤ k → k < from
         → class_of (slice_index text.now k) ≡ class }
-    ensures run { IsRun text.now class start result }
+    ensures run { IsClassRun text.now class start result }
     ensures boundary { IsCharBoundary text.now result }
     ensures behind { from ≤ result }
 {
@@ -87,10 +87,10 @@ fn run_end(text: &str, start: usize, from: usize, class: Class) -> usize
 fn next_end(text: &str, start: usize, class: Class, turns: &mut Turns) -> usize
     requires bound { start < length text.now }
     requires class { class_of (slice_index text.now start) ≡ class }
-    requires ahead { Ahead text.now start turns.old.upto turns.old.turns }
-    ensures run { IsRun text.now class start result }
+    requires ahead { TurnsAhead text.now start turns.old.upto turns.old.turns }
+    ensures run { IsClassRun text.now class start result }
     ensures boundary { IsCharBoundary text.now result }
-    ensures ahead { Ahead text.now result turns.new.upto turns.new.turns }
+    ensures ahead { TurnsAhead text.now result turns.new.upto turns.new.turns }
 {
     match turns.next(text.as_bytes(), start) {
         Some(last) => last + 1,

@@ -4,7 +4,7 @@ ghost use Rattle.std.specs.Borrow.{sem};
 ghost use Rattle.std.specs.Vec.Ownership.{FitsInBlock};
 ghost use base.Fml.{ftrue};
 ghost use denote.RawPtr.{Ptr};
-ghost use Rattle.hip_raw.specs.Places.{IsRun};
+ghost use Rattle.hip_raw.specs.Places.{AreFilled};
 ghost use Rattle.hip_raw.specs.Ownership.{cells_own, cells_lent, deed_owns};
 
 use std::alloc::{AllocError, Allocator};
@@ -116,7 +116,7 @@ impl<T> Cells<T> {
     /// The `len` values from `from` on.
     #[inline(always)]
     pub(crate) fn slice(&self, base: Base<T>, from: usize, len: usize) -> &[T]
-        requires { (base.ptr ≡ self.now.at) × IsRun self.now.slots from len }
+        requires { (base.ptr ≡ self.now.at) × AreFilled self.now.slots from len }
         ensures { take len (drop from self.now.slots) ≡ map Some result.now }
     {
         unsafe { slice::from_raw_parts(base.ptr.add(from), len) }
@@ -125,7 +125,7 @@ impl<T> Cells<T> {
     /// The `len` values from `from` on, for writing.
     #[inline(always)]
     pub(crate) fn slice_mut(&mut self, base: Base<T>, from: usize, len: usize) -> &mut [T]
-        requires { (base.ptr ≡ self.old.at) × IsRun self.old.slots from len }
+        requires { (base.ptr ≡ self.old.at) × AreFilled self.old.slots from len }
         ensures* writes_back { sem 𝓛 (lends_run T.row self.entry from len result) }
         ensures value { take len (drop from self.old.slots) ≡ map Some result.now }
     {

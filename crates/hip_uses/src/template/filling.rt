@@ -72,10 +72,10 @@ fn pieces_of<'v, 'b, B: Backend, S: BuildHasher>(
 }
 
 /// The text of a template with each hole filled. Each different name is looked up once, and the text is allocated once.
-pub fn fill<'v, 'b, B: Backend, S: BuildHasher>(
+pub fn fill<'b, B: Backend, S: BuildHasher>(
     alloc: Global,
-    template: &'v Template<'b, B>,
-    values: &'v Values<'b, B, S>,
+    template: &Template<'b, B>,
+    values: &Values<'b, B, S>,
 ) -> Result<HipStr<'b, B>, TemplateFault<'b, B>>
     ensures known { IfOk result (λ _. AllKnown values.now template.now.holes.items) }
     ensures filled { IfOk result (λ text. text.items

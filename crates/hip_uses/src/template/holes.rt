@@ -1,7 +1,7 @@
 //! The holes of a template, found by its braces.
 ghost use Rattle.std.specs.Prelude.{◌≡◌, ◌+◌, ◌<◌, ◌≤◌, ◌++◌, IfErr, IfOk, IfSome, IsTrue, MatchBool, drop, length, slice_range};
 ghost use Rattle.std.specs.Str.{IsCharBoundary, IsUtf8};
-ghost use Rattle.hip_uses.specs.Template.{FindsBraces, FindsByte, IsNextPair, IsOneByte, IsPair, IsParsed, ParseFails, written};
+ghost use Rattle.hip_uses.specs.Template.{FindsByte, IsNextPair, IsPair, IsParsed, ParseFails, written};
 
 use crate::fault::TemplateFault;
 use crate::template::Hole;
@@ -19,30 +19,29 @@ fn is_pair(bytes: &[u8], at: usize, brace: u8) -> bool
     at + 1 < bytes.len() && bytes[at] == brace && bytes[at + 1] == brace
 }
 
-/// The first place at or after `from` where two of this brace stand, if there is one. The searcher, which finds each brace, goes on at
-/// `searched`.
+/// The first place at or after `from` where two of this brace stand, if there is one. The searcher of the pattern, which finds each such
+/// brace, goes on at `searched`.
 #[inline(always)]
 fn next_pair<P: Pattern>(
-    braces: &P,
+    pattern: &P,
+    brace: u8,
     searcher: &mut P::Searcher,
     text: &str,
     searched: usize,
     from: usize,
-    brace: u8,
 ) -> Option<usize>
-    requires can { P.can_search braces.now }
-    requires one_byte { IsOneByte (P.ends braces.now text.now) }
-    requires finds { FindsByte (P.ends braces.now text.now) text.now brace }
-    requires ready { P.is_ready braces.now searcher.old text.now searched }
+    requires can { P.can_search pattern.now }
+    requires brace { FindsByte (P.ends pattern.now text.now) text.now brace }
+    requires ready { P.is_ready pattern.now searcher.old text.now searched }
     requires boundary { IsCharBoundary text.now searched }
     requires behind { searched ≤ from }
     ensures found { IsNextPair text.now brace from result }
-    ensures ready { IfSome result (λ at. P.is_ready braces.now searcher.new text.now (at + 1)) }
+    ensures ready { IfSome result (λ at. P.is_ready pattern.now searcher.new text.now (at + 1)) }
 {
     let bytes = text.as_bytes();
     let mut next = searched;
     loop {
-        let (start, end) = braces.next_match_by(searcher, text, next)?;
+        let (start, end) = pattern.next_match_by(searcher, text, next)?;
         if from <= start && is_pair(bytes, start, brace) {
             return Some(start);
         }
@@ -84,16 +83,18 @@ pub(crate) fn last_part<'b, B: Backend>(
     part(alloc, template, start, template.len())
 }
 
-/// The holes of a template, the leftmost first, and where the last one ends. The pattern finds each brace, so that a template is looked
-/// through once.
+/// The holes of a template, the leftmost first, and where the last one ends. Each pattern finds one brace, and goes over the template
+/// once.
 pub(crate) fn holes_of<'b, B: Backend, P: Pattern>(
     alloc: Global,
     template: &HipStr<'b, B>,
-    braces: &P,
+    opening: &P,
+    closing: &P,
 ) -> Result<(Vec<Hole<'b, B>>, usize), TemplateFault<'b, B>>
-    requires can { P.can_search braces.now }
-    requires braces { IsUtf8 template.now.items
-        → FindsBraces (P.ends braces.now template.now.items) template.now.items }
+    requires can_open { P.can_search opening.now }
+    requires can_close { P.can_search closing.now }
+    requires opens { IsUtf8 template.now.items → FindsByte (P.ends opening.now template.now.items) template.now.items 123 }
+    requires closes { IsUtf8 template.now.items → FindsByte (P.ends closing.now template.now.items) template.now.items 125 }
     ensures boundary { IfOk result (λ found. IsCharBoundary template.now.items found.1) }
     ensures parsed { IfOk result (λ found.
         IsParsed template.now.items found.0.items (drop found.1 template.now.items)) }
@@ -102,13 +103,15 @@ pub(crate) fn holes_of<'b, B: Backend, P: Pattern>(
     ensures fault { IfErr result (ParseFails template.now.items) }
 {
     let text = template.as_str();
-    let mut searcher = braces.searcher(text, 0, text.len());
+    let mut opens = opening.searcher(text, 0, text.len());
+    let mut closes = closing.searcher(text, 0, text.len());
     let mut holes = Vec::new(alloc);
-    let mut searched = 0;
+    let mut opened = 0;
+    let mut closed = 0;
     let mut from = 0;
-    while let Some(open) = next_pair(braces, &mut searcher, text, searched, from, b'{') {
+    while let Some(open) = next_pair(opening, b'{', &mut opens, text, opened, from) {
         let name = open + 2;
-        let Some(close) = next_pair(braces, &mut searcher, text, open + 1, name, b'}') else {
+        let Some(close) = next_pair(closing, b'}', &mut closes, text, closed, name) else {
             let behind = part(alloc, template, name, text.len())?;
             return Err(TemplateFault::Unclosed(behind));
         };
@@ -116,7 +119,8 @@ pub(crate) fn holes_of<'b, B: Backend, P: Pattern>(
             before: part(alloc, template, from, open)?,
             name: part(alloc, template, name, close)?,
         })?;
-        searched = close + 1;
+        opened = open + 1;
+        closed = close + 1;
         from = close + 2;
     }
     Ok((holes, from))

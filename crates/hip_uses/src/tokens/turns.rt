@@ -3,7 +3,7 @@ ghost use Rattle.std.specs.Prelude.{◌≡◌, ℕ, ◌+◌, ◌<◌, ◌≤◌,
 ghost use Rattle.std.specs.Int.{bit_at};
 ghost use Rattle.hipstr.specs.AsciiSets.{in_set};
 ghost use Rattle.hip_uses.specs.Token.{is_word_or_digit, is_word_or_space};
-ghost use Rattle.hip_uses.specs.Turns.{Ahead, AreTurns, IsNextTurn, IsTail};
+ghost use Rattle.hip_uses.specs.Turns.{TurnsAhead, AreTurns, IsNextTurn, IsTail};
 
 use hipstr::bits::{lowest, without_lowest};
 use hipstr::pattern::AsciiSet;
@@ -49,7 +49,7 @@ pub(crate) struct Turns {
 impl Turns {
     // No place was looked at.
     pub(crate) fn new(bytes: &[u8]) -> Self
-        ensures { Ahead bytes.now 0 result.upto result.turns }
+        ensures { TurnsAhead bytes.now 0 result.upto result.turns }
     {
         Turns { upto: 0, turns: 0 }
     }
@@ -57,11 +57,11 @@ impl Turns {
     // The first place at or after `from` at which a run ends. None is found in the tail, where fewer than 64 places are left.
     #[inline(always)]
     pub(crate) fn next(&mut self, bytes: &[u8], from: usize) -> Option<usize>
-        requires { Ahead bytes.now from self.old.upto self.old.turns }
+        requires { TurnsAhead bytes.now from self.old.upto self.old.turns }
         ensures found { MatchOption result
             (IsTail bytes.now from self.new.upto self.new.turns) (IsNextTurn bytes.now from) }
-        ensures ahead { MatchOption result (Ahead bytes.now from self.new.upto self.new.turns)
-            (λ at. Ahead bytes.now (at + 1) self.new.upto self.new.turns) }
+        ensures ahead { MatchOption result (TurnsAhead bytes.now from self.new.upto self.new.turns)
+            (λ at. TurnsAhead bytes.now (at + 1) self.new.upto self.new.turns) }
     {
         loop {
             if let Some(first) = lowest(self.turns) {

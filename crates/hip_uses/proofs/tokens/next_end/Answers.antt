@@ -1,5 +1,5 @@
 use Rattle.std.proofs.Common.{◌∙◌, ℕ, ◌+◌, List, subst, arith}
-use Rattle.hip_uses.specs.Token.{IsRun}
+use Rattle.hip_uses.specs.Token.{IsClassRun}
 use Rattle.hip_uses.specs.Turns.{IsNextTurn, NoTurn}
 use Rattle.hip_uses.proofs.Runs.{run-boundary}
 use Rattle.hip_uses.proofs.TurnLemmas.{one-class, run-to-turn}
@@ -16,6 +16,6 @@ returns-in-Some-clause-run c =
 
 pub returns-in-Some-clause-boundary : goal.returns-in-Some-clause-boundary
 returns-in-Some-clause-boundary c =
-    let run : IsRun c.args.text.now c.args.class c.args.start (c.in-Some.last + 1) =
+    let run : IsClassRun c.args.text.now c.args.class c.args.start (c.in-Some.last + 1) =
     run-to-turn c.args.text.now c.args.class c.args.start c.in-Some.last c.requires.class (subst (λ (l : List ℕ). IsNextTurn l c.args.start c.in-Some.last) c.as_bytes.ensures.value c.in-Some.ensures.found) in
     run-boundary c.args.text.now c.args.start (c.in-Some.last + 1) c.args.class c.utf8.text run.filled run.within run.one_class run.longest

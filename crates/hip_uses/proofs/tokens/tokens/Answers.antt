@@ -6,8 +6,8 @@ use Rattle.std.proofs.lemmas.Str.{IsCharBoundary-start}
 use Rattle.std.proofs.lemmas.List.Elements.{All-nil}
 use Rattle.hipstr.specs.Made.{IsPart}
 use Rattle.hipstr.specs.Meter.{RisesAtMost}
-use Rattle.hip_uses.specs.Token.{IsRun, IsTokenOf, token_bytes}
-use Rattle.hip_uses.specs.Turns.{Ahead}
+use Rattle.hip_uses.specs.Token.{IsClassRun, IsTokenOf, token_bytes}
+use Rattle.hip_uses.specs.Turns.{TurnsAhead}
 use Rattle.hip_uses.proofs.Little.{rises-more}
 use Rattle.hip_uses.proofs.Pushed.{All-more}
 use Rattle.hip_uses.proofs.Runs.{joined-more, length-range}
@@ -18,7 +18,7 @@ loop-start-init g c = record {
   boundary = subst (λ (l : List ℕ). IsCharBoundary l 0) c.as_str-whole.ensures.items (IsCharBoundary-start _ c.as_str-whole.ensures.utf8);
   joined = ap (flat_map token_bytes) c.new-tokens.ensures.items;
   each = subst (All (IsTokenOf c.args.source.now)) (sym c.new-tokens.ensures.items) (All-nil (IsTokenOf c.args.source.now));
-  ahead = subst (λ (l : List ℕ). Ahead l 0 c.new-turns.result.upto c.new-turns.result.turns) (c.as_bytes.ensures.value ∙ c.as_str-whole.ensures.items) c.new-turns.ensures;
+  ahead = subst (λ (l : List ℕ). TurnsAhead l 0 c.new-turns.result.upto c.new-turns.result.turns) (c.as_bytes.ensures.value ∙ c.as_str-whole.ensures.items) c.new-turns.ensures;
   shared = λ shares. record { never_falls = omega arith; at_most = omega arith };
 }
 
@@ -34,7 +34,7 @@ loop-start-preserved g c =
     let class = c.class_of-class.result in
     let pushed = c.in_ok-push.ensures.items in
     let part = c.in_ok-text.ensures.part in
-    let run : IsRun items class start end = subst (λ (l : List ℕ). IsRun l class start end) c.as_str-whole.ensures.items c.next_end-end.ensures.run in
+    let run : IsClassRun items class start end = subst (λ (l : List ℕ). IsClassRun l class start end) c.as_str-whole.ensures.items c.next_end-end.ensures.run in
     let size : length c.in_ok-text.text.items ≡ end - start = ap length part.items_are ∙ length-range items start end (omega (arith, run.filled)) run.within in
     let place : end ≡ start + length c.in_ok-text.text.items = omega (arith, size, run.filled) in
     let is : IsPart c.args.source.now c.in_ok-text.text (slice_range items start (start + length c.in_ok-text.text.items)) =
@@ -42,8 +42,8 @@ loop-start-preserved g c =
     record {
       boundary = subst (λ (l : List ℕ). IsCharBoundary l end) c.as_str-whole.ensures.items c.next_end-end.ensures.boundary;
       joined = joined-more items c.loop-start.tokens.items c.push.new.self.items _ start end pushed c.loop-start.invariant.joined part.items_are (omega (arith, run.filled));
-      each = All-more (IsTokenOf c.args.source.now) c.loop-start.tokens.items c.push.new.self.items _ pushed (is, subst (IsRun items class start) place run) c.loop-start.invariant.each;
-      ahead = subst (λ (l : List ℕ). Ahead l c.next_end-end.result c.next_end-end.new.turns.upto c.next_end-end.new.turns.turns) c.as_str-whole.ensures.items c.next_end-end.ensures.ahead;
+      each = All-more (IsTokenOf c.args.source.now) c.loop-start.tokens.items c.push.new.self.items _ pushed (is, subst (IsClassRun items class start) place run) c.loop-start.invariant.each;
+      ahead = subst (λ (l : List ℕ). TurnsAhead l c.next_end-end.result c.next_end-end.new.turns.upto c.next_end-end.new.turns.turns) c.as_str-whole.ensures.items c.next_end-end.ensures.ahead;
       shared = λ shares. let bound = c.one_part_copies_little.ensures.part shares c.args.source.now.kind (end - start) in
           subst (λ (n : ℕ). RisesAtMost c.args.meter.now c.part_metered.new.meter (23 * n)) (sym (ap length pushed ∙ length-append c.loop-start.tokens.items _))
           (rises-more _ c.args.meter.now c.loop-start.meter c.part_metered.new.meter (length c.loop-start.tokens.items) bound (c.loop-start.invariant.shared shares) c.in_ok-text.ensures.counted);

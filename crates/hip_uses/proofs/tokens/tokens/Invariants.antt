@@ -4,7 +4,7 @@ use Rattle.std.specs.List.{flat_map}
 use Rattle.std.specs.Str.{IsCharBoundary}
 use Rattle.hipstr.specs.Meter.{RisesAtMost}
 use Rattle.hip_uses.specs.Token.{IsTokenOf, token_bytes}
-use Rattle.hip_uses.specs.Turns.{Ahead}
+use Rattle.hip_uses.specs.Turns.{TurnsAhead}
 use Rattle.hip_uses.proofs.tokens.tokens.Given as goal
 
 abbrev pub invariant-loop-start : goal.invariant-loop-start
@@ -12,7 +12,7 @@ invariant-loop-start g l = record {
   boundary : IsCharBoundary l.source.items l.start;
   joined : flat_map token_bytes l.tokens.items ≡ take l.start l.source.items;
   each : All (IsTokenOf l.source) l.tokens.items;
-  ahead : Ahead l.source.items l.start l.turns.upto l.turns.turns;
+  ahead : TurnsAhead l.source.items l.start l.turns.upto l.turns.turns;
   shared : g.B.Backend.SHARES ≡ true → RisesAtMost l.fn.meter l.meter (23 * length l.tokens.items);
 }
 

@@ -3,7 +3,7 @@ use Rattle.std.specs.Prelude.{slice_range}
 use Rattle.std.specs.Str.{IsCharBoundary, IsUtf8}
 use Rattle.std.proofs.lemmas.List.{append-nil}
 use Rattle.std.proofs.lemmas.Str.{IsCharBoundary-start}
-use Rattle.hip_uses.specs.Template.{CutsHole, FindsBraces, IsParsed, written}
+use Rattle.hip_uses.specs.Template.{CutsHole, FindsByte, IsParsed, written}
 use Rattle.hip_uses.specs.declared.template.Hole.{Hole}
 use Rattle.hip_uses.proofs.Holes.{cuts-hole, pair-end, pair-lacks, pair-middle, unclosed}
 use Rattle.hip_uses.proofs.Templates.{parsed-more, written-more}
@@ -15,33 +15,26 @@ loop-open-init g c =
     let text = c.as_str-text.result.now in
     let start = IsCharBoundary-start text c.as_str-text.utf8 in
     record {
-      ready = c.searcher-searcher.ensures.front start;
-      searched_at = start;
+      opens = c.searcher-opens.ensures.front start;
+      opened_at = start;
+      opened = omega arith;
+      closes = c.searcher-closes.ensures.front start;
+      closed_at = start;
+      closed = omega arith;
       from_at = start;
-      behind = omega arith;
       written = ap (λ (l : List AHole). written l ++ text) c.new-holes.ensures.items;
       parsed = λ more rest parsed. subst (λ (l : List AHole). IsParsed text (l ++ more) rest) (sym c.new-holes.ensures.items) parsed;
     }
 
-pub next_pair-requires-clause-one_byte : goal.next_pair-requires-clause-one_byte
-next_pair-requires-clause-one_byte g c =
-    let braces = subst (λ (l : List ℕ). FindsBraces (g.P.Pattern.ends c.args.braces.now l) l) (sym c.as_str-text.ensures.items) (c.requires.braces (subst IsUtf8 c.as_str-text.ensures.items c.as_str-text.utf8)) in
-    braces.one_byte
+pub next_pair-requires-clause-brace : goal.next_pair-requires-clause-brace
+next_pair-requires-clause-brace g c =
+    subst (λ (l : List ℕ). FindsByte (g.P.Pattern.ends c.args.opening.now l) l 123) (sym c.as_str-text.ensures.items)
+    (c.requires.opens (subst IsUtf8 c.as_str-text.ensures.items c.as_str-text.utf8))
 
-pub next_pair-requires-clause-finds : goal.next_pair-requires-clause-finds
-next_pair-requires-clause-finds g c =
-    let braces = subst (λ (l : List ℕ). FindsBraces (g.P.Pattern.ends c.args.braces.now l) l) (sym c.as_str-text.ensures.items) (c.requires.braces (subst IsUtf8 c.as_str-text.ensures.items c.as_str-text.utf8)) in
-    braces.opens
-
-pub next_pair-requires-in-Some-clause-one_byte : goal.next_pair-requires-in-Some-clause-one_byte
-next_pair-requires-in-Some-clause-one_byte g c =
-    let braces = subst (λ (l : List ℕ). FindsBraces (g.P.Pattern.ends c.args.braces.now l) l) (sym c.as_str-text.ensures.items) (c.requires.braces (subst IsUtf8 c.as_str-text.ensures.items c.as_str-text.utf8)) in
-    braces.one_byte
-
-pub next_pair-requires-in-Some-clause-finds : goal.next_pair-requires-in-Some-clause-finds
-next_pair-requires-in-Some-clause-finds g c =
-    let braces = subst (λ (l : List ℕ). FindsBraces (g.P.Pattern.ends c.args.braces.now l) l) (sym c.as_str-text.ensures.items) (c.requires.braces (subst IsUtf8 c.as_str-text.ensures.items c.as_str-text.utf8)) in
-    braces.closes
+pub next_pair-requires-in-Some-clause-brace : goal.next_pair-requires-in-Some-clause-brace
+next_pair-requires-in-Some-clause-brace g c =
+    subst (λ (l : List ℕ). FindsByte (g.P.Pattern.ends c.args.closing.now l) l 125) (sym c.as_str-text.ensures.items)
+    (c.requires.closes (subst IsUtf8 c.as_str-text.ensures.items c.as_str-text.utf8))
 
 pub part-requires-clause-start_at_boundary : goal.part-requires-clause-start_at_boundary
 part-requires-clause-start_at_boundary g c =
@@ -78,10 +71,13 @@ loop-open-preserved g c =
     let name_is : hole.name.items ≡ slice_range text (left + 2) right = c.in_ok-part-2.ensures ∙ ap (λ (l : List ℕ). slice_range l (left + 2) right) same in
     let cut : CutsHole (drop from text) hole (drop (right + 2) text) = cuts-hole text from left right hole opens closes before_is name_is in
     record {
-      ready = c.in-Some-next_pair.ensures.ready;
-      searched_at = pair-middle 125 text right (omega arith) closes.is;
+      opens = c.in-Some.ensures.ready;
+      opened_at = pair-middle 123 text left (omega arith) opens.is;
+      opened = omega (arith, closes.after);
+      closes = c.in-Some-next_pair.ensures.ready;
+      closed_at = pair-middle 125 text right (omega arith) closes.is;
+      closed = omega arith;
       from_at = pair-end 125 text right (omega arith) c.as_str-text.utf8 closes.is;
-      behind = omega arith;
       written = written-more text (drop from text) c.loop-open.holes.items _ hole (drop (right + 2) text) c.loop-open.invariant.written cut c.in_ok-push.ensures.items;
       parsed = parsed-more text (drop from text) c.loop-open.holes.items _ hole (drop (right + 2) text) c.loop-open.invariant.parsed cut c.in_ok-push.ensures.items;
     }

@@ -6,7 +6,7 @@ use Rattle.hip_uses.proofs.template.holes.next_pair.Given as goal
 -- no two of the brace stand before the place where the search goes on
 abbrev pub invariant-loop-start : goal.invariant-loop-start
 invariant-loop-start g l = record {
-  ready : g.P.Pattern.is_ready l.braces l.searcher l.text l.next;
+  ready : g.P.Pattern.is_ready l.pattern l.searcher l.text l.next;
   boundary : IsCharBoundary l.text l.next;
   none : (k : ℕ) → l.from ≤ k → k < l.next → ¬ IsPair l.text l.brace k;
 }

@@ -48,7 +48,7 @@ use Rattle.std.specs.Prelude.{Some}
 use Rattle.std.proofs.lemmas.List.{length-map}
 use Rattle.core.proofs.mem.Param.{El, R, args, el_x}
 use Rattle.core.proofs.ptr.Rows.{times_below}
-use Rattle.hip_raw.specs.Places.{somes, IsRun}
+use Rattle.hip_raw.specs.Places.{somes, AreFilled}
 use Rattle.hip_raw.specs.Ownership.{slots, cells_own}
 use Rattle.hip_raw.proofs.PlacesMemory.{Cr, Bs, Mark, sz, Place, word_had, Around, run_out, run_in, to_cells, of_cells}
 use types.SemTy.{cells}
@@ -76,7 +76,7 @@ module _ (E : El) where
   stayed = (stay_dropped (mut_ref_to (0 ∷ []) tt (plain (λ _. Cr E))) no, (stay_dropped (plain (λ _. Bs E)) no, (stay_dropped (plain (λ _. usize)) no, (stay_dropped (plain (λ _. usize)) no, tt))))
 
   abbrev Asks : (Cr E).Denot → (Bs E).Denot → (usize).Denot → (usize).Denot → Type 0
-  Asks d base from len = (base.ptr ≡ d.at) × IsRun d.slots from len
+  Asks d base from len = (base.ptr ≡ d.at) × AreFilled d.slots from len
 
   abbrev Gives0 : (Cr E).Denot → (Bs E).Denot → (usize).Denot → (usize).Denot → MutBor (List (el_x E)) → Type 0
   Gives0 d base from len r = take len (drop_l from d.slots) ≡ map Some r.now
