@@ -1,5 +1,6 @@
 //! How answers and bytes are printed.
-ghost use Rattle.std.specs.Prelude.{◌≡◌, ◌++◌, codes, if◌then◌else◌, map, IsTrue, OnOk};
+ghost use Rattle.std.specs.Prelude.{◌≡◌, ◌<◌, ◌++◌, codes, false, if◌then◌else◌, map, IsTrue, OnOk};
+ghost use Rattle.std.specs.Fmt.{digit_glyph};
 ghost use Rattle.std.specs.Io.KnownBytes.{Appends};
 ghost use Rattle.memchr.specs.Find.{IsFirstByte};
 ghost use Rattle.hip_script.specs.Printed.{kind_name, order_name, printed_answer, printed_byte, printed_field, printed_hex, printed_literal, printed_number, printed_record, printed_records, printed_slot, reason_name};
@@ -171,5 +172,17 @@ fn print_escaped<W: Write>(out: &mut W, byte: u8) -> io::Result<()>
 fn print_hex<W: Write>(out: &mut W, byte: u8) -> io::Result<()>
     ensures { OnOk result (Appends (W.contents out.old) (W.contents out.new) (printed_hex byte)) }
 {
-    write!(out, "\\x{byte:02x}")
+    out.write_all(&[b'\\', b'x', hex_digit(byte / 16), hex_digit(byte % 16)])
+}
+
+/// A digit in base 16.
+fn hex_digit(value: u8) -> u8
+    requires { value < 16 }
+    ensures { result ≡ digit_glyph false value }
+{
+    if value < 10 {
+        b'0' + value
+    } else {
+        b'a' + (value - 10)
+    }
 }
