@@ -76,7 +76,7 @@ flood:
 # Measures the walks over the ranges of a text beside Rust's `str`.
 .PHONY: walks
 walks:
-	@cd crates/hip_walks && rt lib
+	@cd crates/hip_match_bench && rt lib
 	@bench/walks.sh
 
 # Runs the program over a random script under valgrind, on both backends, and the tests that `rt test` has built.

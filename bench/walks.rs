@@ -1,4 +1,4 @@
-//! Measures the walks of `hip_walks` over the ranges of a text beside those of Rust's `str`.
+//! Measures the walks of `hip_match_bench` over the ranges of a text beside those of Rust's `str`.
 //!
 //! Each line of the table is one walk over a text of about 1 MiB. Both sides are called in turn, in one thread, and its processor time
 //! is taken. A ratio is taken in each turn, and the line has the median of the ratios with the least and the greatest. A call with no

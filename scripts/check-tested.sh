@@ -16,8 +16,8 @@ while read -r word; do
             fi ;;
         *) file=crates/${word%%/*}/src/tests/${word#*/}.rt ;;
     esac
-done < <(grep '^|' "$page" | grep -oE 'hip_[a-z]+(_tests)?/[a-z_/]+|`[A-Za-z0-9_]+`')
-worked=$(sed -n 's/^| \([a-z0-9-]*\) | hip_[^|]* | \([a-z0-9-]*\) | hip_.*/\1\n\2/p' "$page" | sort -u | wc -l)
+done < <(grep '^|' "$page" | grep -oE 'hip[a-z_]+/[a-z_/]+|`[A-Za-z0-9_]+`')
+worked=$(sed -n 's/^| \([a-z0-9-]*\) | hip[^|]* | \([a-z0-9-]*\) | hip.*/\1\n\2/p' "$page" | sort -u | wc -l)
 carried=$(grep -oE '[a-z_/]+::test_[a-z_]+' "$page" | sort -u | wc -l)
 echo "check-tested: $worked worked cases, $carried tests of hipstr, $missing names missing"
 [ "$worked $carried $missing" = "28 103 0" ]

@@ -3,8 +3,7 @@ use super::walks::Walk::{
     Matches, RSplit, RSplitN, RSplitTerminator, Split, SplitInclusive, SplitN, SplitTerminator,
 };
 use super::walks::{Row, lists, walks};
-use hip_match::matches::MatchIndices;
-use hip_match::rmatches::RMatchIndices;
+use hip_match::indices::{MatchIndices, RMatchIndices};
 use std::process::Abort;
 use std::test::Fail;
 

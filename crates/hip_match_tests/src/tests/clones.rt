@@ -2,10 +2,11 @@
 ghost use Rattle.std.specs.Prelude.{◌≡◌, Ok, IsOk};
 
 use super::walks::gives;
+use hip_match::indices::{MatchIndices, RMatchIndices};
 use hip_match::lines::Lines;
-use hip_match::matches::{MatchIndices, Matches};
+use hip_match::matches::Matches;
 use hip_match::ranges::{CloneRanges, Ranges, RangesBack};
-use hip_match::rmatches::{RMatchIndices, RMatches};
+use hip_match::rmatches::RMatches;
 use hip_match::rsplit::{RSplit, RSplitN, RSplitTerminator};
 use hip_match::split::{Split, SplitInclusive, SplitN, SplitTerminator};
 use hip_match::white_space::{SplitAsciiWhitespace, SplitWhitespace};

@@ -2,11 +2,12 @@
 use super::cuts::{Cut, cuts, once, trims};
 use super::walks::{Walk, lists, walk_by_script, walks};
 use hip_match::draw::{End, draw_into};
+use hip_match::indices::{MatchIndices, RMatchIndices};
 use hip_match::laws::{just_one_list_is_leftmost, just_one_list_is_rightmost, one_char_reverses};
-use hip_match::matches::{MatchIndices, Matches};
+use hip_match::matches::Matches;
 use hip_match::pattern::{DoubleEndedPattern, OneChar, Pattern, ReversePattern};
 use hip_match::ranges::RangesBack;
-use hip_match::rmatches::{RMatchIndices, RMatches};
+use hip_match::rmatches::RMatches;
 use std::process::Abort;
 use std::test::Fail;
 

@@ -1,10 +1,11 @@
 //! The iterators by name, and what is asserted of any of them.
 ghost use Rattle.std.specs.Prelude.{◌≡◌};
 
-use hip_match::matches::{MatchIndices, Matches};
+use hip_match::indices::{MatchIndices, RMatchIndices};
+use hip_match::matches::Matches;
 use hip_match::pattern::{OneChar, ReversePattern};
 use hip_match::ranges::{Ranges, RangesBack};
-use hip_match::rmatches::{RMatchIndices, RMatches};
+use hip_match::rmatches::RMatches;
 use hip_match::rsplit::{RSplit, RSplitN, RSplitTerminator};
 use hip_match::split::{Split, SplitInclusive, SplitN, SplitTerminator};
 use std::process::Abort;

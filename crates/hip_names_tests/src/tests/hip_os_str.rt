@@ -1,10 +1,9 @@
 //! The tests' calls of an OS string.
-use super::handle::{Handle, Json};
+use super::handle::Handle;
 use super::name::{Name, OsStr};
 use super::support::kind_of;
 use hip_bytes::RefMut;
-use hip_names::{Backend, HipByt, HipOsStr, HipPath, JsonFault, Kind};
-use serde_json::Value;
+use hip_names::{Backend, HipByt, HipOsStr, HipPath, Kind};
 use std::alloc::{AllocError, Global};
 use std::borrow::CowSlice;
 use std::cmp::Ordering;
@@ -170,15 +169,5 @@ impl<B: Backend> OsStr for HipOsStr<'static, B> {
     fn to_str_lossy(&self, alloc: Global) -> Result<(String, bool), AllocError> {
         let text = self.to_str_lossy(alloc)?;
         Ok((String::from_str(alloc, text.as_str())?, text.is_borrowed()))
-    }
-}
-
-impl<B: Backend> Json for HipOsStr<'static, B> {
-    fn to_json(&self, alloc: Global) -> Result<Value, JsonFault> {
-        self.to_json(alloc).or(Err(JsonFault::Memory))
-    }
-
-    fn from_json(alloc: Global, value: &Value) -> Result<Self, JsonFault> {
-        HipOsStr::from_json(alloc, value)
     }
 }

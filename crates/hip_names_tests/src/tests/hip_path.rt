@@ -1,10 +1,9 @@
 //! The tests' calls of a path.
-use super::handle::{Handle, Json};
+use super::handle::Handle;
 use super::name::Name;
 use super::support::kind_of;
 use hip_bytes::RefMut;
-use hip_names::{Backend, HipByt, HipOsStr, HipPath, JsonFault, Kind};
-use serde_json::Value;
+use hip_names::{Backend, HipByt, HipOsStr, HipPath, Kind};
 use std::alloc::{AllocError, Global};
 use std::borrow::CowSlice;
 use std::cmp::Ordering;
@@ -141,15 +140,5 @@ impl<B: Backend> Name for HipPath<'static, B> {
     fn into_str_eq(self, text: &str) -> Result<(bool, Kind), Self> {
         let made = self.into_str()?;
         Ok((made.str_eq(text), made.kind()))
-    }
-}
-
-impl<B: Backend> Json for HipPath<'static, B> {
-    fn to_json(&self, alloc: Global) -> Result<Value, JsonFault> {
-        self.to_json(alloc)
-    }
-
-    fn from_json(alloc: Global, value: &Value) -> Result<Self, JsonFault> {
-        HipPath::from_json(alloc, value)
     }
 }

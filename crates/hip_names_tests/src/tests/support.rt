@@ -28,23 +28,6 @@ pub(crate) fn text_of<T: fmt::Debug>(alloc: Global, value: &T) -> Result<String,
     format!(in alloc; "{value:?}")
 }
 
-/// The error of a refused call. A call that wasn't refused ends the test.
-pub(crate) fn must_refuse<T: Drop, E>(rt: &impl Abort, outcome: Result<T, E>) -> E {
-    match outcome {
-        Ok(_) => panic!(rt; "a call wasn't refused"),
-        Err(error) => error,
-    }
-}
-
-/// Where so many bytes lie that were copied.
-pub(crate) fn kind_of_copy(len: usize) -> Option<Kind> {
-    if len > 23 {
-        Some(Kind::Allocated)
-    } else {
-        Some(Kind::Inline)
-    }
-}
-
 /// The kind that is told by three answers, where just one is true.
 pub(crate) fn kind_of(inline: bool, borrowed: bool, allocated: bool) -> Option<Kind> {
     match (inline, borrowed, allocated) {

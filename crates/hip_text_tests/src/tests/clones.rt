@@ -3,7 +3,7 @@
 use super::closures::{chosen_for, places_of};
 use super::places::is_match;
 use super::walks::gives;
-use hip_cuts::hip_match::matches::MatchIndices;
+use hip_cuts::hip_match::indices::MatchIndices;
 use hip_cuts::hip_match::predicate::CharPred;
 use hip_cuts::hip_match::split::Split;
 use hip_cuts::{HipStr, IterWrapper, Rc, TextCuts};

@@ -1,4 +1,4 @@
-//! Trims, strips and cuts at one match, without a meter. Counted, they are those of `hipstr::run` (`cuts` of hip_checks).
+//! Trims, strips and cuts at one match, without a meter. Counted, they are those of `hipstr::run` (`cuts` of hipstr_tests).
 use super::support::must;
 use hip_cuts::{Backend, HipStr, Rc, TextCuts, Unique};
 use std::alloc::{AllocError, Global};

@@ -1,7 +1,6 @@
 //! Matches with their positions.
-use hip_cuts::hip_match::matches::MatchIndices;
+use hip_cuts::hip_match::indices::{MatchIndices, RMatchIndices};
 use hip_cuts::hip_match::pattern::{OneChar, Pattern, ReversePattern};
-use hip_cuts::hip_match::rmatches::RMatchIndices;
 use hip_cuts::{Backend, HipStr, IterWrapper, Rc, TextCuts, Unique};
 use std::alloc::{AllocError, Global};
 use std::process::Abort;

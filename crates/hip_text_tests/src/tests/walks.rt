@@ -1,4 +1,4 @@
-//! Pieces that are drawn without a meter, from either end. Each walk's pieces, counted, are those of `hipstr::run` (`ways` of hip_checks).
+//! Pieces that are drawn without a meter, from either end. Each walk's pieces, counted, are those of `hipstr::run` (`ways` of hipstr_tests).
 use super::fields::{has_fields, longest_drawn};
 use hip_cuts::hip_match::ranges::RangesBack;
 use hip_cuts::{Backend, HipStr, IterWrapper, Rc, TextCuts, Unique, Unnumbered};

@@ -1,5 +1,5 @@
 use Rattle.std.specs.Char.{is_ascii_digit}
-use Rattle.hip_checks.proofs.user.chosen_digits.Given as goal
+use Rattle.hipstr_tests.proofs.user.chosen_digits.Given as goal
 
 abbrev pub ghost-choose_by : goal.ghost-choose_by
 ghost-choose_by a = is_ascii_digit

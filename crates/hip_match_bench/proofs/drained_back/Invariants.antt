@@ -1,5 +1,5 @@
 use Rattle.std.proofs.Common.{length}
-use Rattle.hip_walks.proofs.drained_back.Given as goal
+use Rattle.hip_match_bench.proofs.drained_back.Given as goal
 
 abbrev pub invariant-loop-start : goal.invariant-loop-start
 invariant-loop-start g l = g.R.Ranges.ready l.ranges

@@ -1,0 +1,38 @@
+//! The ends of a test, and where a value lies.
+use hip_bytes::Kind;
+use std::process::Abort;
+
+/// The value, or the end of the test where it was refused. A test with no way out but this is a straight line, and cheap to prove.
+pub(crate) fn must<T, E: Drop>(rt: &impl Abort, outcome: Result<T, E>) -> T {
+    match outcome {
+        Ok(value) => value,
+        Err(_) => panic!(rt; "a call was refused"),
+    }
+}
+
+/// The error of a refused call. A call that wasn't refused ends the test.
+pub(crate) fn must_refuse<T: Drop, E>(rt: &impl Abort, outcome: Result<T, E>) -> E {
+    match outcome {
+        Ok(_) => panic!(rt; "a call wasn't refused"),
+        Err(error) => error,
+    }
+}
+
+/// Where so many bytes lie that were copied.
+pub(crate) fn kind_of_copy(len: usize) -> Option<Kind> {
+    if len > 23 {
+        Some(Kind::Allocated)
+    } else {
+        Some(Kind::Inline)
+    }
+}
+
+/// The kind that is told by three answers, where just one is true.
+pub(crate) fn kind_of(inline: bool, borrowed: bool, allocated: bool) -> Option<Kind> {
+    match (inline, borrowed, allocated) {
+        (true, false, false) => Some(Kind::Inline),
+        (false, true, false) => Some(Kind::Borrowed),
+        (false, false, true) => Some(Kind::Allocated),
+        _ => None,
+    }
+}
