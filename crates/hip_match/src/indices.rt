@@ -9,7 +9,7 @@ use crate::pattern::{Pattern, ReversePattern};
 use crate::ranges::{CloneRanges, Ranges, RangesBack};
 use crate::rmatches::RMatches;
 
-/// The ranges of matches, whose user is told where each of them starts.
+/// The ranges of matches that are told with their positions.
 #[derive(Clone, Drop)]
 pub struct Indices<I: Ranges> {
     matches: I,

@@ -83,8 +83,8 @@ pub(crate) fn last_part<'b, B: Backend>(
     part(alloc, template, start, template.len())
 }
 
-/// The holes of a template, the leftmost first, and where the last one ends. Each pattern finds one brace, and goes over the template
-/// once.
+/// The holes of a template, the leftmost first, and where the last one ends. One pattern finds each `{` (123), the other each `}` (125);
+/// either goes over the template once.
 pub(crate) fn holes_of<'b, B: Backend, P: Pattern>(
     alloc: Global,
     template: &HipStr<'b, B>,
