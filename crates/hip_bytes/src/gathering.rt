@@ -11,6 +11,7 @@ use crate::kind::INLINE_CAPACITY;
 use hip_raw::{Backend, Filling, Inline, Meter};
 use std::alloc::{AllocError, Global};
 use std::marker::Model;
+use std::mem;
 
 /// Where the bytes lie so far.
 #[derive(Drop)]
@@ -122,7 +123,12 @@ impl Gathering {
                 inline.push_slice_unchecked_metered(bytes, meter);
             }
             Place::Handle(inline) => {
-                self.place = Place::Vector(spilled(alloc, inline, gap, bytes, meter)?);
+                // A call that isn't inlined keeps in memory what it is lent, so it gets a meter of its own, and the bytes by value.
+                let mut apart = Meter::new();
+                let front = mem::replace(inline, Inline::empty());
+                let filling = spilled(alloc, front, gap, bytes, &mut apart)?;
+                meter.add(&apart);
+                self.place = Place::Vector(filling);
             }
             Place::Vector(filling) => {
                 if filling.len().checked_add(more).is_none() {
@@ -198,20 +204,21 @@ impl Gathering {
 }
 
 // A vector of the bytes of a handle, a gap and the bytes behind it.
-#[inline(always)]
+#[cold]
+#[inline(never)]
 fn spilled(
     alloc: Global,
-    inline: &Inline<INLINE_CAPACITY, u8>,
+    inline: Inline<INLINE_CAPACITY, u8>,
     gap: &[u8],
     bytes: &[u8],
     meter: &mut Meter,
 ) -> Result<Filling, GrowFault>
     requires { length gap.now + length bytes.now < 2 ^ 64 }
-    ensures items { IfOk result (λ filling. filling.items ≡ (inline.now ++ gap.now) ++ bytes.now) }
+    ensures items { IfOk result (λ filling. filling.items ≡ (inline ++ gap.now) ++ bytes.now) }
     ensures too_long { result ≡ Err GrowFault.TooLong
-        → 2 ^ 64 ≤ length inline.now + length gap.now + length bytes.now }
+        → 2 ^ 64 ≤ length inline + length gap.now + length bytes.now }
     ensures counted { OnOk result
-        (RisesAtMost meter.old meter.new (length inline.now + length gap.now + length bytes.now)) }
+        (RisesAtMost meter.old meter.new (length inline + length gap.now + length bytes.now)) }
     ensures copied { OnOk result
         (RisesAtLeast meter.old meter.new (length gap.now + length bytes.now)) }
     ensures refused_copies_nothing { OnErr result (meter.new ≡ meter.old) }

@@ -7,8 +7,12 @@ use std::alloc::{AllocError, Global};
 use std::marker::Model;
 use std::mem;
 
-/// The number of bytes of room that are made ready at a time.
+/// The number of bytes that a long addition copies at a time.
 const STRIDE: usize = 4096;
+
+/// The number of bytes that are made ready beyond what is needed, where that is no more. It is small, so that short parts find them in the
+/// first cache.
+const AHEAD: usize = 1024;
 
 /// A vector that is filled from its front. Room is made of zeros, a stretch at a time, so that many small parts cost one copy each
 /// and the zeros are still at hand when they are filled.
@@ -208,7 +212,7 @@ fn open(vec: &mut Vec<u8>, end: usize)
     *vec = opened(mem::replace(vec, empty), end);
 }
 
-// Makes room up to `end` and a stretch on, as far as the vector's room goes.
+// Makes room up to `end`, and `AHEAD` on or as much again, as far as the vector's room goes.
 #[cold]
 #[inline(never)]
 fn opened(mut vec: Vec<u8>, end: usize) -> Vec<u8>
@@ -218,7 +222,8 @@ fn opened(mut vec: Vec<u8>, end: usize) -> Vec<u8>
     ensures ready { end ≤ vec_len result }
     ensures capacity { vec_capacity vec ≤ vec_capacity result }
 {
-    let most = end.saturating_add(STRIDE).min(vec.capacity());
+    let ahead = (end - vec.len()).max(AHEAD);
+    let most = end.saturating_add(ahead).min(vec.capacity());
     vec.resize(most, 0).unwrap();
     vec
 }

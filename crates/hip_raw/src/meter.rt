@@ -1,9 +1,10 @@
 //! The meter, and the function by which bytes are copied.
-ghost use Rattle.std.specs.Prelude.{◌≡◌, ◌+◌, ◌-◌, ◌^◌, ◌<◌, ◌≤◌, ◌++◌, length, take, vec_len, vec_capacity, IfOk, IsOk, OnOk, OnErr};
+ghost use Rattle.std.specs.Prelude.{◌≡◌, ◌+◌, ◌-◌, ◌^◌, ◌<◌, ◌≤◌, ◌++◌, drop, length, take, vec_len, vec_capacity, IfOk, IsOk, OnOk, OnErr};
 ghost use Rattle.hip_raw.specs.Meter.{RisesAtLeast, RisesAtMost, count_from};
 
 use std::alloc::{AllocError, Global};
 use std::marker::Model;
+use std::simd::prelude::*;
 
 /// Counts the bytes that are copied. Only this crate counts bytes; [`Meter::add`] adds what another meter counted. It stays at
 /// `u128::MAX`.
@@ -66,7 +67,7 @@ impl Default for Meter {
     }
 }
 
-/// Copies `from` over `to` and counts its bytes. All bytes that the product copies go through it, but those of an
+/// Copies `from` over `to` and counts its bytes. All bytes that the product copies go through it, some of them by `fill_at`, but those of an
 /// [`Inline`](crate::Inline) that is cloned: its array is copied whole, as by a move, and its length is counted.
 #[inline(always)]
 pub fn fill_counted(to: &mut [u8], from: &[u8], meter: &mut Meter)
@@ -75,12 +76,62 @@ pub fn fill_counted(to: &mut [u8], from: &[u8], meter: &mut Meter)
     ensures counted { RisesAtMost meter.old meter.new (length from.now) }
     ensures exact { meter.new ≡ count_from meter.old (length from.now) }
 {
-    to.copy_from_slice(from);
+    fill(to, from, false, meter);
+}
+
+// [`fill_counted`], with a choice: whether up to 64 bytes are moved by lanes, which costs less than a call of the C library.
+#[inline(always)]
+fn fill(to: &mut [u8], from: &[u8], by_lanes: bool, meter: &mut Meter)
+    requires { length to.old ≡ length from.now }
+    ensures items { to.new ≡ from.now }
+    ensures counted { RisesAtMost meter.old meter.new (length from.now) }
+    ensures exact { meter.new ≡ count_from meter.old (length from.now) }
+{
+    let len = from.len();
+    if !by_lanes || len > 64 {
+        to.copy_from_slice(from);
+    } else if len >= 16 {
+        if len >= 32 {
+            move_ends::<32>(to, from);
+        } else {
+            move_ends::<16>(to, from);
+        }
+    } else if len >= 4 {
+        if len >= 8 {
+            move_ends::<8>(to, from);
+        } else {
+            move_ends::<4>(to, from);
+        }
+    } else if len >= 2 {
+        move_ends::<2>(to, from);
+    } else if len == 1 {
+        move_ends::<1>(to, from);
+    }
     meter.count(from.len());
 }
 
-// [`fill_counted`] at a position of longer room. Fewer than 32 bytes are copied by moves of 16, 8, 4, 2 and 1, which cost less than a
-// call of the C library. The answer says where the bytes end.
+// Moves bytes that two blocks of N cover, of which the second ends where they end.
+#[inline(always)]
+fn move_ends<const N: usize>(to: &mut [u8], from: &[u8])
+    requires level { length to.old ≡ length from.now }
+    requires covered { (N ≤ length from.now) × (length from.now ≤ N + N) }
+    ensures { to.new ≡ from.now }
+{
+    let last = from.len() - N;
+    move_front::<N>(to, from);
+    move_front::<N>(&mut to[last..], &from[last..]);
+}
+
+// Moves the first N bytes by one load and one store.
+#[inline(always)]
+fn move_front<const N: usize>(to: &mut [u8], from: &[u8])
+    requires within { (N ≤ length to.old) × (N ≤ length from.now) }
+    ensures { to.new ≡ take N from.now ++ drop N to.old }
+{
+    Simd::<u8, N>::from_slice(from).copy_to_slice(to);
+}
+
+// [`fill_counted`] at a position of longer room, by lanes where the bytes are few. The answer says where they end.
 #[inline(always)]
 pub(crate) fn fill_at(room: &mut [u8], at: usize, bytes: &[u8], meter: &mut Meter) -> usize
     requires { at + length bytes.now ≤ length room.old }
@@ -90,58 +141,8 @@ pub(crate) fn fill_at(room: &mut [u8], at: usize, bytes: &[u8], meter: &mut Mete
     ensures counted { RisesAtMost meter.old meter.new (length bytes.now) }
     ensures copied { RisesAtLeast meter.old meter.new (length bytes.now) }
 {
-    if bytes.len() >= 32 {
-        return fill_range(room, at, bytes, meter);
-    }
-    let (at, bytes) = fill_width(room, at, bytes, 16, meter);
-    if bytes.is_empty() {
-        return at;
-    }
-    let (at, bytes) = fill_width(room, at, bytes, 8, meter);
-    let (at, bytes) = fill_width(room, at, bytes, 4, meter);
-    let (at, bytes) = fill_width(room, at, bytes, 2, meter);
-    let (at, _none) = fill_width(room, at, bytes, 1, meter);
-    at
-}
-
-// Copies the first `width` bytes, if there are that many, and answers the position behind them and the bytes that are left. Where `width`
-// is a constant, that is a single move.
-#[inline(always)]
-fn fill_width<'a>(
-    room: &mut [u8],
-    at: usize,
-    bytes: &'a [u8],
-    width: usize,
-    meter: &mut Meter,
-) -> (usize, &'a [u8])
-    requires { at + length bytes.now ≤ length room.old }
-    ensures behind { at ≤ result.0 }
-    ensures end { result.0 + length result.1.now ≡ at + length bytes.now }
-    ensures items { take result.0 room.new ++ result.1.now ≡ take at room.old ++ bytes.now }
-    ensures left { length bytes.now < width + width → length result.1.now < width }
-    ensures len { length room.new ≡ length room.old }
-    ensures counted { RisesAtMost meter.old meter.new (result.0 - at) }
-    ensures copied { RisesAtLeast meter.old meter.new (result.0 - at) }
-{
-    if bytes.len() < width {
-        return (at, bytes);
-    }
-    let (head, tail) = bytes.split_at(width);
-    (fill_range(room, at, head, meter), tail)
-}
-
-// [`fill_at`] by one copy.
-#[inline(always)]
-fn fill_range(room: &mut [u8], at: usize, bytes: &[u8], meter: &mut Meter) -> usize
-    requires { at + length bytes.now ≤ length room.old }
-    ensures end { result ≡ at + length bytes.now }
-    ensures items { take result room.new ≡ take at room.old ++ bytes.now }
-    ensures len { length room.new ≡ length room.old }
-    ensures counted { RisesAtMost meter.old meter.new (length bytes.now) }
-    ensures copied { RisesAtLeast meter.old meter.new (length bytes.now) }
-{
     let end = at + bytes.len();
-    fill_counted(&mut room[at..end], bytes, meter);
+    fill(&mut room[at..end], bytes, true, meter);
     end
 }
 

@@ -172,11 +172,11 @@ fn print_escaped<W: Write>(out: &mut W, byte: u8) -> io::Result<()>
 fn print_hex<W: Write>(out: &mut W, byte: u8) -> io::Result<()>
     ensures { OnOk result (Appends (W.contents out.old) (W.contents out.new) (printed_hex byte)) }
 {
-    out.write_all(&[b'\\', b'x', hex_digit(byte / 16), hex_digit(byte % 16)])
+    out.write_all(&[b'\\', b'x', hex_glyph(byte / 16), hex_glyph(byte % 16)])
 }
 
 /// A digit in base 16.
-fn hex_digit(value: u8) -> u8
+fn hex_glyph(value: u8) -> u8
     requires { value < 16 }
     ensures { result ≡ digit_glyph false value }
 {

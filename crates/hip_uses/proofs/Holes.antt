@@ -6,16 +6,22 @@ use Rattle.std.proofs.lemmas.Bool.{and_parts, cases_lt}
 use Rattle.std.proofs.lemmas.List.{drop_more, get_or-drop}
 use Rattle.std.proofs.lemmas.Option.{cond_some, none-some, some_pair_parts}
 use Rattle.std.proofs.lemmas.Slice.Eq.{bytes_eq-Decides}
-use Rattle.std.proofs.lemmas.Str.{IsCharBoundary-after_ascii, IsCharBoundary-before_ascii, len_utf8_ascii}
-use Rattle.std.specs.Char.{len_utf8}
+use Rattle.std.proofs.lemmas.Str.{encode_ascii, IsCharBoundary-after_ascii, IsCharBoundary-before_ascii, len_utf8_ascii}
+use Rattle.std.specs.Char.{encode_utf8, len_utf8}
 use Rattle.std.proofs.lemmas.Bool.Decides.{nat_tests}
 use Rattle.hipstr.specs.Characters.{char_ends}
 use Rattle.hipstr.specs.CharLaws.{char_at-ascii, char_ends-is, char_ends-yes, starts_char}
 use Rattle.hipstr.specs.Occurrence.{StartsFirst, is_boundary}
 use Rattle.hipstr.specs.Parted.{IsParted, Lacks}
 use Rattle.hipstr.specs.Texts.{text_ends}
-use Rattle.hip_uses.specs.Template.{CutsHole, FindsByte, IsFirstPair, IsPair, closing, opening}
+use Rattle.hip_uses.specs.Template.{CutsHole, IsFirstPair, IsPair, Stands, closing, opening}
 use Rattle.hip_uses.specs.declared.template.Hole.{Hole}
+
+-- the occurrences in a text are these bytes of it
+pub record FindsByte (ends : ℕ → Option ℕ) (text : List ℕ) (byte : ℕ) : Type 0 where
+  pub one_byte : (a b : ℕ) → ends a ≡ Some b → b ≡ a + 1
+  pub is_byte : (a b : ℕ) → ends a ≡ Some b → slice_index text a ≡ byte
+  pub finds : (k : ℕ) → k < length text → slice_index text k ≡ byte → ends k ≡ Some (k + 1)
 
 -- two of a brace
 abbrev pub pair : ℕ → List ℕ
@@ -88,21 +94,38 @@ none-before ends text brace from next start end brace_is none found k low high i
     (λ (ge : next ≤ k). none-some (k + 1) (sym (found.first k ge high) ∙ brace_is.finds k (omega (arith, is.within)) is.first))
     (cases_lt k next)
 
+pub none-left : (ends : ℕ → Option ℕ) (text : List ℕ) (brace from next : ℕ) → FindsByte ends text brace → ((k : ℕ) → from ≤ k → k < next → ¬ IsPair text brace k)
+    → ((k : ℕ) → next ≤ k → ends k ≡ None) → (k : ℕ) → from ≤ k → ¬ IsPair text brace k
+none-left ends text brace from next brace_is none left k low is =
+    ⊎_elim (λ (lt : k < next). none k low lt is) (λ (ge : next ≤ k). none-some (k + 1) (sym (left k ge) ∙ brace_is.finds k (omega (arith, is.within)) is.first)) (cases_lt k next)
+
 pub none-more : (ends : ℕ → Option ℕ) (text : List ℕ) (brace from next start end : ℕ) → FindsByte ends text brace
-    → ((k : ℕ) → from ≤ k → k < next → ¬ IsPair text brace k) → StartsFirst ends next (start, end) → (from ≤ start → ¬ IsPair text brace start)
+    → ((k : ℕ) → from ≤ k → k < next → ¬ IsPair text brace k) → StartsFirst ends next (start, end) → ¬ IsPair text brace start
     → (k : ℕ) → from ≤ k → k < end → ¬ IsPair text brace k
 none-more ends text brace from next start end brace_is none found here k low high is =
     let end_is : end ≡ start + 1 = brace_is.one_byte start end found.occurs in
     ⊎_elim (λ (lt : k < start). none-before ends text brace from next start end brace_is none found k low lt is)
-    (λ (ge : start ≤ k). let same : k ≡ start = omega arith in here (omega arith) (subst (IsPair text brace) same is))
+    (λ (ge : start ≤ k). let same : k ≡ start = omega arith in here (subst (IsPair text brace) same is))
     (cases_lt k start)
+
+-- a brace that is found, and one behind it
+pub pair-found : (ends : ℕ → Option ℕ) (text : List ℕ) (brace start end : ℕ) → FindsByte ends text brace → ends start ≡ Some end → Stands text end brace → IsPair text brace start
+pair-found ends text brace start end brace_is occurs there =
+    let next = brace_is.one_byte start end occurs in
+    record {
+      within = omega (arith, next, there.0);
+      first = brace_is.is_byte start end occurs;
+      second = ap (slice_index text) (sym next) ∙ there.1;
+    }
+
+pub pair-not-found : (ends : ℕ → Option ℕ) (text : List ℕ) (brace start end : ℕ) → FindsByte ends text brace → ends start ≡ Some end → ¬ Stands text end brace → ¬ IsPair text brace start
+pair-not-found ends text brace start end brace_is occurs none is =
+    let next = brace_is.one_byte start end occurs in
+    none (omega (arith, next, is.within), ap (slice_index text) next ∙ is.second)
 
 -- two braces stand between boundaries
 pub pair-start : (brace : ℕ) (text : List ℕ) (at : ℕ) → brace < 128 → IsPair text brace at → IsCharBoundary text at
 pair-start brace text at low is = IsCharBoundary-before_ascii text at (omega (arith, is.within)) (omega (arith, is.first))
-
-pub pair-middle : (brace : ℕ) (text : List ℕ) (at : ℕ) → brace < 128 → IsPair text brace at → IsCharBoundary text (at + 1)
-pair-middle brace text at low is = IsCharBoundary-before_ascii text (at + 1) is.within (omega (arith, is.second))
 
 pub pair-end : (brace : ℕ) (text : List ℕ) (at : ℕ) → brace < 128 → IsUtf8 text → IsPair text brace at → IsCharBoundary text (at + 2)
 pair-end brace text at low utf8 is =
@@ -133,24 +156,33 @@ unclosed text left n behind opens none is size =
     )
 
 -- a character of one byte finds each of its byte
-pub finds-byte : (byte : ℕ) (text : List ℕ) → byte < 128 → IsUtf8 text → FindsByte (char_ends (λ c. c == byte) text) text byte
-finds-byte byte text low utf8 = record {
-  one_byte = λ a b ends.
-      let found = char_ends-is (λ c. c == byte) text a b utf8 ends in
-      let c = found.1.0 in
-      let is : c ≡ byte = same c found.1.2 in
-      omega (arith, found.1.3, len_utf8_ascii byte low, ap len_utf8 is);
-  finds = λ k within is.
-      let start = IsCharBoundary-before_ascii text k within (omega (arith, is, low)) in
-      let found = starts_char text k utf8 start within in
-      let c = found.0 in
-      let pair_is = some_pair_parts c (slice_index text k) (k + len_utf8 c) (k + 1) (sym found.1.at ∙ char_at-ascii text k utf8 start within (omega (arith, is, low))) in
-      let width : k + len_utf8 c ≡ k + 1 = pair_is.1 in
-      char_ends-yes (λ c. c == byte) text k c found.1 (equal c (pair_is.0 ∙ is)) ∙ ap (λ n. Some n) width;
-}
+pub finds-byte : (sign byte : ℕ) (text : List ℕ) → sign ≡ byte → byte < 128 → IsUtf8 text → FindsByte (char_ends (λ c. c == sign) text) text byte
+finds-byte sign byte text named low utf8 = subst (λ s. FindsByte (char_ends (λ c. c == s) text) text byte) (sym named) finds
   where
     same : (c : ℕ) → (c == byte) ≡ true → c ≡ byte
     same c is = grind (arith, nat_tests)
 
     equal : (c : ℕ) → c ≡ byte → (c == byte) ≡ true
     equal c is = grind (arith, nat_tests)
+
+    finds : FindsByte (char_ends (λ c. c == byte) text) text byte
+    finds = record {
+      one_byte = λ a b ends.
+          let found = char_ends-is (λ c. c == byte) text a b utf8 ends in
+          let c = found.1.0 in
+          let is : c ≡ byte = same c found.1.2 in
+          omega (arith, found.1.3, len_utf8_ascii byte low, ap len_utf8 is);
+      is_byte = λ a b ends.
+          let found = char_ends-is (λ c. c == byte) text a b utf8 ends in
+          let c = found.1.0 in
+          let is : c ≡ byte = same c found.1.2 in
+          sym (get_or-drop a text 0 0 ∙ ap (λ k. slice_index text k) (omega arith)) ∙ ap (λ l. get_or l 0 0) (found.1.1.split ∙ ap (λ d. encode_utf8 d ++ drop (a + len_utf8 c) text) is
+          ∙ ap (λ l. l ++ drop (a + len_utf8 c) text) (encode_ascii byte low));
+      finds = λ k within is.
+          let start = IsCharBoundary-before_ascii text k within (omega (arith, is, low)) in
+          let found = starts_char text k utf8 start within in
+          let c = found.0 in
+          let pair_is = some_pair_parts c (slice_index text k) (k + len_utf8 c) (k + 1) (sym found.1.at ∙ char_at-ascii text k utf8 start within (omega (arith, is, low))) in
+          let width : k + len_utf8 c ≡ k + 1 = pair_is.1 in
+          char_ends-yes (λ c. c == byte) text k c found.1 (equal c (pair_is.0 ∙ is)) ∙ ap (λ n. Some n) width;
+    }

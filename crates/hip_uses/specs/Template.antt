@@ -74,6 +74,10 @@ ParseFails template (Unclosed text) =
 ParseFails template (Unknown name) = ⊥
 ParseFails template Memory = Unit {0}
 
+-- this byte stands at a place of a text
+abbrev pub Stands : List ℕ → ℕ → ℕ → Type 0
+Stands text at byte = (at < length text) × (slice_index text at ≡ byte)
+
 -- two of this brace stand at a place of a text
 pub record IsPair (text : List ℕ) (brace k : ℕ) : Type 0 where
   pub within : k + 1 < length text
@@ -89,11 +93,6 @@ pub record IsFirstPair (text : List ℕ) (brace from at : ℕ) : Type 0 where
 -- that place, if there is one
 abbrev pub IsNextPair : List ℕ → ℕ → ℕ → Option ℕ → Type 0
 IsNextPair text brace from result = MatchOption result ((k : ℕ) → from ≤ k → ¬ IsPair text brace k) (IsFirstPair text brace from)
-
--- each of these bytes of a text is an occurrence, and each occurrence is one byte
-pub record FindsByte (ends : ℕ → Option ℕ) (text : List ℕ) (byte : ℕ) : Type 0 where
-  pub one_byte : (a b : ℕ) → ends a ≡ Some b → b ≡ a + 1
-  pub finds : (k : ℕ) → k < length text → slice_index text k ≡ byte → ends k ≡ Some (k + 1)
 
 -- a hole at the front of a text, with what lies before it and behind it
 abbrev pub CutsHole : {B S P : Type 0} → List ℕ → Hole B S P → List ℕ → Type 0

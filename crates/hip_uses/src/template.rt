@@ -63,7 +63,7 @@ pub fn parse<'b, B: Backend>(
         written parsed.holes.items ++ parsed.rest.items ≡ template.now.items) }
     ensures fault { IfErr result (ParseFails template.now.items) }
 {
-    let (holes, end) = holes_of(alloc, template, &'{', &'}')?;
+    let (holes, end) = holes_of(alloc, template)?;
     let rest = last_part(alloc, template, end, holes.is_empty())?;
     Ok(Template::new(alloc, holes, rest)?)
 }

@@ -55,7 +55,7 @@ impl<'b, B: Backend> HipByt<'b, B> {
     pub fn concat_slices(alloc: Global, slices: &[&[u8]]) -> Result<Self, GrowFault>
         ensures joined { JoinAnswers (joined [] slices.now) result }
     {
-        Self::join_slices(alloc, slices, &[])
+        Self::concat_slices_metered(alloc, slices, &mut Meter::new())
     }
 
     /// [`HipByt::concat_slices`], counted.
@@ -71,7 +71,7 @@ impl<'b, B: Backend> HipByt<'b, B> {
             (λ handle. RisesAtLeast meter.old meter.new (length handle.items)) }
         ensures refused_counts_none { result ≡ Err GrowFault.TooLong → meter.new ≡ meter.old }
     {
-        Self::join_slices_metered(alloc, slices, &[], meter)
+        Self::join_piece_slices_metered(alloc, slices, &[], meter)
     }
 
     /// The slices one behind another, with the separator between each two.
@@ -98,7 +98,9 @@ impl<'b, B: Backend> HipByt<'b, B> {
         Self::join_piece_slices_metered(alloc, slices, sep, meter)
     }
 
-    /// [`HipByt::join_slices_metered`] of any pieces, of which the separator keeps what each does.
+    /// [`HipByt::join_slices_metered`] of any pieces, of which the separator keeps what each does. It is inlined, so that a separator
+    /// that is known to be empty costs nothing.
+    #[inline(always)]
     pub fn join_piece_slices_metered<P: Piece>(
         alloc: Global,
         pieces: &[P],
@@ -184,7 +186,7 @@ fn joined_within<P: Piece>(
 }
 
 /// Like `joined_within`, but in an owner that can't be shared, where the bytes stay.
-#[inline(always)]
+#[inline(never)]
 fn joined_in_owner<B: Backend, P: Piece>(
     alloc: Global,
     pieces: &[P],

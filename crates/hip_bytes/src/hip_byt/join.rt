@@ -25,7 +25,7 @@ impl<'b, B: Backend> HipByt<'b, B> {
         ensures joined { GatherAnswers bytes_of I.into_iter_gives
             I.IntoIter.next_gives pieces [] result }
     {
-        Self::join(alloc, pieces, &[])
+        Self::concat_metered(alloc, pieces, &mut Meter::new())
     }
 
     /// [`HipByt::concat`], counted.
@@ -41,7 +41,7 @@ impl<'b, B: Backend> HipByt<'b, B> {
         ensures counted { GatherCosts B.SHARES bytes_of I.into_iter_gives I.IntoIter.next_gives
             pieces [] result meter.old meter.new }
     {
-        Self::join_metered(alloc, pieces, &[], meter)
+        Self::join_pieces_metered(alloc, pieces, &[], meter)
     }
 
     /// The pieces one behind another, with the separator between each two. The pieces have to come to an end.
@@ -75,7 +75,9 @@ impl<'b, B: Backend> HipByt<'b, B> {
         Self::join_pieces_metered(alloc, pieces, sep, meter)
     }
 
-    /// [`HipByt::join_metered`] of any pieces, of which the separator keeps what each does.
+    /// [`HipByt::join_metered`] of any pieces, of which the separator keeps what each does. It is inlined, as
+    /// [`HipByt::join_piece_slices_metered`] is.
+    #[inline(always)]
     pub fn join_pieces_metered<P: Piece, I: IntoIterator<Item = P>>(
         alloc: Global,
         pieces: I,

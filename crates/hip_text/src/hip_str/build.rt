@@ -56,7 +56,9 @@ impl<'b, B: Backend> HipStr<'b, B> {
             (λ text. RisesAtLeast meter.old meter.new (length text.items)) }
         ensures refused_counts_none { result ≡ Err GrowFault.TooLong → meter.new ≡ meter.old }
     {
-        Self::join_slices_metered(alloc, texts, "", meter)
+        Ok(HipStr {
+            bytes: HipByt::join_piece_slices_metered(alloc, texts, "".as_bytes(), meter)?,
+        })
     }
 
     /// The texts one behind another, with the separator between each two.
@@ -99,6 +101,7 @@ impl<'b, B: Backend> HipStr<'b, B> {
     }
 
     /// [`HipStr::concat`], counted.
+    #[tactic(auto, using(crate::proofs::Texts::texts))]
     pub fn concat_metered<'s, I: IntoIterator<Item = &'s str>>(
         alloc: Global,
         texts: I,
@@ -111,7 +114,9 @@ impl<'b, B: Backend> HipStr<'b, B> {
         ensures counted { GatherCosts B.SHARES bytes_of I.into_iter_gives I.IntoIter.next_gives
             texts [] result meter.old meter.new }
     {
-        Self::join_metered(alloc, texts, "", meter)
+        Ok(HipStr {
+            bytes: HipByt::join_pieces_metered(alloc, texts, "".as_bytes(), meter)?,
+        })
     }
 
     /// The texts one behind another, with the separator between each two. The texts have to come to an end.

@@ -1,7 +1,7 @@
 //! The holes of a template, found by its braces.
-ghost use Rattle.std.specs.Prelude.{◌≡◌, ◌+◌, ◌<◌, ◌≤◌, ◌++◌, IfErr, IfOk, IfSome, IsTrue, MatchBool, drop, length, slice_range};
-ghost use Rattle.std.specs.Str.{IsCharBoundary, IsUtf8};
-ghost use Rattle.hip_uses.specs.Template.{FindsByte, IsNextPair, IsPair, IsParsed, ParseFails, written};
+ghost use Rattle.std.specs.Prelude.{◌≡◌, ◌<◌, ◌≤◌, ◌++◌, IfErr, IfOk, IsTrue, MatchBool, drop, length, slice_range};
+ghost use Rattle.std.specs.Str.{IsCharBoundary};
+ghost use Rattle.hip_uses.specs.Template.{IsNextPair, IsParsed, ParseFails, Stands, written};
 
 use crate::fault::TemplateFault;
 use crate::template::Hole;
@@ -10,39 +10,27 @@ use hipstr::string::HipStr;
 use hipstr::{Backend, Meter};
 use std::alloc::{AllocError, Global};
 
-/// Whether two of this brace stand at a place of a text.
+/// Whether this byte stands at a place of a text.
 #[inline(always)]
-fn is_pair(bytes: &[u8], at: usize, brace: u8) -> bool
-    requires { at < length bytes.now }
-    ensures { MatchBool result (IsPair bytes.now brace at) (¬ IsPair bytes.now brace at) }
+fn stands(bytes: &[u8], at: usize, byte: u8) -> bool
+    ensures { MatchBool result (Stands bytes.now at byte) (¬ Stands bytes.now at byte) }
 {
-    at + 1 < bytes.len() && bytes[at] == brace && bytes[at + 1] == brace
+    at < bytes.len() && bytes[at] == byte
 }
 
-/// The first place at or after `from` where two of this brace stand, if there is one. The searcher of the pattern, which finds each such
-/// brace, goes on at `searched`.
+/// The first place at or after `from` where two of this brace stand, if there is one.
 #[inline(always)]
-fn next_pair<P: Pattern>(
-    pattern: &P,
-    brace: u8,
-    searcher: &mut P::Searcher,
-    text: &str,
-    searched: usize,
-    from: usize,
-) -> Option<usize>
-    requires can { P.can_search pattern.now }
-    requires brace { FindsByte (P.ends pattern.now text.now) text.now brace }
-    requires ready { P.is_ready pattern.now searcher.old text.now searched }
-    requires boundary { IsCharBoundary text.now searched }
-    requires behind { searched ≤ from }
-    ensures found { IsNextPair text.now brace from result }
-    ensures ready { IfSome result (λ at. P.is_ready pattern.now searcher.new text.now (at + 1)) }
+fn next_pair(text: &str, brace: u8, from: usize) -> Option<usize>
+    requires ascii { brace < 128 }
+    requires boundary { IsCharBoundary text.now from }
+    ensures { IsNextPair text.now brace from result }
 {
     let bytes = text.as_bytes();
-    let mut next = searched;
+    let sign = char::from(brace);
+    let mut next = from;
     loop {
-        let (start, end) = pattern.next_match_by(searcher, text, next)?;
-        if from <= start && is_pair(bytes, start, brace) {
+        let (start, end) = sign.next_match(text, next)?;
+        if stands(bytes, end, brace) {
             return Some(start);
         }
         next = end;
@@ -83,18 +71,12 @@ pub(crate) fn last_part<'b, B: Backend>(
     part(alloc, template, start, template.len())
 }
 
-/// The holes of a template, the leftmost first, and where the last one ends. One pattern finds each `{` (123), the other each `}` (125);
-/// either goes over the template once.
-pub(crate) fn holes_of<'b, B: Backend, P: Pattern>(
+/// The holes of a template, the leftmost first, and where the last one ends. Each search goes on where the last one ended, so the template
+/// is gone over once.
+pub(crate) fn holes_of<'b, B: Backend>(
     alloc: Global,
     template: &HipStr<'b, B>,
-    opening: &P,
-    closing: &P,
 ) -> Result<(Vec<Hole<'b, B>>, usize), TemplateFault<'b, B>>
-    requires can_open { P.can_search opening.now }
-    requires can_close { P.can_search closing.now }
-    requires opens { IsUtf8 template.now.items → FindsByte (P.ends opening.now template.now.items) template.now.items 123 }
-    requires closes { IsUtf8 template.now.items → FindsByte (P.ends closing.now template.now.items) template.now.items 125 }
     ensures boundary { IfOk result (λ found. IsCharBoundary template.now.items found.1) }
     ensures parsed { IfOk result (λ found.
         IsParsed template.now.items found.0.items (drop found.1 template.now.items)) }
@@ -103,15 +85,11 @@ pub(crate) fn holes_of<'b, B: Backend, P: Pattern>(
     ensures fault { IfErr result (ParseFails template.now.items) }
 {
     let text = template.as_str();
-    let mut opens = opening.searcher(text, 0, text.len());
-    let mut closes = closing.searcher(text, 0, text.len());
     let mut holes = Vec::new(alloc);
-    let mut opened = 0;
-    let mut closed = 0;
     let mut from = 0;
-    while let Some(open) = next_pair(opening, b'{', &mut opens, text, opened, from) {
+    while let Some(open) = next_pair(text, b'{', from) {
         let name = open + 2;
-        let Some(close) = next_pair(closing, b'}', &mut closes, text, closed, name) else {
+        let Some(close) = next_pair(text, b'}', name) else {
             let behind = part(alloc, template, name, text.len())?;
             return Err(TemplateFault::Unclosed(behind));
         };
@@ -119,8 +97,6 @@ pub(crate) fn holes_of<'b, B: Backend, P: Pattern>(
             before: part(alloc, template, from, open)?,
             name: part(alloc, template, name, close)?,
         })?;
-        opened = open + 1;
-        closed = close + 1;
         from = close + 2;
     }
     Ok((holes, from))

@@ -3,12 +3,16 @@ ghost use Rattle.std.specs.Prelude.{◌<◌};
 
 use crate::template::Hole;
 use hipstr::Backend;
+use hipstr::string::HipStr;
 use std::alloc::{AllocError, Global};
 use std::collections::BTreeMap;
 use std::hash::{BuildHasher, BuildHasherDefault, FoldHasher};
 
-/// How many names are at hand.
-const AT_HAND: usize = 64;
+/// The number of spots at which names are at hand.
+const SPOTS: usize = 64;
+
+/// A name that is at hand, and the place of a hole with it.
+type Lately<'t> = Option<(&'t str, usize)>;
 
 /// Where a name is at hand: by its length, its first byte and its last.
 #[inline]
@@ -19,31 +23,46 @@ fn spot_of(name: &[u8]) -> usize
         return 0;
     };
     let ends = usize::from(*first) + 4 * usize::from(*last);
-    ends.wrapping_add(name.len()) % AT_HAND
+    ends.wrapping_add(name.len()) % SPOTS
+}
+
+/// The place of a hole with this name, if it is the one that is at hand. Names are compared as handles, which no call costs.
+#[inline]
+fn known<B: Backend>(lately: Lately<'_>, name: &str) -> Option<usize> {
+    match lately {
+        Some((known, place)) if HipStr::<B>::borrowed(known).str_eq(name) => Some(place),
+        _ => None,
+    }
 }
 
 /// For each hole the position of an earlier hole with its name, or its own where there is none.
 ///
-/// A name that was met lately is at hand. The others are kept in the order of their hashes, which are compared in one step, and names that
-/// share a hash in the order of their bytes. So no choice of names makes this quadratic, though the hash has a fixed seed.
+/// Two names that were met lately are at hand at each spot. The others are kept in the order of their hashes, which are compared in one
+/// step, and names that share a hash in the order of their bytes. So no choice of names makes this quadratic, though the hash has a fixed
+/// seed.
 pub(crate) fn earlier_places<'b, B: Backend>(
     alloc: Global,
     holes: &[Hole<'b, B>],
 ) -> Result<Vec<usize>, AllocError> {
     let hash_builder = BuildHasherDefault::<FoldHasher>::new();
     let mut places = BTreeMap::new(alloc);
-    let mut at_hand = [usize::MAX; AT_HAND];
+    let mut first: [Lately<'_>; SPOTS] = [None; SPOTS];
+    let mut second: [Lately<'_>; SPOTS] = [None; SPOTS];
     let mut earlier_places = Vec::with_capacity(alloc, holes.len())?;
     for (place, hole) in holes.iter().enumerate() {
         let name = hole.name.as_str();
         let spot = spot_of(name.as_bytes());
-        let earlier = match holes.get(at_hand[spot]) {
-            Some(known) if known.name == hole.name => at_hand[spot],
-            _ => places
+        let earlier = if let Some(earlier) = known::<B>(first[spot], name) {
+            earlier
+        } else if let Some(earlier) = known::<B>(second[spot], name) {
+            earlier
+        } else {
+            second[spot] = first[spot];
+            first[spot] = Some((name, place));
+            places
                 .insert((hash_builder.hash_one(name), name), place)?
-                .unwrap_or(place),
+                .unwrap_or(place)
         };
-        at_hand[spot] = place;
         earlier_places.push(earlier)?;
     }
     Ok(earlier_places)

@@ -1,15 +1,8 @@
-use Rattle.std.proofs.Common.{List, ℕ, subst, sym, arith}
+use Rattle.std.proofs.Common.{List, ℕ, subst, sym}
 use Rattle.hipstr.specs.Handle.{Handle}
 use Rattle.hip_uses.specs.Template.{IsParsed}
 use Rattle.hip_uses.specs.declared.template.Hole.{Hole}
-use Rattle.hip_uses.proofs.Holes.{finds-byte}
 use Rattle.hip_uses.proofs.template.parse.Goals as goal
-
-pub holes_of-requires-clause-opens : goal.holes_of-requires-clause-opens
-holes_of-requires-clause-opens g c = λ utf8. finds-byte 123 c.args.template.now.items (omega arith) utf8
-
-pub holes_of-requires-clause-closes : goal.holes_of-requires-clause-closes
-holes_of-requires-clause-closes g c = λ utf8. finds-byte 125 c.args.template.now.items (omega arith) utf8
 
 pub returns-clause-parsed : goal.returns-clause-parsed
 returns-clause-parsed g c =

@@ -1,11 +1,11 @@
 use Rattle.std.proofs.Common.{◌≡◌, ◌∙◌, ◌+◌, ◌++◌, ℕ, List, [], ap, drop, length, refl, subst, sym, arith}
 use Rattle.std.specs.Prelude.{slice_range}
-use Rattle.std.specs.Str.{IsCharBoundary, IsUtf8}
+use Rattle.std.specs.Str.{IsCharBoundary}
 use Rattle.std.proofs.lemmas.List.{append-nil}
 use Rattle.std.proofs.lemmas.Str.{IsCharBoundary-start}
-use Rattle.hip_uses.specs.Template.{CutsHole, FindsByte, IsParsed, written}
+use Rattle.hip_uses.specs.Template.{CutsHole, IsParsed, written}
 use Rattle.hip_uses.specs.declared.template.Hole.{Hole}
-use Rattle.hip_uses.proofs.Holes.{cuts-hole, pair-end, pair-lacks, pair-middle, unclosed}
+use Rattle.hip_uses.proofs.Holes.{cuts-hole, pair-end, pair-lacks, unclosed}
 use Rattle.hip_uses.proofs.Templates.{parsed-more, written-more}
 use Rattle.hip_uses.proofs.template.holes.holes_of.Goals as goal
 
@@ -13,33 +13,19 @@ pub loop-open-init : goal.loop-open-init
 loop-open-init g c =
     let AHole : Type 0 = Hole g.row.B.Denot g.row.B-Sole.Denot g.row.B-Extent.Denot in
     let text = c.as_str-text.result.now in
-    let start = IsCharBoundary-start text c.as_str-text.utf8 in
     record {
-      opens = c.searcher-opens.ensures.front start;
-      opened_at = start;
-      opened = omega arith;
-      closes = c.searcher-closes.ensures.front start;
-      closed_at = start;
-      closed = omega arith;
-      from_at = start;
+      from_at = IsCharBoundary-start text c.as_str-text.utf8;
       written = ap (λ (l : List AHole). written l ++ text) c.new-holes.ensures.items;
       parsed = λ more rest parsed. subst (λ (l : List AHole). IsParsed text (l ++ more) rest) (sym c.new-holes.ensures.items) parsed;
     }
 
-pub next_pair-requires-clause-brace : goal.next_pair-requires-clause-brace
-next_pair-requires-clause-brace g c =
-    subst (λ (l : List ℕ). FindsByte (g.P.Pattern.ends c.args.opening.now l) l 123) (sym c.as_str-text.ensures.items)
-    (c.requires.opens (subst IsUtf8 c.as_str-text.ensures.items c.as_str-text.utf8))
-
-pub next_pair-requires-in-Some-clause-brace : goal.next_pair-requires-in-Some-clause-brace
-next_pair-requires-in-Some-clause-brace g c =
-    subst (λ (l : List ℕ). FindsByte (g.P.Pattern.ends c.args.closing.now l) l 125) (sym c.as_str-text.ensures.items)
-    (c.requires.closes (subst IsUtf8 c.as_str-text.ensures.items c.as_str-text.utf8))
+pub next_pair-requires-in-Some-clause-boundary : goal.next_pair-requires-in-Some-clause-boundary
+next_pair-requires-in-Some-clause-boundary g c = pair-end 123 c.as_str-text.result.now c.in-Some.open (omega arith) c.as_str-text.utf8 c.in-Some.ensures.is
 
 pub part-requires-clause-start_at_boundary : goal.part-requires-clause-start_at_boundary
 part-requires-clause-start_at_boundary g c =
     subst (λ (l : List ℕ). IsCharBoundary l (c.in-Some.open + 2)) c.as_str-text.ensures.items
-    (pair-end 123 c.as_str-text.result.now c.in-Some.open (omega arith) c.as_str-text.utf8 c.in-Some.ensures.found.is)
+    (pair-end 123 c.as_str-text.result.now c.in-Some.open (omega arith) c.as_str-text.utf8 c.in-Some.ensures.is)
 
 pub returns-in_default-next_pair-clause-fault : goal.returns-in_default-next_pair-clause-fault
 returns-in_default-next_pair-clause-fault g c =
@@ -48,13 +34,13 @@ returns-in_default-next_pair-clause-fault g c =
     let left = c.in-Some.open in
     let behind = c.in_ok-behind.behind.items in
     let shown : behind ≡ slice_range text (left + 2) (length text) = c.in_ok-behind.ensures ∙ ap (λ (l : List ℕ). slice_range l (left + 2) (length text)) same in
-    let found = unclosed text left (length text) behind c.in-Some.ensures.found.is c.in_default-next_pair.ensures.found shown refl in
+    let found = unclosed text left (length text) behind c.in-Some.ensures.is c.in_default-next_pair.ensures shown refl in
     (found.0, same ∙ found.1, found.2)
 
 pub part-requires-in-Some-2-clause-start_at_boundary : goal.part-requires-in-Some-2-clause-start_at_boundary
 part-requires-in-Some-2-clause-start_at_boundary g c =
     subst (λ (l : List ℕ). IsCharBoundary l (c.in-Some.open + 2)) c.as_str-text.ensures.items
-    (pair-end 123 c.as_str-text.result.now c.in-Some.open (omega arith) c.as_str-text.utf8 c.in-Some.ensures.found.is)
+    (pair-end 123 c.as_str-text.result.now c.in-Some.open (omega arith) c.as_str-text.utf8 c.in-Some.ensures.is)
 
 pub loop-open-preserved : goal.loop-open-preserved
 loop-open-preserved g c =
@@ -64,19 +50,13 @@ loop-open-preserved g c =
     let from = c.loop-open.from in
     let left = c.in-Some.open in
     let right = c.in-Some-next_pair.close in
-    let opens = c.in-Some.ensures.found in
-    let closes = c.in-Some-next_pair.ensures.found in
+    let opens = c.in-Some.ensures in
+    let closes = c.in-Some-next_pair.ensures in
     let hole : AHole = record { before = c.in_ok-part.field-0; name = c.in_ok-part-2.field-0 } in
     let before_is : hole.before.items ≡ slice_range text from left = c.in_ok-part.ensures ∙ ap (λ (l : List ℕ). slice_range l from left) same in
     let name_is : hole.name.items ≡ slice_range text (left + 2) right = c.in_ok-part-2.ensures ∙ ap (λ (l : List ℕ). slice_range l (left + 2) right) same in
     let cut : CutsHole (drop from text) hole (drop (right + 2) text) = cuts-hole text from left right hole opens closes before_is name_is in
     record {
-      opens = c.in-Some.ensures.ready;
-      opened_at = pair-middle 123 text left (omega arith) opens.is;
-      opened = omega (arith, closes.after);
-      closes = c.in-Some-next_pair.ensures.ready;
-      closed_at = pair-middle 125 text right (omega arith) closes.is;
-      closed = omega arith;
       from_at = pair-end 125 text right (omega arith) c.as_str-text.utf8 closes.is;
       written = written-more text (drop from text) c.loop-open.holes.items _ hole (drop (right + 2) text) c.loop-open.invariant.written cut c.in_ok-push.ensures.items;
       parsed = parsed-more text (drop from text) c.loop-open.holes.items _ hole (drop (right + 2) text) c.loop-open.invariant.parsed cut c.in_ok-push.ensures.items;
@@ -88,6 +68,6 @@ returns-clause-parsed g c =
     let text = c.as_str-text.result.now in
     let from = c.loop-open.from in
     let holes = c.loop-open.holes.items in
-    let lacks = pair-lacks 123 text from c.in_default.ensures.found in
+    let lacks = pair-lacks 123 text from c.in_default.ensures in
     subst (λ (l : List ℕ). IsParsed l holes (drop from l)) c.as_str-text.ensures.items
     (subst (λ (l : List AHole). IsParsed text l (drop from text)) (append-nil holes) (c.loop-open.invariant.parsed [] (drop from text) (refl, lacks)))

@@ -1,18 +1,12 @@
-use Rattle.std.proofs.Common.{◌≡◌, ◌++◌, ℕ, ◌≤◌, ◌-◌, List, drop, length}
+use Rattle.std.proofs.Common.{◌≡◌, ◌++◌, ℕ, ◌-◌, List, drop, length}
 use Rattle.std.specs.Str.{IsCharBoundary}
 use Rattle.hip_uses.specs.Template.{IsParsed, written}
 use Rattle.hip_uses.specs.declared.template.Hole.{Hole}
 use Rattle.hip_uses.proofs.template.holes.holes_of.Given as goal
 
--- the text up to `from` is cut at its holes, and each searcher is ready for the rest
+-- the text up to `from` is cut at its holes
 abbrev pub invariant-loop-open : goal.invariant-loop-open
 invariant-loop-open g l = record {
-  opens : g.P.Pattern.is_ready l.opening l.opens l.text l.opened;
-  opened_at : IsCharBoundary l.text l.opened;
-  opened : l.opened ≤ l.from;
-  closes : g.P.Pattern.is_ready l.closing l.closes l.text l.closed;
-  closed_at : IsCharBoundary l.text l.closed;
-  closed : l.closed ≤ l.from;
   from_at : IsCharBoundary l.text l.from;
   written : written l.holes.items ++ drop l.from l.text ≡ l.text;
   parsed : (more : List (Hole g.row.B.Denot g.row.B-Sole.Denot g.row.B-Extent.Denot)) (rest : List ℕ) → IsParsed (drop l.from l.text) more rest → IsParsed l.text (l.holes.items ++ more) rest;
