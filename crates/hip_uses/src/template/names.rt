@@ -26,7 +26,7 @@ fn spot_of(name: &[u8]) -> usize
     ends.wrapping_add(name.len()) % SPOTS
 }
 
-/// The place of a hole with this name, if it is the one that is at hand. Names are compared as handles, which no call costs.
+/// The place of a hole with this name, if it is the one that is at hand. It is compared as a lent handle, since `==` of `str` is a call.
 #[inline]
 fn known<B: Backend>(lately: Lately<'_>, name: &str) -> Option<usize> {
     match lately {
