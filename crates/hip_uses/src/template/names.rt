@@ -5,7 +5,6 @@ use crate::template::Hole;
 use hipstr::Backend;
 use hipstr::string::HipStr;
 use std::alloc::{AllocError, Global};
-use std::collections::BTreeMap;
 use std::hash::{BuildHasher, BuildHasherDefault, FoldHasher};
 
 /// The number of spots at which names are at hand.
@@ -35,17 +34,51 @@ fn known<B: Backend>(lately: Lately<'_>, name: &str) -> Option<usize> {
     }
 }
 
-/// For each hole the position of an earlier hole with its name, or its own where there is none.
+/// The greatest number of spots for names by their hashes.
+const MOST: usize = 4_096;
+
+/// The number of spots that a name is looked for at.
+const TRIES: usize = 8;
+
+/// The place of the hole that a name was met at, or this one, by the spots from its hash on. Where all are taken by others, it isn't known.
+fn met_at<'b, B: Backend>(
+    holes: &[Hole<'b, B>],
+    name: &HipStr<'b, B>,
+    place: usize,
+    hash: u64,
+    spots: &mut [usize],
+) -> usize {
+    let mask = spots.len().saturating_sub(1);
+    for step in 0..TRIES {
+        let Some(spot) = spots.get_mut((hash as usize).wrapping_add(step) & mask) else {
+            return place;
+        };
+        match holes.get(*spot) {
+            Some(known) if known.name == *name => return *spot,
+            Some(_) => {}
+            None => {
+                *spot = place;
+                return place;
+            }
+        }
+    }
+    place
+}
+
+/// For each hole the position of an earlier hole with its name, or its own where none is known.
 ///
-/// Two names that were met lately are at hand at each spot. The others are kept in the order of their hashes, which are compared in one
-/// step, and names that share a hash in the order of their bytes. So no choice of names makes this quadratic, though the hash has a fixed
-/// seed.
+/// Two names that were met lately are at hand at each spot. The others are looked for at few spots by their hashes. So no choice of names
+/// makes this quadratic, though the hash has a fixed seed: a name that finds its spots taken is just looked up once more.
 pub(crate) fn earlier_places<'b, B: Backend>(
     alloc: Global,
     holes: &[Hole<'b, B>],
 ) -> Result<Vec<usize>, AllocError> {
+    if holes.is_empty() {
+        return Ok(Vec::new(alloc));
+    }
     let hash_builder = BuildHasherDefault::<FoldHasher>::new();
-    let mut places = BTreeMap::new(alloc);
+    let count = holes.len().min(MOST / 2).next_power_of_two();
+    let mut spots = vec![in alloc; usize::MAX; 2 * count]?;
     let mut first: [Lately<'_>; SPOTS] = [None; SPOTS];
     let mut second: [Lately<'_>; SPOTS] = [None; SPOTS];
     let mut earlier_places = Vec::with_capacity(alloc, holes.len())?;
@@ -59,9 +92,8 @@ pub(crate) fn earlier_places<'b, B: Backend>(
         } else {
             second[spot] = first[spot];
             first[spot] = Some((name, place));
-            places
-                .insert((hash_builder.hash_one(name), name), place)?
-                .unwrap_or(place)
+            let hash = hash_builder.hash_one(name);
+            met_at(holes, &hole.name, place, hash, spots.as_mut_slice())
         };
         earlier_places.push(earlier)?;
     }
