@@ -41,16 +41,18 @@ const MOST: usize = 4_096;
 const TRIES: usize = 8;
 
 /// The place of the hole that a name was met at, or this one, by the spots from its hash on. Where all are taken by others, it isn't known.
+/// It is a function apart, so that what names at hand need stays in registers.
+#[inline(never)]
 fn met_at<'b, B: Backend>(
     holes: &[Hole<'b, B>],
     name: &HipStr<'b, B>,
     place: usize,
-    hash: u64,
     spots: &mut [usize],
 ) -> usize {
+    let hash = BuildHasherDefault::<FoldHasher>::new().hash_one(name.as_str()) as usize;
     let mask = spots.len().saturating_sub(1);
     for step in 0..TRIES {
-        let Some(spot) = spots.get_mut((hash as usize).wrapping_add(step) & mask) else {
+        let Some(spot) = spots.get_mut(hash.wrapping_add(step) & mask) else {
             return place;
         };
         match holes.get(*spot) {
@@ -76,7 +78,6 @@ pub(crate) fn earlier_places<'b, B: Backend>(
     if holes.is_empty() {
         return Ok(Vec::new(alloc));
     }
-    let hash_builder = BuildHasherDefault::<FoldHasher>::new();
     let count = holes.len().min(MOST / 2).next_power_of_two();
     let mut spots = vec![in alloc; usize::MAX; 2 * count]?;
     let mut first: [Lately<'_>; SPOTS] = [None; SPOTS];
@@ -92,8 +93,7 @@ pub(crate) fn earlier_places<'b, B: Backend>(
         } else {
             second[spot] = first[spot];
             first[spot] = Some((name, place));
-            let hash = hash_builder.hash_one(name);
-            met_at(holes, &hole.name, place, hash, spots.as_mut_slice())
+            met_at(holes, &hole.name, place, spots.as_mut_slice())
         };
         earlier_places.push(earlier)?;
     }
