@@ -3,7 +3,7 @@ ghost use Rattle.std.specs.Prelude.{⊤, ◌≡◌, ◌+◌, ◌≤◌, ◌==◌
 ghost use Rattle.std.specs.Borrow.{sem};
 ghost use Rattle.hip_raw.specs.Meter.{RisesAtMost, count_from};
 
-use crate::meter::{Meter, fill_counted};
+use crate::meter::{Copying, Meter, fill};
 use cells::Cells;
 use length::Length;
 use std::alloc::AllocError;
@@ -185,7 +185,7 @@ impl<const N: usize, L: Length<N>> Inline<N, L> {
         let start = self.row.len.get();
         let end = start + addition.len();
         let room = &mut self.row.cells.items[..];
-        fill_counted(&mut room[start..end], addition, meter);
+        fill(&mut room[start..end], addition, Copying::Inlined, meter);
         self.row.len = L::of(end);
     }
 
@@ -201,7 +201,7 @@ impl<const N: usize, L: Length<N>> Inline<N, L> {
         let start = self.row.len.get();
         let room = &mut self.row.cells.items[..];
         let (front, back) = room.split_at_mut(start);
-        fill_counted(&mut back[..count], &front[..count], meter);
+        fill(&mut back[..count], &front[..count], Copying::Inlined, meter);
         self.row.len = L::of(start + count);
     }
 

@@ -76,20 +76,55 @@ pub fn fill_counted(to: &mut [u8], from: &[u8], meter: &mut Meter)
     ensures counted { RisesAtMost meter.old meter.new (length from.now) }
     ensures exact { meter.new ≡ count_from meter.old (length from.now) }
 {
-    fill(to, from, false, meter);
+    fill(to, from, Copying::Called, meter);
 }
 
-// [`fill_counted`], with a choice: whether up to 64 bytes are moved by lanes, which costs less than a call of the C library.
+// How bytes are copied.
+#[derive(Clone, Copy)]
+pub(crate) enum Copying {
+    // With no call. A handle's own array is filled so, since a call would keep it in memory, and lanes would keep its callers from being
+    // inlined.
+    Inlined,
+    // By a call, which takes less code.
+    Called,
+    // Up to 64 bytes by lanes, which costs less than a call of the C library, and more by a call.
+    ByLanes,
+}
+
+// [`fill_counted`] in one of these ways.
 #[inline(always)]
-fn fill(to: &mut [u8], from: &[u8], by_lanes: bool, meter: &mut Meter)
+pub(crate) fn fill(to: &mut [u8], from: &[u8], copying: Copying, meter: &mut Meter)
     requires { length to.old ≡ length from.now }
     ensures items { to.new ≡ from.now }
     ensures counted { RisesAtMost meter.old meter.new (length from.now) }
     ensures exact { meter.new ≡ count_from meter.old (length from.now) }
 {
+    match copying {
+        Copying::Inlined => to.copy_from_slice(from),
+        Copying::Called => copy_apart(to, from),
+        Copying::ByLanes => move_few(to, from),
+    }
+    meter.count(from.len());
+}
+
+// A copy by a call. Its code asks first whether both overlap, which takes 250 bytes, so it stands once.
+#[inline(never)]
+fn copy_apart(to: &mut [u8], from: &[u8])
+    requires { length to.old ≡ length from.now }
+    ensures { to.new ≡ from.now }
+{
+    to.copy_from_slice(from);
+}
+
+// Copies up to 64 bytes by lanes, and more by a call.
+#[inline(always)]
+fn move_few(to: &mut [u8], from: &[u8])
+    requires { length to.old ≡ length from.now }
+    ensures { to.new ≡ from.now }
+{
     let len = from.len();
-    if !by_lanes || len > 64 {
-        to.copy_from_slice(from);
+    if len > 64 {
+        copy_apart(to, from);
     } else if len >= 16 {
         if len >= 32 {
             move_ends::<32>(to, from);
@@ -107,7 +142,6 @@ fn fill(to: &mut [u8], from: &[u8], by_lanes: bool, meter: &mut Meter)
     } else if len == 1 {
         move_ends::<1>(to, from);
     }
-    meter.count(from.len());
 }
 
 // Moves bytes that two blocks of N cover, of which the second ends where they end.
@@ -142,7 +176,7 @@ pub(crate) fn fill_at(room: &mut [u8], at: usize, bytes: &[u8], meter: &mut Mete
     ensures copied { RisesAtLeast meter.old meter.new (length bytes.now) }
 {
     let end = at + bytes.len();
-    fill(&mut room[at..end], bytes, true, meter);
+    fill(&mut room[at..end], bytes, Copying::ByLanes, meter);
     end
 }
 
@@ -203,7 +237,7 @@ pub fn extend_within(vec: &mut Vec<u8>, addition: &[u8], meter: &mut Meter)
 {
     let start = vec.len();
     vec.resize(start + addition.len(), 0).unwrap();
-    fill_counted(vec.slice_mut(start..), addition, meter);
+    fill(vec.slice_mut(start..), addition, Copying::ByLanes, meter);
 }
 
 /// A new vector of these bytes.
