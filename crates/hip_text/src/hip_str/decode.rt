@@ -8,11 +8,9 @@ ghost use Rattle.hip_text.specs.Decode.{FromUtf8Answers, IsCauseOf, ReadAnswers,
 use super::HipStr;
 use crate::faults::BytesFault;
 use crate::from_utf8_error::FromUtf8Error;
-use bstr::ByteSlice;
 use hip_bytes::{Backend, HipByt};
 use simdutf8::is_utf8;
 use std::alloc::Global;
-use std::borrow::CowStr;
 use std::str;
 use std::str::Utf8Error;
 
@@ -39,10 +37,10 @@ impl<'b, B: Backend> HipStr<'b, B> {
             (encode_utf8_all (lossy_chars bytes.entry.items))) }
         ensures handed_back { IfErr result (λ back. back ≡ bytes.entry) }
     {
-        if fault_of(bytes.as_slice()).is_none() {
+        if is_utf8(bytes.as_slice()) {
             return Ok(HipStr { bytes });
         }
-        let Ok(CowStr::Owned(string)) = bytes.as_slice().to_str_lossy(alloc) else {
+        let Ok(string) = String::from_utf8_lossy(alloc, bytes.as_slice()) else {
             return Err(bytes);
         };
         match HipStr::from_string(alloc, string) {
