@@ -26,15 +26,15 @@ impl<'b, B: Backend> Pool<'b, B> {
     fn perform(
         &mut self,
         alloc: Global,
-        command: Command<'b>,
+        command: &Command<'b>,
         meter: &mut Meter,
     ) -> Result<Answer, Reason>
-        ensures step { Step B.SHARES self.old command.entry (answer_of result) self.new }
-        ensures counted { (cost : ℕ) × Costs B.SHARES self.old command.entry cost
+        ensures step { Step B.SHARES self.old command.now (answer_of result) self.new }
+        ensures counted { (cost : ℕ) × Costs B.SHARES self.old command.now cost
             × RisesAtMost meter.old meter.new cost }
-        ensures paid { PushesArePaid B.SHARES self.old command.entry self.new meter.old meter.new }
+        ensures paid { PushesArePaid B.SHARES self.old command.now self.new meter.old meter.new }
     {
-        match command {
+        match *command {
             Command::New(t) => self.make_new(t),
             Command::Inline(t, bytes) => self.make_inline(t, bytes, meter),
             Command::Borrow(t, bytes) => self.make_borrowed(t, bytes),
@@ -100,7 +100,7 @@ pub fn run<'b, B: Backend>(
 {
     let mut answers = Vec::with_capacity(alloc, commands.len())?;
     for command in commands {
-        answers.push_reserved(Answer::from(pool.perform(alloc, *command, meter)));
+        answers.push_reserved(Answer::from(pool.perform(alloc, command, meter)));
     }
     Ok(answers)
 }
