@@ -2,7 +2,7 @@
 use Rattle.std.proofs.Common.{◌≡◌, ◌∙◌, ℕ, ◌+◌, ◌-◌, ◌<◌, ◌≤◌, true, ◌==◌, List, [], ◌∷◌, ◌++◌, Option, None, Some, length, take, drop, get_or, ap, sym, subst, refl, drop-drop, take-append-drop, take_all, length-drop, length-take-le, ⊎_elim, arith}
 use Rattle.std.specs.Prelude.{slice_index, slice_range}
 use Rattle.std.specs.Str.{IsCharBoundary, IsUtf8}
-use Rattle.std.proofs.lemmas.Bool.{and_parts, cases_lt}
+use Rattle.std.proofs.lemmas.Bool.{and_from, and_parts, cases_lt, cond-true}
 use Rattle.std.proofs.lemmas.List.{drop_more, get_or-drop}
 use Rattle.std.proofs.lemmas.Option.{cond_some, none-some, some_pair_parts}
 use Rattle.std.proofs.lemmas.Slice.Eq.{bytes_eq-Decides}
@@ -10,11 +10,11 @@ use Rattle.std.proofs.lemmas.Str.{encode_ascii, IsCharBoundary-after_ascii, IsCh
 use Rattle.std.specs.Char.{encode_utf8, len_utf8}
 use Rattle.std.proofs.lemmas.Bool.Decides.{nat_tests}
 use Rattle.hipstr.specs.Characters.{char_ends}
-use Rattle.hipstr.specs.CharLaws.{char_at-ascii, char_ends-is, char_ends-yes, starts_char}
+use Rattle.hipstr.specs.CharLaws.{char_at-ascii, char_ends-is, char_ends-yes, is_boundary-true, starts_char}
 use Rattle.hipstr.specs.Occurrence.{StartsFirst, is_boundary}
 use Rattle.hipstr.specs.Parted.{IsParted, Lacks}
 use Rattle.hipstr.specs.Texts.{text_ends}
-use Rattle.hip_uses.specs.Template.{CutsHole, IsFirstPair, IsPair, Stands, closing, opening}
+use Rattle.hip_uses.specs.Template.{CutsHole, HasByte, IsFirstPair, IsNextPair, IsNextStart, IsPair, closing, opening}
 use Rattle.hip_uses.specs.declared.template.Hole.{Hole}
 
 -- the occurrences in a text are these bytes of it
@@ -86,30 +86,17 @@ pair-parts brace text from at found =
           found.first (from + k) (omega arith) (omega (arith, size)) (in-text brace text from k (found-pair brace (drop from text) k b is)));
     }
 
--- where a search that finds each brace goes on, none of these pairs was passed but at the place that it found
-pub none-before : (ends : ℕ → Option ℕ) (text : List ℕ) (brace from next start end : ℕ) → FindsByte ends text brace → ((k : ℕ) → from ≤ k → k < next → ¬ IsPair text brace k)
-    → StartsFirst ends next (start, end) → (k : ℕ) → from ≤ k → k < start → ¬ IsPair text brace k
-none-before ends text brace from next start end brace_is none found k low high is =
-    ⊎_elim (λ (lt : k < next). none k low lt is)
-    (λ (ge : next ≤ k). none-some (k + 1) (sym (found.first k ge high) ∙ brace_is.finds k (omega (arith, is.within)) is.first))
-    (cases_lt k next)
+-- no two braces stand before the first brace, nor where there is none
+pub none-before : (ends : ℕ → Option ℕ) (text : List ℕ) (brace from start end : ℕ) → FindsByte ends text brace → StartsFirst ends from (start, end)
+    → (k : ℕ) → from ≤ k → k < start → ¬ IsPair text brace k
+none-before ends text brace from start end brace_is found k low high is = none-some (k + 1) (sym (found.first k low high) ∙ brace_is.finds k (omega (arith, is.within)) is.first)
 
-pub none-left : (ends : ℕ → Option ℕ) (text : List ℕ) (brace from next : ℕ) → FindsByte ends text brace → ((k : ℕ) → from ≤ k → k < next → ¬ IsPair text brace k)
-    → ((k : ℕ) → next ≤ k → ends k ≡ None) → (k : ℕ) → from ≤ k → ¬ IsPair text brace k
-none-left ends text brace from next brace_is none left k low is =
-    ⊎_elim (λ (lt : k < next). none k low lt is) (λ (ge : next ≤ k). none-some (k + 1) (sym (left k ge) ∙ brace_is.finds k (omega (arith, is.within)) is.first)) (cases_lt k next)
-
-pub none-more : (ends : ℕ → Option ℕ) (text : List ℕ) (brace from next start end : ℕ) → FindsByte ends text brace
-    → ((k : ℕ) → from ≤ k → k < next → ¬ IsPair text brace k) → StartsFirst ends next (start, end) → ¬ IsPair text brace start
-    → (k : ℕ) → from ≤ k → k < end → ¬ IsPair text brace k
-none-more ends text brace from next start end brace_is none found here k low high is =
-    let end_is : end ≡ start + 1 = brace_is.one_byte start end found.occurs in
-    ⊎_elim (λ (lt : k < start). none-before ends text brace from next start end brace_is none found k low lt is)
-    (λ (ge : start ≤ k). let same : k ≡ start = omega arith in here (subst (IsPair text brace) same is))
-    (cases_lt k start)
+pub none-left : (ends : ℕ → Option ℕ) (text : List ℕ) (brace from : ℕ) → FindsByte ends text brace → ((k : ℕ) → from ≤ k → ends k ≡ None)
+    → (k : ℕ) → from ≤ k → ¬ IsPair text brace k
+none-left ends text brace from brace_is none k low is = none-some (k + 1) (sym (none k low) ∙ brace_is.finds k (omega (arith, is.within)) is.first)
 
 -- a brace that is found, and one behind it
-pub pair-found : (ends : ℕ → Option ℕ) (text : List ℕ) (brace start end : ℕ) → FindsByte ends text brace → ends start ≡ Some end → Stands text end brace → IsPair text brace start
+pub pair-found : (ends : ℕ → Option ℕ) (text : List ℕ) (brace start end : ℕ) → FindsByte ends text brace → ends start ≡ Some end → HasByte text end brace → IsPair text brace start
 pair-found ends text brace start end brace_is occurs there =
     let next = brace_is.one_byte start end occurs in
     record {
@@ -118,10 +105,14 @@ pair-found ends text brace start end brace_is occurs there =
       second = ap (slice_index text) (sym next) ∙ there.1;
     }
 
-pub pair-not-found : (ends : ℕ → Option ℕ) (text : List ℕ) (brace start end : ℕ) → FindsByte ends text brace → ends start ≡ Some end → ¬ Stands text end brace → ¬ IsPair text brace start
-pair-not-found ends text brace start end brace_is occurs none is =
-    let next = brace_is.one_byte start end occurs in
-    none (omega (arith, next, is.within), ap (slice_index text) next ∙ is.second)
+-- where the first brace stands alone, no two stand up to its end
+pub none-here : (ends : ℕ → Option ℕ) (text : List ℕ) (brace from start end : ℕ) → FindsByte ends text brace → StartsFirst ends from (start, end) → ¬ HasByte text end brace
+    → (k : ℕ) → from ≤ k → k < end → ¬ IsPair text brace k
+none-here ends text brace from start end brace_is found none k low high is =
+    let next = brace_is.one_byte start end found.occurs in
+    ⊎_elim (λ (lt : k < start). none-before ends text brace from start end brace_is found k low lt is)
+    (λ (ge : start ≤ k). none (omega (arith, next, ge, high, is.within), ap (slice_index text) (omega (arith, next, ge, high)) ∙ is.second))
+    (cases_lt k start)
 
 -- two braces stand between boundaries
 pub pair-start : (brace : ℕ) (text : List ℕ) (at : ℕ) → brace < 128 → IsPair text brace at → IsCharBoundary text at
@@ -131,6 +122,29 @@ pub pair-end : (brace : ℕ) (text : List ℕ) (at : ℕ) → brace < 128 → Is
 pair-end brace text at low utf8 is =
     let sum : at + 1 + 1 ≡ at + 2 = omega arith in
     subst (IsCharBoundary text) sum (IsCharBoundary-after_ascii text (at + 1) utf8 is.within (omega (arith, is.second)))
+
+-- where two of a brace stand, they are found as a text
+pair-text : (brace : ℕ) (text : List ℕ) (k : ℕ) → brace < 128 → IsUtf8 text → IsPair text brace k → text_ends (pair brace) text k ≡ Some (k + 2)
+unfolding text_ends
+pair-text brace text k low utf8 is =
+    cond-true _ _ _ (and_from (is_boundary text k) _ (is_boundary-true text k (pair-start brace text k low is))
+    (and_from (is_boundary text (k + 2)) _ (is_boundary-true text (k + 2) (pair-end brace text k low utf8 is))
+    ((bytes_eq-Decides _ (pair brace)).1 (ap (λ l. take 2 l) (pair-here brace text k is)))))
+
+-- where none stand up to a place, a search for both from there finds the first two, or none
+pub next-behind : (text : List ℕ) (brace from end : ℕ) (two : List ℕ) (result : Option ℕ) → two ≡ pair brace → brace < 128 → IsUtf8 text → from ≤ end
+    → ((k : ℕ) → from ≤ k → k < end → ¬ IsPair text brace k) → IsNextStart (text_ends two text) end result → IsNextPair text brace from result
+next-behind text brace from end two None both low utf8 ordered here none = λ k after is.
+    ⊎_elim (λ (lt : k < end). here k after lt is)
+    (λ (ge : end ≤ k). none-some (k + 2) (sym (none k ge) ∙ ap (λ p. text_ends p text k) both ∙ pair-text brace text k low utf8 is))
+    (cases_lt k end)
+next-behind text brace from end two (Some at) both low utf8 ordered here found = record {
+  after = omega (arith, ordered, found.1.after);
+  is = found-pair brace text at found.0 (ap (λ p. text_ends p text at) (sym both) ∙ found.1.occurs);
+  first = λ k after before is. ⊎_elim (λ (lt : k < end). here k after lt is)
+      (λ (ge : end ≤ k). none-some (k + 2) (sym (found.1.first k ge before) ∙ ap (λ p. text_ends p text k) both ∙ pair-text brace text k low utf8 is))
+      (cases_lt k end);
+}
 
 -- a hole between the first two braces of either kind
 pub cuts-hole : {B S P : Type 0} (text : List ℕ) (from left right : ℕ) (hole : Hole B S P) → IsFirstPair text 123 from left → IsFirstPair text 125 (left + 2) right

@@ -6,6 +6,7 @@ use Rattle.std.specs.Borrow.{Bor}
 use Rattle.std.specs.Option.{option_map_or}
 use Rattle.std.specs.Cmp.Lexicographic.{pointwise}
 use Rattle.hipstr.specs.Handle.{Handle}
+use Rattle.hipstr.specs.Occurrence.{StartsFirst}
 use Rattle.hipstr.specs.Parted.{IsParted, Lacks}
 use Rattle.hip_uses.specs.Number.{text_bytes}
 use Rattle.hip_uses.specs.declared.template.Hole.{Hole}
@@ -75,8 +76,8 @@ ParseFails template (Unknown name) = ⊥
 ParseFails template Memory = Unit {0}
 
 -- this byte stands at a place of a text
-abbrev pub Stands : List ℕ → ℕ → ℕ → Type 0
-Stands text at byte = (at < length text) × (slice_index text at ≡ byte)
+abbrev pub HasByte : List ℕ → ℕ → ℕ → Type 0
+HasByte text at byte = (at < length text) × (slice_index text at ≡ byte)
 
 -- two of this brace stand at a place of a text
 pub record IsPair (text : List ℕ) (brace k : ℕ) : Type 0 where
@@ -93,6 +94,10 @@ pub record IsFirstPair (text : List ℕ) (brace from at : ℕ) : Type 0 where
 -- that place, if there is one
 abbrev pub IsNextPair : List ℕ → ℕ → ℕ → Option ℕ → Type 0
 IsNextPair text brace from result = MatchOption result ((k : ℕ) → from ≤ k → ¬ IsPair text brace k) (IsFirstPair text brace from)
+
+-- the first place at or after `from` where a pattern occurs, if there is one
+abbrev pub IsNextStart : (ℕ → Option ℕ) → ℕ → Option ℕ → Type 0
+IsNextStart ends from result = MatchOption result ((k : ℕ) → from ≤ k → ends k ≡ None) (λ start. (end : ℕ) × StartsFirst ends from (start, end))
 
 -- a hole at the front of a text, with what lies before it and behind it
 abbrev pub CutsHole : {B S P : Type 0} → List ℕ → Hole B S P → List ℕ → Type 0

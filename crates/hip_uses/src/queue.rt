@@ -90,7 +90,7 @@ fn clones_of<'b, B: Backend>(
     one_part_copies_little::<B>();
     let mut clones = Vec::with_capacity(alloc, count)?;
     while clones.len() < count {
-        clones.push(message.clone_metered(alloc, meter)?)?;
+        clones.push_reserved(message.clone_metered(alloc, meter)?);
     }
     Ok(clones)
 }

@@ -57,16 +57,18 @@ fn pieces_of<'v, 'b, B: Backend, S: BuildHasher>(
         ≡ woven values.now template.now.holes.items) }
     ensures fault { IfErr result (FillFails values.now template.now.holes.items) }
 {
-    let count = template.holes.len().saturating_mul(2).saturating_add(1);
-    let mut pieces = Vec::with_capacity(alloc, count)?;
+    let Some(count) = template.holes.len().checked_mul(2) else {
+        return Err(TemplateFault::Memory);
+    };
+    let mut pieces = Vec::with_capacity(alloc, count.saturating_add(1))?;
     for (place, hole) in template.holes.iter().enumerate() {
         let of_name = template.earlier_places.get(place).copied().unwrap_or(place);
         let earlier = &template.holes[..place];
         let Some(value) = value_of(values, &hole.name, earlier, pieces.as_slice(), of_name) else {
             return Err(unknown(alloc, &hole.name));
         };
-        pieces.push(hole.before.as_str())?;
-        pieces.push(value)?;
+        pieces.push_reserved(hole.before.as_str());
+        pieces.push_reserved(value);
     }
     Ok(pieces)
 }

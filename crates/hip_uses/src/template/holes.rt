@@ -1,7 +1,8 @@
 //! The holes of a template, found by its braces.
-ghost use Rattle.std.specs.Prelude.{◌≡◌, ◌<◌, ◌≤◌, ◌++◌, IfErr, IfOk, IsTrue, MatchBool, drop, length, slice_range};
+ghost use Rattle.std.specs.Prelude.{◌≡◌, ◌<◌, ◌≤◌, ◌∷◌, [], ◌++◌, IfErr, IfOk, IsTrue, MatchBool, drop, length, slice_range};
 ghost use Rattle.std.specs.Str.{IsCharBoundary};
-ghost use Rattle.hip_uses.specs.Template.{IsNextPair, IsParsed, ParseFails, Stands, written};
+ghost use Rattle.hipstr.specs.Texts.{text_ends};
+ghost use Rattle.hip_uses.specs.Template.{HasByte, IsNextPair, IsNextStart, IsParsed, ParseFails, written};
 
 use crate::fault::TemplateFault;
 use crate::template::Hole;
@@ -12,29 +13,37 @@ use std::alloc::{AllocError, Global};
 
 /// Whether this byte stands at a place of a text.
 #[inline(always)]
-fn stands(bytes: &[u8], at: usize, byte: u8) -> bool
-    ensures { MatchBool result (Stands bytes.now at byte) (¬ Stands bytes.now at byte) }
+fn has_byte(bytes: &[u8], at: usize, byte: u8) -> bool
+    ensures { MatchBool result (HasByte bytes.now at byte) (¬ HasByte bytes.now at byte) }
 {
     at < bytes.len() && bytes[at] == byte
 }
 
-/// The first place at or after `from` where two of this brace stand, if there is one.
+/// The first place at or after `from` where another text stands, if there is one. It is a function apart, since few braces stand alone.
+#[cold]
+#[inline(never)]
+fn text_place(text: &str, sought: &str, from: usize) -> Option<usize>
+    requires { IsCharBoundary text.now from }
+    ensures { IsNextStart (text_ends sought.now text.now) from result }
+{
+    let (start, _end) = sought.next_match(text, from)?;
+    Some(start)
+}
+
+/// The first place at or after `from` where two of this brace stand, if there is one. Where the first brace stands alone, both are looked
+/// for as a text, so that braces alone cost no more than other bytes.
 #[inline(always)]
-fn next_pair(text: &str, brace: u8, from: usize) -> Option<usize>
+fn next_pair(text: &str, brace: u8, two: &str, from: usize) -> Option<usize>
     requires ascii { brace < 128 }
+    requires both { two.now ≡ brace ∷ brace ∷ [] }
     requires boundary { IsCharBoundary text.now from }
     ensures { IsNextPair text.now brace from result }
 {
-    let bytes = text.as_bytes();
-    let sign = char::from(brace);
-    let mut next = from;
-    loop {
-        let (start, end) = sign.next_match(text, next)?;
-        if stands(bytes, end, brace) {
-            return Some(start);
-        }
-        next = end;
+    let (start, end) = char::from(brace).next_match(text, from)?;
+    if has_byte(text.as_bytes(), end, brace) {
+        return Some(start);
     }
+    text_place(text, two, end)
 }
 
 /// The part of a template between two boundaries.
@@ -87,9 +96,9 @@ pub(crate) fn holes_of<'b, B: Backend>(
     let text = template.as_str();
     let mut holes = Vec::new(alloc);
     let mut from = 0;
-    while let Some(open) = next_pair(text, b'{', from) {
+    while let Some(open) = next_pair(text, b'{', "{{", from) {
         let name = open + 2;
-        let Some(close) = next_pair(text, b'}', name) else {
+        let Some(close) = next_pair(text, b'}', "}}", name) else {
             let behind = part(alloc, template, name, text.len())?;
             return Err(TemplateFault::Unclosed(behind));
         };

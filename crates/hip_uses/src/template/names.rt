@@ -35,10 +35,10 @@ fn known<B: Backend>(lately: Lately<'_>, name: &str) -> Option<usize> {
 }
 
 /// The greatest number of spots for names by their hashes.
-const MOST: usize = 4_096;
+const MOST: usize = 8_192;
 
 /// The number of spots that a name is looked for at.
-const TRIES: usize = 8;
+const TRIES: usize = 4;
 
 /// The place of the hole that a name was met at, or this one, by the spots from its hash on. Where all are taken by others, it isn't known.
 /// It is a function apart, so that what names at hand need stays in registers.
@@ -78,8 +78,8 @@ pub(crate) fn earlier_places<'b, B: Backend>(
     if holes.is_empty() {
         return Ok(Vec::new(alloc));
     }
-    let count = holes.len().min(MOST / 2).next_power_of_two();
-    let mut spots = vec![in alloc; usize::MAX; 2 * count]?;
+    let count = holes.len().min(MOST).next_power_of_two();
+    let mut spots = vec![in alloc; usize::MAX; count]?;
     let mut first: [Lately<'_>; SPOTS] = [None; SPOTS];
     let mut second: [Lately<'_>; SPOTS] = [None; SPOTS];
     let mut earlier_places = Vec::with_capacity(alloc, holes.len())?;
@@ -95,7 +95,7 @@ pub(crate) fn earlier_places<'b, B: Backend>(
             first[spot] = Some((name, place));
             met_at(holes, &hole.name, place, spots.as_mut_slice())
         };
-        earlier_places.push(earlier)?;
+        earlier_places.push_reserved(earlier);
     }
     Ok(earlier_places)
 }

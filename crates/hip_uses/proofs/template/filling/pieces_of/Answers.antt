@@ -6,18 +6,20 @@ use Rattle.hip_uses.proofs.template.filling.pieces_of.Goals as goal
 
 pub loop-place-preserved : goal.loop-place-preserved
 loop-place-preserved g c = record {
-  known = known-more c.args.values.now c.deref-hole-items.result.now c.loop-place.place c.hole-item.result (omega arith) c.hole-item.is (some-known c.in-Some.value.now _ c.in-Some.ensures) c.loop-place.invariant.known;
-  pieces = woven-more c.args.values.now c.deref-hole-items.result.now c.loop-place.place c.hole-item.result c.as_str.result c.in-Some.value c.loop-place.pieces.items c.push.new.self.items c.push-in-loop-place.new.self.items
-      (omega arith) c.hole-item.is c.as_str.ensures.items c.in-Some.ensures c.loop-place.invariant.pieces c.in_ok-push.ensures.items c.in_ok-push-2.ensures.items;
+  known = known-more c.args.values.now c.deref-hole-items.result.now c.loop-place.place c.hole-item.result (omega arith) c.hole-item.is (some-known c.in-Some-value_of.value.now _ c.in-Some-value_of.ensures) c.loop-place.invariant.known;
+  pieces = woven-more c.args.values.now c.deref-hole-items.result.now c.loop-place.place c.hole-item.result c.as_str.result c.in-Some-value_of.value c.loop-place.pieces.items c.push_reserved.new.self.items c.push_reserved-in-loop-place.new.self.items
+      (omega arith) c.hole-item.is c.as_str.ensures.items c.in-Some-value_of.ensures c.loop-place.invariant.pieces c.push_reserved.ensures.items c.push_reserved-in-loop-place.ensures.items;
+  counted = omega arith;
+  room = omega arith;
 }
 
-pub returns-in_default-clause-fault : goal.returns-in_default-clause-fault
-returns-in_default-clause-fault g c =
+pub returns-in_default-value_of-clause-fault : goal.returns-in_default-value_of-clause-fault
+returns-in_default-value_of-clause-fault g c =
     let AHole : Type 0 = Hole g.row.B.Denot g.row.B-Sole.Denot g.row.B-Extent.Denot in
     let hole = c.hole-item.result in
     subst (λ (holes : List AHole). FillFails c.args.values.now holes c.unknown.result) c.deref-hole-items.ensures.value
     (fails-first c.args.values.now c.deref-hole-items.result.now c.loop-place.place hole c.unknown.result (omega arith) c.hole-item.is c.loop-place.invariant.known
-    (hole-fails c.args.values.now hole c.unknown.result (none-known _ c.in_default.ensures) c.unknown.ensures))
+    (hole-fails c.args.values.now hole c.unknown.result (none-known _ c.in_default-value_of.ensures) c.unknown.ensures))
 
 pub returns-clause-known : goal.returns-clause-known
 returns-clause-known g c =
