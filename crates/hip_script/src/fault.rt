@@ -23,6 +23,10 @@ impl<T: Drop> From<AllocFailed<T>> for LineFault {
     }
 }
 
+/// The answers could not be written.
+#[derive(Clone, Copy)]
+pub(crate) struct WriteFailed;
+
 /// Why lines that were read were not all played.
 #[derive(Clone, Copy)]
 pub(crate) enum Stop {
@@ -51,6 +55,17 @@ impl<T: Drop> From<AllocFailed<T>> for Stop {
 
     fn from(_refused: AllocFailed<T>) -> Stop {
         Stop::Memory
+    }
+}
+
+impl From<WriteFailed> for Stop {
+    ghost use Rattle.std.specs.Prelude.{◌≡◌};
+    ghost use Rattle.hip_script.specs.declared.fault.Stop.TheVariants.{WriteFailed};
+
+    ghost from_gives = { λ _ fault. fault ≡ WriteFailed };
+
+    fn from(_failed: WriteFailed) -> Stop {
+        Stop::WriteFailed
     }
 }
 

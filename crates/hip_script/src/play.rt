@@ -10,9 +10,9 @@ ghost use Rattle.hip_script.specs.Said.{IsWithin, held, says_in};
 ghost use Rattle.hip_script.specs.declared.fault.PlayFault.TheVariants.{NotACommand};
 ghost use Rattle.hipstr.specs.Meter.{RisesAtMost};
 
-use crate::fault::{PlayFault, Stop};
+use crate::fault::{PlayFault, Stop, WriteFailed};
 use crate::line::{Aside, Line};
-use crate::print::{print_answer, print_records, print_slot};
+use crate::print::{print_answer, print_count, print_records, print_slot, write};
 use crate::script::Script;
 use hip_fields::records_metered;
 use hipstr::{Answer, Backend, Command, Meter, Pool, Reason, Slot, run};
@@ -164,9 +164,7 @@ fn print_answers<W: Write>(out: &mut W, answers: &[Answer]) -> Result<(), Stop>
     ensures memory { IsErrOf result Stop.Memory → ⊥ }
 {
     for answer in answers {
-        if print_answer(out, *answer).is_err() {
-            return Err(Stop::WriteFailed);
-        }
+        print_answer(out, *answer)?;
     }
     Ok(())
 }
@@ -182,21 +180,25 @@ fn tell<B: Backend, W: Write>(
     ensures ok { OnOk result (Tells B.SHARES pool.now aside meter.old meter.new (W.contents out.old) (W.contents out.new)) }
     ensures memory { IsErrOf result Stop.Memory → ⊥ }
 {
-    let told = match aside {
-        Aside::Show(slot) => show(pool, slot, out),
-        Aside::Copied => writeln!(out, "{}", meter.copied()),
-        Aside::Fields(slot, separator) => tell_fields(alloc, pool, slot, separator, meter, out),
-    };
-    told.or(Err(Stop::WriteFailed))
+    match aside {
+        Aside::Show(slot) => show(pool, slot, out)?,
+        Aside::Copied => print_count(out, meter.copied())?,
+        Aside::Fields(slot, separator) => tell_fields(alloc, pool, slot, separator, meter, out)?,
+    }
+    Ok(())
 }
 
 /// Prints a slot.
-fn show<B: Backend, W: Write>(pool: &Pool<'_, B>, slot: usize, out: &mut W) -> io::Result<()>
+fn show<B: Backend, W: Write>(
+    pool: &Pool<'_, B>,
+    slot: usize,
+    out: &mut W,
+) -> Result<(), WriteFailed>
     ensures { OnOk result (Appends (W.contents out.old) (W.contents out.new) (printed_show pool.now slot)) }
 {
     match pool.slot(slot) {
         Some(slot) => print_slot(out, slot.is_text(), slot.as_bytes()),
-        None => out.write_all(b"refused NoSlot\n"),
+        None => write(out, b"refused NoSlot\n"),
     }
 }
 
@@ -208,7 +210,7 @@ fn tell_fields<B: Backend, W: Write>(
     separator: char,
     meter: &mut Meter,
     out: &mut W,
-) -> io::Result<()>
+) -> Result<(), WriteFailed>
     ensures ok { OnOk result ((text : List ℕ) × FieldsText pool.now slot separator text
         × Appends (W.contents out.old) (W.contents out.new) text) }
     ensures counted { RisesAtMost meter.old meter.new (fields_cost B.SHARES pool.now slot separator) }
@@ -216,9 +218,9 @@ fn tell_fields<B: Backend, W: Write>(
     match pool.slot(slot) {
         Some(Slot::Text(text)) => match records_metered(alloc, text, separator, meter) {
             Ok(records) => print_records(out, records.as_slice()),
-            Err(_) => out.write_all(b"refused Memory\n"),
+            Err(_) => write(out, b"refused Memory\n"),
         },
-        Some(Slot::Bytes(_)) => out.write_all(b"refused NotText\n"),
-        None => out.write_all(b"refused NoSlot\n"),
+        Some(Slot::Bytes(_)) => write(out, b"refused NotText\n"),
+        None => write(out, b"refused NoSlot\n"),
     }
 }

@@ -6,37 +6,76 @@ ghost use Rattle.memchr.specs.Find.{IsFirstByte};
 ghost use Rattle.hip_script.specs.Printed.{kind_name, order_name, printed_answer, printed_byte, printed_field, printed_hex, printed_literal, printed_number, printed_record, printed_records, printed_slot, reason_name};
 ghost use Rattle.hip_script.specs.Said.{items_of, needs_escape, texts_of};
 
+use crate::fault::WriteFailed;
 use hipstr::string::HipStr;
 use hipstr::{Answer, Backend, Kind, Reason};
 use std::cmp::Ordering;
-use std::io;
 use std::io::Write;
 
+/// Writes bytes. That it failed is told in one byte, where an `io::Error` would be moved from call to call.
+#[inline(always)]
+pub(crate) fn write<W: Write>(out: &mut W, bytes: &[u8]) -> Result<(), WriteFailed>
+    ensures { OnOk result (Appends (W.contents out.old) (W.contents out.new) bytes.now) }
+{
+    out.write_all(bytes).or(Err(WriteFailed))
+}
+
 /// Prints an answer on a line of its own.
-pub(crate) fn print_answer<W: Write>(out: &mut W, answer: Answer) -> io::Result<()>
+pub(crate) fn print_answer<W: Write>(out: &mut W, answer: Answer) -> Result<(), WriteFailed>
     ensures { OnOk result (Appends (W.contents out.old) (W.contents out.new) (printed_answer answer)) }
 {
     match answer {
         Answer::Number(number) => print_number(out, number),
-        Answer::Byte(byte) => writeln!(out, "byte {byte}"),
-        Answer::Char(c) => writeln!(out, "char {}", u32::from(c)),
-        Answer::Done => out.write_all(b"done\n"),
-        Answer::Nothing => out.write_all(b"nothing\n"),
-        Answer::Order(order) => out.write_all(order_line(order)),
-        Answer::Kind(kind) => out.write_all(kind_line(kind)),
-        Answer::Refused(reason) => out.write_all(refused_line(reason)),
+        Answer::Byte(byte) => print_popped_byte(out, byte),
+        Answer::Char(c) => print_popped_char(out, c),
+        Answer::Done => write(out, b"done\n"),
+        Answer::Nothing => write(out, b"nothing\n"),
+        Answer::Order(order) => write(out, order_line(order)),
+        Answer::Kind(kind) => write(out, kind_line(kind)),
+        Answer::Refused(reason) => write(out, refused_line(reason)),
     }
 }
 
+/// Prints a byte that was taken off. A function that formats is a call, so that an answer without a number makes no room to format in.
+#[inline(never)]
+fn print_popped_byte<W: Write>(out: &mut W, byte: u8) -> Result<(), WriteFailed>
+    ensures { OnOk result (Appends (W.contents out.old) (W.contents out.new) (printed_answer (Answer.Byte byte))) }
+{
+    writeln!(out, "byte {byte}").or(Err(WriteFailed))
+}
+
+/// Prints a character that was taken off.
+#[inline(never)]
+fn print_popped_char<W: Write>(out: &mut W, c: char) -> Result<(), WriteFailed>
+    ensures { OnOk result (Appends (W.contents out.old) (W.contents out.new) (printed_answer (Answer.Char c))) }
+{
+    writeln!(out, "char {}", u32::from(c)).or(Err(WriteFailed))
+}
+
 /// Prints a number on a line of its own. Most have one digit, which needs no division.
-fn print_number<W: Write>(out: &mut W, number: usize) -> io::Result<()>
+fn print_number<W: Write>(out: &mut W, number: usize) -> Result<(), WriteFailed>
     ensures { OnOk result (Appends (W.contents out.old) (W.contents out.new) (printed_number number)) }
 {
     if number < 10 {
-        out.write_all(&[b'0' + number as u8, b'\n'])
+        write(out, &[b'0' + number as u8, b'\n'])
     } else {
-        writeln!(out, "{number}")
+        print_long_number(out, number)
     }
+}
+
+/// Prints a number of any length on a line of its own.
+#[inline(never)]
+fn print_long_number<W: Write>(out: &mut W, number: usize) -> Result<(), WriteFailed>
+    ensures { OnOk result (Appends (W.contents out.old) (W.contents out.new) (printed_number number)) }
+{
+    writeln!(out, "{number}").or(Err(WriteFailed))
+}
+
+/// Prints the number of copied bytes on a line of its own.
+pub(crate) fn print_count<W: Write>(out: &mut W, count: u128) -> Result<(), WriteFailed>
+    ensures { OnOk result (Appends (W.contents out.old) (W.contents out.new) (printed_number count)) }
+{
+    writeln!(out, "{count}").or(Err(WriteFailed))
 }
 
 fn order_line(order: Ordering) -> &'static [u8]
@@ -81,12 +120,16 @@ fn refused_line(reason: Reason) -> &'static [u8]
 }
 
 /// Prints what a slot is, and its bytes.
-pub(crate) fn print_slot<W: Write>(out: &mut W, is_text: bool, bytes: &[u8]) -> io::Result<()>
+pub(crate) fn print_slot<W: Write>(
+    out: &mut W,
+    is_text: bool,
+    bytes: &[u8],
+) -> Result<(), WriteFailed>
     ensures { OnOk result (Appends (W.contents out.old) (W.contents out.new) (printed_slot is_text bytes.now)) }
 {
-    out.write_all(slot_word(is_text))?;
+    write(out, slot_word(is_text))?;
     print_literal(out, bytes)?;
-    out.write_all(b"\n")
+    write(out, b"\n")
 }
 
 fn slot_word(is_text: bool) -> &'static [u8]
@@ -99,7 +142,7 @@ fn slot_word(is_text: bool) -> &'static [u8]
 pub(crate) fn print_records<B: Backend, W: Write>(
     out: &mut W,
     records: &[Vec<HipStr<'_, B>>],
-) -> io::Result<()>
+) -> Result<(), WriteFailed>
     ensures { OnOk result (Appends (W.contents out.old) (W.contents out.new) (printed_records (map texts_of records.now))) }
 {
     for fields in records {
@@ -109,37 +152,40 @@ pub(crate) fn print_records<B: Backend, W: Write>(
 }
 
 /// Prints a record: its fields as literals, each after one space.
-fn print_record<B: Backend, W: Write>(out: &mut W, fields: &[HipStr<'_, B>]) -> io::Result<()>
+fn print_record<B: Backend, W: Write>(
+    out: &mut W,
+    fields: &[HipStr<'_, B>],
+) -> Result<(), WriteFailed>
     ensures { OnOk result (Appends (W.contents out.old) (W.contents out.new) (printed_record (map items_of fields.now))) }
 {
-    out.write_all(b"record")?;
+    write(out, b"record")?;
     for field in fields {
         print_field(out, field.as_bytes())?;
     }
-    out.write_all(b"\n")
+    write(out, b"\n")
 }
 
 /// Prints a field behind a space.
-fn print_field<W: Write>(out: &mut W, field: &[u8]) -> io::Result<()>
+fn print_field<W: Write>(out: &mut W, field: &[u8]) -> Result<(), WriteFailed>
     ensures { OnOk result (Appends (W.contents out.old) (W.contents out.new) (printed_field field.now)) }
 {
-    out.write_all(b" ")?;
+    write(out, b" ")?;
     print_literal(out, field)
 }
 
 /// Prints bytes as a literal: 0x20 to 0x7E stand for themselves, but `\"` and `\\` don't.
-pub(crate) fn print_literal<W: Write>(out: &mut W, bytes: &[u8]) -> io::Result<()>
+pub(crate) fn print_literal<W: Write>(out: &mut W, bytes: &[u8]) -> Result<(), WriteFailed>
     ensures { OnOk result (Appends (W.contents out.old) (W.contents out.new) (printed_literal bytes.now)) }
 {
-    out.write_all(b"\"")?;
+    write(out, b"\"")?;
     let mut rest = bytes;
     while let Some(at) = escape_at(rest) {
-        out.write_all(&rest[..at])?;
+        write(out, &rest[..at])?;
         print_escaped(out, rest[at])?;
         rest = &rest[at + 1..];
     }
-    out.write_all(rest)?;
-    out.write_all(b"\"")
+    write(out, rest)?;
+    write(out, b"\"")
 }
 
 /// The position of the first byte that doesn't stand for itself.
@@ -157,22 +203,25 @@ fn needs_escape(byte: u8) -> bool
 }
 
 /// Prints a byte of a literal that doesn't stand for itself.
-fn print_escaped<W: Write>(out: &mut W, byte: u8) -> io::Result<()>
+fn print_escaped<W: Write>(out: &mut W, byte: u8) -> Result<(), WriteFailed>
     requires { IsTrue (needs_escape byte) }
     ensures { OnOk result (Appends (W.contents out.old) (W.contents out.new) (printed_byte byte)) }
 {
     match byte {
-        b'"' => out.write_all(b"\\\""),
-        b'\\' => out.write_all(b"\\\\"),
+        b'"' => write(out, b"\\\""),
+        b'\\' => write(out, b"\\\\"),
         _ => print_hex(out, byte),
     }
 }
 
 /// Prints a byte by its two digits.
-fn print_hex<W: Write>(out: &mut W, byte: u8) -> io::Result<()>
+fn print_hex<W: Write>(out: &mut W, byte: u8) -> Result<(), WriteFailed>
     ensures { OnOk result (Appends (W.contents out.old) (W.contents out.new) (printed_hex byte)) }
 {
-    out.write_all(&[b'\\', b'x', hex_glyph(byte / 16), hex_glyph(byte % 16)])
+    write(
+        out,
+        &[b'\\', b'x', hex_glyph(byte / 16), hex_glyph(byte % 16)],
+    )
 }
 
 /// A digit in base 16.

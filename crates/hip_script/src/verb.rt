@@ -1,10 +1,11 @@
 //! The names of lines, and the words that follow each.
-ghost use Rattle.std.specs.Prelude.{◌≡◌, ℕ, List, ◌∷◌, None, Some, MatchOption, map};
+ghost use Rattle.std.specs.Prelude.{◌≡◌, ℕ, List, ◌∷◌, None, Some, MatchOption, bytes_eq, map};
 ghost use Rattle.hip_script.specs.Grammar.{rows};
 ghost use Rattle.hip_script.specs.Words.{look_up};
 
 use self::Word::{Byte, Ends, Number, Pattern, Range, Source, Target};
-use hipstr::{End, Side};
+use hipstr::bytes::HipByt;
+use hipstr::{End, Rc, Side};
 
 /// The verb of a line, which tells what is done.
 #[derive(Clone, Copy)]
@@ -205,11 +206,19 @@ pub(crate) fn named<T: Copy>(names: &[(&'static str, T)], word: &[u8]) -> Option
     ensures { result ≡ look_up word.now (map (λ e. (e.0.now, e.1)) names.now) }
 {
     for (name, named) in names {
-        if name.as_bytes() == word {
+        if is_name(name, word) {
             return Some(*named);
         }
     }
     None
+}
+
+/// Whether a word is this name. It is compared as a lent handle, since `==` of slices is a call.
+#[inline(always)]
+fn is_name(name: &str, word: &[u8]) -> bool
+    ensures { result ≡ bytes_eq name.now word.now }
+{
+    HipByt::<Rc>::borrowed(name.as_bytes()).eq_slice(word)
 }
 
 /// Each way, and what follows it.
