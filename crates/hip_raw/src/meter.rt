@@ -76,7 +76,7 @@ pub fn fill_counted(to: &mut [u8], from: &[u8], meter: &mut Meter)
     ensures counted { RisesAtMost meter.old meter.new (length from.now) }
     ensures exact { meter.new ≡ count_from meter.old (length from.now) }
 {
-    fill(to, from, Copying::Called, meter);
+    fill(to, from, Copying::ByLanes, meter);
 }
 
 // How bytes are copied.
@@ -85,8 +85,6 @@ pub(crate) enum Copying {
     // With no call. A handle's own array is filled so, since a call would keep it in memory, and lanes would keep its callers from being
     // inlined.
     Inlined,
-    // By a call, which takes less code.
-    Called,
     // Up to 64 bytes by lanes, which costs less than a call of the C library, and more by a call.
     ByLanes,
 }
@@ -101,8 +99,7 @@ pub(crate) fn fill(to: &mut [u8], from: &[u8], copying: Copying, meter: &mut Met
 {
     match copying {
         Copying::Inlined => to.copy_from_slice(from),
-        Copying::Called => copy_apart(to, from),
-        Copying::ByLanes => move_few(to, from),
+        Copying::ByLanes => copy_by_lanes(to, from),
     }
     meter.count(from.len());
 }
@@ -118,7 +115,7 @@ fn copy_apart(to: &mut [u8], from: &[u8])
 
 // Copies up to 64 bytes by lanes, and more by a call.
 #[inline(always)]
-fn move_few(to: &mut [u8], from: &[u8])
+fn copy_by_lanes(to: &mut [u8], from: &[u8])
     requires { length to.old ≡ length from.now }
     ensures { to.new ≡ from.now }
 {
