@@ -1,6 +1,8 @@
 //! Texts of bytes that may not be one.
 ghost use Rattle.std.specs.Prelude.{◌≡◌, IfErr, IfNone, IfOk, IfSome, IsOkAnd, IsUtf8};
 ghost use Rattle.std.specs.Str.{encode_utf8_all};
+ghost use Rattle.std.specs.Str.Lossy.{utf8_lossy};
+ghost use Rattle.std.specs.String.{string_bytes};
 ghost use Rattle.bstr.specs.Utf8.{lossy_chars};
 ghost use Rattle.hip_bytes.specs.Kinds.{HoldsByLength};
 ghost use Rattle.hip_text.specs.Decode.{FromUtf8Answers, IsCauseOf, ReadAnswers, refusal_of};
@@ -10,7 +12,7 @@ use crate::faults::BytesFault;
 use crate::from_utf8_error::FromUtf8Error;
 use hip_bytes::{Backend, HipByt};
 use simdutf8::is_utf8;
-use std::alloc::Global;
+use std::alloc::{AllocError, Global};
 use std::str;
 use std::str::Utf8Error;
 
@@ -40,7 +42,7 @@ impl<'b, B: Backend> HipStr<'b, B> {
         if is_utf8(bytes.as_slice()) {
             return Ok(HipStr { bytes });
         }
-        let Ok(string) = String::from_utf8_lossy(alloc, bytes.as_slice()) else {
+        let Ok(string) = repaired(alloc, bytes.as_slice()) else {
             return Err(bytes);
         };
         match HipStr::from_string(alloc, string) {
@@ -90,4 +92,18 @@ fn fault_of(bytes: &[u8]) -> Option<Utf8Error>
         return None;
     }
     str::from_utf8(bytes).err()
+}
+
+/// The text of these bytes, with U+FFFD for each fault. Room for as many bytes is taken at once.
+fn repaired(alloc: Global, bytes: &[u8]) -> Result<String, AllocError>
+    ensures { IfOk result (λ text. string_bytes text ≡ utf8_lossy bytes.now) }
+{
+    let mut text = String::with_capacity(alloc, bytes.len())?;
+    for chunk in bytes.utf8_chunks() {
+        text.push_str(chunk.valid())?;
+        if !chunk.invalid().is_empty() {
+            text.push('\u{FFFD}')?;
+        }
+    }
+    Ok(text)
 }
