@@ -48,3 +48,13 @@ number-stops n i d word inside is other = rw (drop_more word i 0 inside, is) (at
 pub number-overflows : (n i d : ℕ) (word : List ℕ) → i < length word → get_or word i 0 ≡ d → is_ascii_digit d ≡ true
     → 2 ^ 64 ≤ n * 10 + (d - 48) → number_after n (drop i word) ≡ None
 number-overflows n i d word inside is digit beyond = number-goes_on n i d word inside is digit ∙ none_beyond _ _ beyond
+
+small-digit : (d : ℕ) → is_ascii_digit d ≡ true → d ≤ 57
+small-digit d is = let p = and_parts _ _ is in leb-true d 57 p.1
+
+-- a word of one digit
+pub one-digit : (d : ℕ) → is_ascii_digit d ≡ true → number_of (d ∷ []) ≡ Some (d - 48)
+one-digit d is =
+    let value : digit_value d + 48 ≡ d = digit-value d is in
+    let most = small-digit d is in
+    at_digit 0 d [] is ∙ number-ends (0 * 10 + digit_value d) 0 [] (omega arith) (omega arith) ∙ ap Some (omega arith)

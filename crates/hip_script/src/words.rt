@@ -81,11 +81,21 @@ impl<'l> Words<'l> {
         named(names, self.next()?)
     }
 
-    /// The next word as a number.
+    /// The next word as a number. Most have one digit, which is looked for first.
     pub(crate) fn number(&mut self) -> Option<usize>
         ensures { MatchOption result (said_at number_of self.old ≡ None) (λ n. said_at number_of self.old ≡ Some (n, self.new)) }
     {
-        number(self.next()?)
+        match self.rest? {
+            [digit, b' ', rest @ ..] if digit.is_ascii_digit() => {
+                self.rest = Some(rest);
+                Some((*digit - b'0') as usize)
+            }
+            [digit] if digit.is_ascii_digit() => {
+                self.rest = None;
+                Some((*digit - b'0') as usize)
+            }
+            _ => number(self.next()?),
+        }
     }
 
     /// The next word as a number that is at most 255.
