@@ -122,7 +122,7 @@ fn push_few(text: &mut String, numbers: &mut Numbers, count: usize) -> Result<()
     requires { count ≤ 4 }
 {
     let at = numbers.below(990);
-    if let Some(letters) = LETTERS.get(at..at + count) {
+    if let Some(letters) = LETTERS.get(at..).and_then(|rest| rest.get(..count)) {
         text.push_str(letters)?;
     }
     Ok(())
