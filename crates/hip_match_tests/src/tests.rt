@@ -9,5 +9,6 @@ mod lanes;
 mod laws;
 mod scripts;
 mod sets;
+mod support;
 mod walks;
 mod white_space;

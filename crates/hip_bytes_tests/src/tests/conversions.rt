@@ -1,7 +1,7 @@
 //! Conversions into vectors and borrowed-or-owned values, and back.
 use super::bytes::Bytes;
 use super::suite::{Suite, run_on_each};
-use super::support::{LETTERS, is, must, must_refuse};
+use super::support::{LETTERS, equals, is, must, must_refuse};
 use hip_bytes::Kind;
 use std::alloc::Global;
 use std::borrow::CowSlice;
@@ -14,7 +14,7 @@ fn from_letters<H: Bytes>(rt: &impl Abort, alloc: Global, count: usize) -> H {
 }
 
 fn is_vector(rt: &impl Abort, vec: Vec<u8>, items: &[u8]) {
-    assert_eq!(rt; vec.as_slice(), items);
+    equals(rt, &vec.as_slice(), &items);
 }
 
 /// A vector of the bytes of any value, by a copy where need be.
@@ -28,7 +28,7 @@ fn vectors<H: Bytes>(rt: &impl Abort, alloc: Global) {
 
 fn lent_bytes_stay_so<H: Bytes>(rt: &impl Abort, alloc: Global) {
     match H::from_static(b"abc").into_cow(alloc) {
-        Ok(CowSlice::Borrowed(bytes)) => assert_eq!(rt; bytes, b"abc".as_slice()),
+        Ok(CowSlice::Borrowed(bytes)) => equals(rt, &bytes, &b"abc".as_slice()),
         _ => panic!(rt; "lent bytes stay so"),
     }
 }

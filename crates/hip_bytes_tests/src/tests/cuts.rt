@@ -1,7 +1,7 @@
 //! Pushes, cuts in place and slices.
 use super::bytes::Bytes;
 use super::suite::{Suite, run_on_each};
-use super::support::{LETTERS, holds, is, must};
+use super::support::{LETTERS, equals, holds, is, must};
 use hip_bytes::{Kind, Meter};
 use std::alloc::Global;
 use std::ops::Bound;
@@ -89,7 +89,7 @@ fn perform<H: Bytes>(rt: &impl Abort, alloc: Global, handle: &mut H, call: Call)
         Call::Push(byte) => must(rt, handle.push(alloc, byte)),
         Call::PushSlice(bytes) => must(rt, handle.push_slice(alloc, bytes)),
         Call::Truncate(len) => handle.truncate(len),
-        Call::Pop(answer) => assert_eq!(rt; handle.pop(), answer),
+        Call::Pop(answer) => equals(rt, &handle.pop(), &answer),
         Call::Clear => handle.clear(),
     }
 }
@@ -111,7 +111,7 @@ fn in_place<H: Bytes>(rt: &impl Abort, alloc: Global) {
     must(rt, room.push_slice_metered(alloc, &[b'a'; 30], &mut meter));
     must(rt, room.push_slice_metered(alloc, &[b'b'; 30], &mut meter));
     must(rt, room.push_metered(alloc, b'c', &mut meter));
-    assert_eq!(rt; (meter.copied(), room.len()), (61, 61));
+    equals(rt, &(meter.copied(), room.len()), &(61, 61));
 }
 
 /// A push of nothing leaves an allocated handle as it is, and copies nothing.
@@ -119,14 +119,15 @@ fn stays<H: Bytes>(rt: &impl Abort, alloc: Global, mut handle: H) {
     let (len, capacity) = (handle.len(), handle.capacity());
     let mut meter = Meter::new();
     must(rt, handle.push_slice_metered(alloc, b"", &mut meter));
-    assert_eq!(rt;
-        (
+    equals(
+        rt,
+        &(
             handle.kind(),
             handle.len(),
             handle.capacity(),
-            meter.copied()
+            meter.copied(),
         ),
-        (Kind::Allocated, len, capacity, 0)
+        &(Kind::Allocated, len, capacity, 0),
     );
 }
 
@@ -140,9 +141,10 @@ fn nothing_is_pushed<H: Bytes>(rt: &impl Abort, alloc: Global) {
 fn room_is_kept<H: Bytes>(rt: &impl Abort, alloc: Global) {
     let mut room = must(rt, H::with_capacity(alloc, 42));
     room.clear();
-    assert_eq!(rt;
-        (room.is_normalized(), room.capacity() >= 42),
-        (false, true)
+    equals(
+        rt,
+        &(room.is_normalized(), room.capacity() >= 42),
+        &(false, true),
     );
     is(rt, must(rt, room.slice(alloc, 0..0)), b"", Kind::Inline);
 }
@@ -150,7 +152,7 @@ fn room_is_kept<H: Bytes>(rt: &impl Abort, alloc: Global) {
 fn lent_capacity<H: Bytes>(rt: &impl Abort) {
     let mut lent = H::borrowed(&[b'a'; 30]);
     lent.truncate(5);
-    assert_eq!(rt; lent.capacity(), 5);
+    equals(rt, &lent.capacity(), &5);
 }
 
 /// Asserts that a part of three bytes was made, and what it holds.
@@ -180,7 +182,7 @@ fn short_slice<H: Bytes>(rt: &impl Abort, alloc: Global) {
     let short = must(rt, letters.slice_metered(alloc, 0..23, &mut meter));
     drop(letters);
     is(rt, short, &LETTERS[..23], Kind::Inline);
-    assert_eq!(rt; meter.copied(), 23);
+    equals(rt, &meter.copied(), &23);
 }
 
 /// A slice of 24 bytes copies none where owners are shared, and outlives the handle that it was cut from.
@@ -193,7 +195,7 @@ fn long_slice<H: Bytes>(rt: &impl Abort, alloc: Global) {
     );
     drop(letters);
     is(rt, long, &LETTERS[..24], Kind::Allocated);
-    assert_eq!(rt; meter.copied(), if H::SHARES { 0 } else { 24 });
+    equals(rt, &meter.copied(), &if H::SHARES { 0 } else { 24 });
 }
 
 /// Two bounds that are a range of `abc`, and the part.

@@ -2,7 +2,7 @@
 use super::bytes::Bytes;
 use super::faults::{Refusal, Told};
 use super::suite::{Suite, run_on_each};
-use super::support::{is, must};
+use super::support::{equals, is, must};
 use hip_bytes::{Kind, SliceErrorKind};
 use std::alloc::Global;
 use std::ops::Bound;
@@ -149,9 +149,10 @@ fn refused_places<H: Bytes>(rt: &impl Abort, alloc: Global) {
     let handle = must(rt, H::inline(b"abc"));
     for (start, end, kind, text) in REFUSED_PLACES {
         let told = told(rt, handle.try_slice(alloc, *start..*end));
-        assert_eq!(rt;
-            (told.kind, told.range, told.display.as_str()),
-            (*kind, *start..*end, *text)
+        equals(
+            rt,
+            &(told.kind, told.range, told.display.as_str()),
+            &(*kind, *start..*end, *text),
         );
     }
 }
@@ -159,7 +160,7 @@ fn refused_places<H: Bytes>(rt: &impl Abort, alloc: Global) {
 fn refused_end<H: Bytes>(rt: &impl Abort, alloc: Global) {
     let handle = must(rt, H::inline(b"abc"));
     let told = told(rt, handle.try_slice(alloc, ..=MAX));
-    assert_eq!(rt; (told.kind, told.end), (END_OUT, MAX));
+    equals(rt, &(told.kind, told.end), &(END_OUT, MAX));
 }
 
 fn is_refused<H: Bytes>(rt: &impl Abort, alloc: Global, row: Refused) {
@@ -170,12 +171,13 @@ fn is_refused<H: Bytes>(rt: &impl Abort, alloc: Global, row: Refused) {
 
 /// Asserts what the error tells.
 fn tells(rt: &impl Abort, told: Told, row: Refused) {
-    assert_eq!(rt;
-        (told.kind, told.start, told.end, told.range),
-        (row.kind, row.start, row.end, row.start..row.end)
+    equals(
+        rt,
+        &(told.kind, told.start, told.end, told.range),
+        &(row.kind, row.start, row.end, row.start..row.end),
     );
-    assert_eq!(rt; told.source.as_slice(), row.bytes);
-    assert_eq!(rt; told.display.as_str(), row.text);
+    equals(rt, &told.source.as_slice(), &row.bytes);
+    equals(rt, &told.display.as_str(), &row.text);
 }
 
 fn refusals<H: Bytes>(rt: &impl Abort, alloc: Global) {
@@ -188,22 +190,24 @@ fn refusals<H: Bytes>(rt: &impl Abort, alloc: Global) {
 fn equal_refusals<H: Bytes>(rt: &impl Abort, alloc: Global) {
     let copied = must(rt, H::from_slice(alloc, b"abc"));
     let (lent, another) = (H::borrowed(b"abc"), H::borrowed(b"abd"));
-    assert_eq!(rt;
-        (
+    equals(
+        rt,
+        &(
             H::slice_errors_eq(alloc, (&copied, 4), (&lent, 4)),
             H::slice_errors_eq(alloc, (&copied, 4), (&lent, 5)),
             H::slice_errors_eq(alloc, (&lent, 4), (&another, 4)),
         ),
-        (true, false, false)
+        &(true, false, false),
     );
 }
 
 fn refused_debug<H: Bytes>(rt: &impl Abort, alloc: Global) {
     let handle = must(rt, H::inline(b"abc"));
     let told = told(rt, handle.try_slice(alloc, 0..4));
-    assert_eq!(rt;
-        told.debug.as_str(),
-        "SliceError { kind: EndOutOfBounds, start: 0, end: 4, bytes: [97, 98, 99] }"
+    equals(
+        rt,
+        &told.debug.as_str(),
+        &"SliceError { kind: EndOutOfBounds, start: 0, end: 4, bytes: [97, 98, 99] }",
     );
 }
 

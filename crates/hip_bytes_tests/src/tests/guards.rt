@@ -1,7 +1,7 @@
 //! Bytes that are taken out, or lent out by a guard, as a vector.
 use super::bytes::Bytes;
 use super::suite::{Suite, run_on_each};
-use super::support::{LETTERS, holds, is, must, text_of};
+use super::support::{LETTERS, equals, holds, is, must, text_of};
 use hip_bytes::{HipByt, Kind, Meter, Rc, mutate, with_mutated};
 use std::alloc::Global;
 use std::process::Abort;
@@ -41,7 +41,7 @@ fn adds<H: Bytes>(
     must(rt, guard.as_mut_vec().push(byte));
     let lent = must(rt, guard.as_vec().as_slice().to_vec(alloc));
     must(rt, guard.finish(alloc));
-    assert_eq!(rt; lent.as_slice(), items);
+    equals(rt, &lent.as_slice(), &items);
     holds(rt, handle, items, kind);
 }
 
@@ -79,7 +79,7 @@ fn shows_a_vector<H: Bytes>(rt: &impl Abort, alloc: Global) {
     let mut handle = must(rt, H::inline(b"ab"));
     let guard = must(rt, handle.mutate(alloc));
     let text = must(rt, text_of(alloc, &guard));
-    assert_eq!(rt; text.as_str(), "[97, 98]");
+    equals(rt, &text.as_str(), &"[97, 98]");
 }
 
 const MANY: &[u8] = &[b'a'; 42];
@@ -142,7 +142,7 @@ fn a_closure_writes(rt: HostRuntime) {
     let mut handle = must(&rt, HipByt::<Rc>::from_slice(rt.alloc(), b"Hello"));
     let pushed = handle.with_mutated(rt.alloc(), |vec: &mut Vec<u8>| vec.push(b'!'));
     must(&rt, must(&rt, pushed));
-    assert_eq!(&rt; handle.as_slice(), b"Hello!".as_slice());
+    equals(&rt, &handle.as_slice(), &b"Hello!".as_slice());
 }
 
 #[test]

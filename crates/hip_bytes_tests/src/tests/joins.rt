@@ -1,7 +1,7 @@
 //! Repetitions, joins and room that is given back.
 use super::bytes::Bytes;
 use super::suite::{Suite, run_on_each};
-use super::support::{LETTERS, holds, is, must};
+use super::support::{LETTERS, equals, holds, is, must};
 use hip_bytes::{GrowFault, Kind, Meter};
 use std::alloc::Global;
 use std::process::Abort;
@@ -32,7 +32,7 @@ const REFUSED: &[(&[u8], usize, GrowFault)] = &[
 fn too_long<H: Bytes>(rt: &impl Abort, alloc: Global) {
     for (bytes, count, fault) in REFUSED {
         let handle = must(rt, H::inline(bytes));
-        assert_eq!(rt; handle.repeat(alloc, *count).err(), Some(*fault));
+        equals(rt, &handle.repeat(alloc, *count).err(), &Some(*fault));
     }
 }
 
@@ -43,7 +43,7 @@ fn once<H: Bytes>(rt: &impl Abort, alloc: Global) {
 
 /// Asserts the length of a value, and how many bytes were copied for it.
 fn is_counted<H: Bytes>(rt: &impl Abort, counted: H, meter: &Meter, len: usize, copied: usize) {
-    assert_eq!(rt; (counted.len(), meter.copied()), (len, copied as u128));
+    equals(rt, &(counted.len(), meter.copied()), &(len, copied as u128));
 }
 
 /// The number of bytes that are copied where `len` gather in a vector, which is copied to an owner that can't be shared.
@@ -132,9 +132,10 @@ fn shrinks<H: Bytes>(rt: &impl Abort, alloc: Global) {
     let mut room = roomy::<H>(rt, alloc);
     let before = room.capacity();
     must(rt, room.shrink_to_fit(alloc));
-    assert_eq!(rt;
-        (before >= 100, before <= 200, room.capacity() < 100),
-        (true, true, true)
+    equals(
+        rt,
+        &(before >= 100, before <= 200, room.capacity() < 100),
+        &(true, true, true),
     );
     is(rt, room, LETTERS, Kind::Allocated);
 }

@@ -1,7 +1,7 @@
 //! Makers, views and clones.
 use super::bytes::Bytes;
 use super::suite::{Suite, run_on_each};
-use super::support::{LETTERS, holds, is, must, must_refuse};
+use super::support::{LETTERS, equals, holds, is, must, must_refuse};
 use hip_bytes::{Kind, Meter};
 use std::alloc::Global;
 use std::cmp::Ordering;
@@ -10,14 +10,15 @@ use std::process::Abort;
 /// Asserts where a handle that owns `len` bytes keeps them.
 fn is_by_length<H: Bytes>(rt: &impl Abort, handle: H, len: usize) {
     let is_short = len <= 23;
-    assert_eq!(rt;
-        (
+    equals(
+        rt,
+        &(
             handle.len(),
             handle.is_inline(),
             handle.is_allocated(),
-            handle.is_borrowed()
+            handle.is_borrowed(),
         ),
-        (len, is_short, !is_short, false)
+        &(len, is_short, !is_short, false),
     );
     has_room(rt, handle, is_short);
 }
@@ -28,9 +29,10 @@ fn has_room<H: Bytes>(rt: &impl Abort, handle: H, is_short: bool) {
     } else {
         Ordering::Greater
     };
-    assert_eq!(rt;
-        (handle.is_normalized(), handle.capacity().cmp(&23)),
-        (true, room)
+    equals(
+        rt,
+        &(handle.is_normalized(), handle.capacity().cmp(&23)),
+        &(true, room),
     );
 }
 
@@ -39,7 +41,7 @@ const LETTERS_A: [&[u8]; 3] = [&[b'a'; 22], &[b'a'; 23], &[b'a'; 24]];
 fn lengths_and_kinds<H: Bytes>(rt: &impl Abort, alloc: Global) {
     for bytes in LETTERS_A {
         let len = bytes.len();
-        assert_eq!(rt; H::try_inline(bytes).is_some(), len <= 23);
+        equals(rt, &H::try_inline(bytes).is_some(), &(len <= 23));
         is_by_length(rt, must(rt, H::from_slice(alloc, bytes)), len);
         let vec = must(rt, bytes.to_vec(alloc));
         is_by_length(rt, must(rt, H::from_vec(alloc, vec)), len);
@@ -49,9 +51,10 @@ fn lengths_and_kinds<H: Bytes>(rt: &impl Abort, alloc: Global) {
 fn inline_values<H: Bytes>(rt: &impl Abort) {
     is(rt, H::default(), b"", Kind::Inline);
     let handle = must(rt, H::inline(b"abc"));
-    assert_eq!(rt;
-        (H::inline_capacity(), handle.as_slice_of_trait()),
-        (23, b"abc".as_slice())
+    equals(
+        rt,
+        &(H::inline_capacity(), handle.as_slice_of_trait()),
+        &(23, b"abc".as_slice()),
     );
 }
 
@@ -61,7 +64,7 @@ fn short_clone<H: Bytes>(rt: &impl Abort, alloc: Global) {
     let clone = must(rt, handle.clone_metered(alloc, &mut meter));
     drop(handle);
     is(rt, clone, b"a", Kind::Inline);
-    assert_eq!(rt; meter.copied(), 1);
+    equals(rt, &meter.copied(), &1);
 }
 
 const STARS: &[u8] = &[b'*'; 42];
@@ -84,16 +87,17 @@ fn long_clone<H: Bytes>(rt: &impl Abort, alloc: Global) {
 fn lent_bytes<H: Bytes>(rt: &impl Abort) {
     let lent = H::from_static(LETTERS);
     let shown = lent.as_borrowed();
-    assert_eq!(rt;
-        (shown, lent.into_borrowed().ok()),
-        (Some(LETTERS), Some(LETTERS))
+    equals(
+        rt,
+        &(shown, lent.into_borrowed().ok()),
+        &(Some(LETTERS), Some(LETTERS)),
     );
 }
 
 /// A part of lent bytes is lent too, until it is owned.
 fn part_of_lent_bytes<H: Bytes>(rt: &impl Abort, alloc: Global) {
     let part = must(rt, H::borrowed(&[b'a'; 30]).try_slice(alloc, 5..10));
-    assert_eq!(rt; part.as_borrowed(), Some(b"aaaaa".as_slice()));
+    equals(rt, &part.as_borrowed(), &Some(b"aaaaa".as_slice()));
     is(rt, must(rt, part.into_owned(alloc)), b"aaaaa", Kind::Inline);
 }
 

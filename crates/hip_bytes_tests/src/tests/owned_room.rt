@@ -1,7 +1,7 @@
 //! The bytes that the owner of one handle copies as it grows, and the room that it has then.
 use super::bytes::Bytes;
 use super::suite::{Suite, run_on_unique};
-use super::support::{LETTERS, must};
+use super::support::{LETTERS, equals, must};
 use hip_bytes::{Kind, Meter};
 use std::alloc::Global;
 use std::process::Abort;
@@ -24,7 +24,11 @@ fn overflows<H: Bytes>(rt: &impl Abort, alloc: Global, mut handle: H, meter: &mu
         handle.push_slice_metered(alloc, addition.as_slice(), meter),
     );
     let is_doubled = handle.capacity() / 2 > capacity;
-    assert_eq!(rt; (meter.copied(), is_doubled), (capacity as u128 + 61, true));
+    equals(
+        rt,
+        &(meter.copied(), is_doubled),
+        &(capacity as u128 + 61, true),
+    );
 }
 
 struct Doubles;
@@ -33,7 +37,7 @@ impl Suite for Doubles {
     fn run<H: Bytes>(rt: &impl Abort, alloc: Global) {
         let mut meter = Meter::new();
         let handle = nearly_full::<H>(rt, alloc, &mut meter);
-        assert_eq!(rt; (handle.len(), meter.copied()), (60, 60));
+        equals(rt, &(handle.len(), meter.copied()), &(60, 60));
         overflows(rt, alloc, handle, &mut meter);
     }
 }
@@ -52,7 +56,11 @@ impl Suite for GrowsOneByOne {
         for _ in 0..10_000 {
             must(rt, handle.push_metered(alloc, b'x', &mut meter));
         }
-        assert_eq!(rt; (handle.len(), meter.copied() <= 30_000), (10_000, true));
+        equals(
+            rt,
+            &(handle.len(), meter.copied() <= 30_000),
+            &(10_000, true),
+        );
     }
 }
 
@@ -70,7 +78,7 @@ impl Suite for GoesInAndOut {
         let handle = must(rt, H::from_vec(alloc, vec));
         let kind = handle.kind();
         let back = must(rt, handle.into_vec(alloc));
-        assert_eq!(rt; (kind, back.as_slice()), (Kind::Allocated, LETTERS));
+        equals(rt, &(kind, back.as_slice()), &(Kind::Allocated, LETTERS));
     }
 }
 
@@ -89,7 +97,7 @@ impl Suite for IsFilled {
         must(rt, handle.push_slice(alloc, &[b'x'; 30]));
         must(rt, handle.push_slice(alloc, &[b'y'; 34]));
         let lent = must(rt, handle.to_mut_slice(alloc)).len();
-        assert_eq!(rt; (lent, handle.capacity()), (64, before));
+        equals(rt, &(lent, handle.capacity()), &(64, before));
     }
 }
 

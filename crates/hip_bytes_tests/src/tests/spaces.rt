@@ -1,7 +1,7 @@
 //! 32 spaces by each maker: equal wherever they lie, and different from a part of them.
 use super::bytes::Bytes;
 use super::suite::{Suite, run_on_each};
-use super::support::{holds, must};
+use super::support::{equals, holds, must};
 use hip_bytes::Kind;
 use std::alloc::Global;
 use std::borrow::CowSlice;
@@ -12,13 +12,14 @@ const SPACES: &[u8] = &[0x20; 32];
 /// Asserts that a value has the bytes, and equals a value of another backend and its clone.
 fn is_spaces<H: Bytes>(rt: &impl Abort, alloc: Global, handle: &H) {
     let clone = must(rt, handle.clone(alloc));
-    assert_eq!(rt;
-        (
+    equals(
+        rt,
+        &(
             handle.eq_slice(SPACES),
             handle.eq_with(SPACES),
-            *handle == clone
+            *handle == clone,
         ),
-        (true, true, true)
+        &(true, true, true),
     );
 }
 

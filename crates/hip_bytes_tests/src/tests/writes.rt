@@ -1,7 +1,7 @@
 //! Bytes that are lent for writing, and ASCII case.
 use super::bytes::Bytes;
 use super::suite::{Suite, run_on_each};
-use super::support::{LETTERS, holds, is, must};
+use super::support::{LETTERS, equals, holds, is, must};
 use hip_bytes::{Kind, Meter};
 use std::alloc::Global;
 use std::process::Abort;
@@ -11,12 +11,13 @@ const CAPITALS: &[u8] = b"ABCDEFGHIJKLMNOPQRSTUVWXYZ";
 /// Turns the bytes round where they are lent for writing, which they are where no other handle shares them.
 fn turns_round<H: Bytes>(rt: &impl Abort, handle: &mut H) {
     let is_sole = !H::SHARES;
-    assert_eq!(rt;
-        (
+    equals(
+        rt,
+        &(
             handle.as_mut_slice().is_some(),
-            handle.with_mut_slice_reverse().is_some()
+            handle.with_mut_slice_reverse().is_some(),
         ),
-        (is_sole, is_sole)
+        &(is_sole, is_sole),
     );
 }
 
@@ -45,7 +46,7 @@ fn beside_a_clone<H: Bytes>(rt: &impl Abort, alloc: Global) {
     } else {
         (b"!YXWVUTSRQPONMLKJIHGFEDCBA", 0)
     };
-    assert_eq!(rt; copied, wanted_copied);
+    equals(rt, &copied, &wanted_copied);
     is(rt, whole, wanted, Kind::Allocated);
     is(rt, clone, LETTERS, Kind::Allocated);
 }

@@ -1,7 +1,7 @@
 //! Forms that are written and read, cut short, or that lie about their length.
 use super::handle::{Form, Handle};
 use super::streams;
-use super::support::{kind_of_copy, must, must_refuse};
+use super::support::{equals, kind_of_copy, must, must_refuse};
 use hip_bytes::{
     BorshFault, ByteSink, ByteSource, FromRead, Fuse, HipByt, SliceSource, ToWrite, VecSink,
 };
@@ -59,7 +59,7 @@ fn writes<F: Form>(rt: &impl Abort, alloc: Global, bytes: &'static [u8], form: &
     let mut sink = VecSink::new(alloc);
     must(rt, must(rt, F::lent(bytes)).serialize(&mut sink));
     let written = sink.into_vec();
-    assert_eq!(rt; written.as_slice(), form);
+    equals(rt, &written.as_slice(), &form);
 }
 
 /// Asserts what is read of a form that has a byte behind it, which is left.
@@ -68,18 +68,19 @@ fn reads<F: Form>(rt: &impl Abort, alloc: Global, form: &[u8], bytes: &[u8]) {
     must(rt, longer.push(b'z'));
     let mut source = SliceSource::new(longer.as_slice());
     let read = must(rt, F::deserialize_reader(alloc, &mut source));
-    assert_eq!(rt;
-        (read.bytes(), read.kind()),
-        (bytes, kind_of_copy(bytes.len()))
+    equals(
+        rt,
+        &(read.bytes(), read.kind()),
+        &(bytes, kind_of_copy(bytes.len())),
     );
-    assert_eq!(rt; source.rest(), b"z".as_slice());
+    equals(rt, &source.rest(), &b"z".as_slice());
 }
 
 /// Asserts why bytes aren't read, and that all of them are taken.
 fn refuses<F: Form>(rt: &impl Abort, alloc: Global, bytes: &[u8], fault: BorshFault) {
     let mut source = SliceSource::new(bytes);
     let told = must_refuse(rt, F::deserialize_reader(alloc, &mut source));
-    assert_eq!(rt; (told, source.rest().len()), (fault, 0));
+    equals(rt, &(told, source.rest().len()), &(fault, 0));
 }
 
 /// Each form, and each that is cut short at each length.
@@ -118,11 +119,11 @@ fn lengths<F: Form>(rt: &impl Abort, alloc: Global) {
         must(rt, form.resize(len + 4, 0xFF));
         let mut source = SliceSource::new(form.as_slice());
         let read = must(rt, F::deserialize_reader(alloc, &mut source));
-        assert_eq!(rt; (read.bytes().len(), source.rest().len()), (*len, 0));
+        equals(rt, &(read.bytes().len(), source.rest().len()), &(*len, 0));
         let mut sink = VecSink::new(alloc);
         must(rt, read.serialize(&mut sink));
         let written = sink.into_vec();
-        assert_eq!(rt; written.as_slice(), form.as_slice());
+        equals(rt, &written.as_slice(), &form.as_slice());
     }
 }
 
@@ -135,9 +136,10 @@ fn one_behind_another<F: Form, G: Form>(rt: &impl Abort, alloc: Global) {
     let mut source = SliceSource::new(forms.as_slice());
     let first = must(rt, F::deserialize_reader(alloc, &mut source));
     let second = must(rt, G::deserialize_reader(alloc, &mut source));
-    assert_eq!(rt;
-        (first.bytes(), second.bytes()),
-        (b"\xFF".as_slice(), b"\xC3\xA9".as_slice())
+    equals(
+        rt,
+        &(first.bytes(), second.bytes()),
+        &(b"\xFF".as_slice(), b"\xC3\xA9".as_slice()),
     );
 }
 
@@ -185,11 +187,11 @@ fn by_writers_and_readers(rt: HostRuntime) {
     let text = HipStr::<Rc>::borrowed("漢字");
     must(&rt, text.serialize(&mut ToWrite::new(&mut form)));
     let wanted = b"\x06\x00\x00\x00\xE6\xBC\xA2\xE5\xAD\x97";
-    assert_eq!(&rt; form.as_slice(), wanted.as_slice());
+    equals(&rt, &form.as_slice(), &wanted.as_slice());
     let mut source = FromRead::new(form.as_slice());
     let read = must(
         &rt,
         HipStr::<Rc>::deserialize_reader(rt.alloc(), &mut source),
     );
-    assert_eq!(&rt; read.as_str(), "漢字");
+    equals(&rt, &read.as_str(), &"漢字");
 }

@@ -1,6 +1,6 @@
 //! Values that are made, read and refused.
 use super::handle::{Handle, Json};
-use super::support::{kind_of_copy, must, must_refuse};
+use super::support::{equals, kind_of_copy, must, must_refuse};
 use hip_bytes::{HipByt, JsonFault};
 use hip_names::{HipOsStr, HipPath};
 use hip_text::{HipStr, Rc, Unique};
@@ -16,7 +16,7 @@ fn value(rt: &impl Abort, alloc: Global, text: &str) -> Value {
 /// Asserts the text of a value.
 fn is_shown(rt: &impl Abort, alloc: Global, value: Value, wanted: &str) {
     let text = must(rt, value.to_string(alloc));
-    assert_eq!(rt; text.as_str(), wanted);
+    equals(rt, &text.as_str(), &wanted);
 }
 
 /// Asserts which JSON text these bytes make.
@@ -193,7 +193,7 @@ fn texts_and_paths_are_strings(rt: HostRuntime) {
 fn path_that_is_no_text(rt: HostRuntime) {
     let path = HipPath::from(HipOsStr::from(HipByt::<Rc>::borrowed(b"a\xFF")));
     let fault = must_refuse(&rt, path.to_json(rt.alloc()));
-    assert_eq!(&rt; fault, JsonFault::NotUtf8);
+    equals(&rt, &fault, &JsonFault::NotUtf8);
 }
 
 /// Faults and their texts.
@@ -213,6 +213,6 @@ const FAULTS: &[(JsonFault, &str)] = &[
 fn fault_texts(rt: HostRuntime) {
     for (fault, text) in FAULTS {
         let shown = must(&rt, format!(in rt.alloc(); "{fault}"));
-        assert_eq!(&rt; shown.as_str(), *text);
+        equals(&rt, &shown.as_str(), &(*text));
     }
 }

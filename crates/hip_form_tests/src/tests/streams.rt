@@ -1,6 +1,6 @@
 //! Forms from readers and to writers that are slow, that fail at one call, or that take nothing.
 use super::handle::{Form, Handle};
-use super::support::must;
+use super::support::{equals, must};
 use hip_bytes::{BorshFault, ByteSink, ByteSource, FromRead, Fuse, ToWrite, VecSink};
 use std::alloc::Global;
 use std::process::Abort;
@@ -36,9 +36,10 @@ fn reads_by<F: Form>(rt: &impl Abort, alloc: Global, bytes: &[u8], most: usize) 
     let mut rest = bytes;
     let (read, failures) = read_from::<F>(alloc, &mut rest, most, 0);
     let read = must(rt, read);
-    assert_eq!(rt;
-        (Some(read.bytes()), rest, failures),
-        (bytes.get(4..10_004), &b"z"[..], 0)
+    equals(
+        rt,
+        &(Some(read.bytes()), rest, failures),
+        &(bytes.get(4..10_004), &b"z"[..], 0),
     );
 }
 
@@ -62,9 +63,10 @@ fn far_too_short<F: Form>(rt: &impl Abort, alloc: Global) {
 fn is_cut_short<F: Form>(rt: &impl Abort, alloc: Global, form: &[u8]) {
     let mut rest = form;
     let (read, failures) = read_from::<F>(alloc, &mut rest, 1, 0);
-    assert_eq!(rt;
-        (read.err(), rest.len(), failures),
-        (Some(BorshFault::Truncated), 0, 0)
+    equals(
+        rt,
+        &(read.err(), rest.len(), failures),
+        &(Some(BorshFault::Truncated), 0, 0),
     );
 }
 
@@ -100,9 +102,10 @@ fn is_written<F: Form>(rt: &impl Abort, alloc: Global, k: usize) {
 fn takes_nothing<F: Form>(rt: &impl Abort, alloc: Global) {
     let mut taken = Vec::new(alloc);
     let (written, failures) = write_to(&must(rt, F::lent(b"abc")), &mut taken, 0, 0);
-    assert_eq!(rt;
-        (written, taken.len(), failures),
-        (Err(BorshFault::Io), 0, 0)
+    equals(
+        rt,
+        &(written, taken.len(), failures),
+        &(Err(BorshFault::Io), 0, 0),
     );
 }
 
@@ -125,6 +128,6 @@ pub(crate) fn all<F: Form>(rt: &impl Abort, alloc: Global) {
 fn whole_writes(rt: HostRuntime) {
     let mut sink = VecSink::new(rt.alloc());
     let taken = (sink.write(b"abc"), sink.write(b""));
-    assert_eq!(&rt; (taken, sink.failures()), ((Ok(3), Ok(0)), 0));
-    assert_eq!(&rt; sink.into_vec().as_slice(), b"abc".as_slice());
+    equals(&rt, &(taken, sink.failures()), &((Ok(3), Ok(0)), 0));
+    equals(&rt, &sink.into_vec().as_slice(), &b"abc".as_slice());
 }

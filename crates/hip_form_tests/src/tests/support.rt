@@ -1,6 +1,12 @@
 //! The ends of a test, and where a value lies.
 use hip_bytes::Kind;
+use std::fmt;
 use std::process::Abort;
+
+/// Asserts that two values are equal. In a test the macro's own code costs as much to prove as several calls.
+pub(crate) fn equals<T: PartialEq + fmt::Debug>(rt: &impl Abort, found: &T, wanted: &T) {
+    assert_eq!(rt; *found, *wanted);
+}
 
 /// The value, or the end of the test where it was refused. A test with no way out but this is a straight line, and cheap to prove.
 pub(crate) fn must<T, E: Drop>(rt: &impl Abort, outcome: Result<T, E>) -> T {

@@ -8,6 +8,7 @@ use super::each_way::{
     Drawn, TEXT, each_cut, each_drawn, each_turn, each_walk, matches_by_turns, searches,
     tests_at_a_place,
 };
+use super::support::equals;
 use super::walks::{draws, gives, walk_by_script, walks};
 use hip_match::chosen::Chosen;
 use hip_match::draw::{End, draw_into};
@@ -41,10 +42,15 @@ fn without_wanted(text: &str, wanted: char) -> (usize, usize) {
 #[test]
 fn closure_of_digits(rt: HostRuntime) {
     let mut drawn = [(9, 9); 5];
-    assert_eq!(rt; between_digits("a1b22c", &[End::Front; 5], &mut drawn), 4);
-    assert_eq!(rt;
-        drawn.as_slice(),
-        [(0, 1), (2, 3), (4, 4), (5, 6), (9, 9)].as_slice()
+    equals(
+        &rt,
+        &between_digits("a1b22c", &[End::Front; 5], &mut drawn),
+        &4,
+    );
+    equals(
+        &rt,
+        &drawn.as_slice(),
+        &[(0, 1), (2, 3), (4, 4), (5, 6), (9, 9)].as_slice(),
     );
 }
 
@@ -62,12 +68,17 @@ fn capturing_closure(rt: HostRuntime) {
     let script = [End::Front, End::Back, End::Front, End::Back];
     for Pieces(wanted, want) in PIECES {
         let mut drawn = [(9, 9); 4];
-        assert_eq!(rt; between_wanted("é,a,é", *wanted, &script, &mut drawn), 3);
-        assert_eq!(rt; drawn.as_slice(), *want);
+        equals(
+            &rt,
+            &between_wanted("é,a,é", *wanted, &script, &mut drawn),
+            &3,
+        );
+        equals(&rt, &drawn.as_slice(), &(*want));
     }
-    assert_eq!(rt;
-        (without_wanted("é,a,é", 'é'), without_wanted("é,a,é", ',')),
-        ((2, 5), (0, 7))
+    equals(
+        &rt,
+        &(without_wanted("é,a,é", 'é'), without_wanted("é,a,é", ',')),
+        &((2, 5), (0, 7)),
     );
 }
 

@@ -1,6 +1,7 @@
 //! Clones of iterators.
 ghost use Rattle.std.specs.Prelude.{◌≡◌, Ok, IsOk};
 
+use super::support::{equals, must};
 use super::walks::gives;
 use hip_match::indices::{MatchIndices, RMatchIndices};
 use hip_match::lines::Lines;
@@ -16,24 +17,15 @@ use std::test::Fail;
 
 const TEXT: &str = "a,b,";
 
-/// The clone, or the end of the test where there is no memory for it. A test with no way out but this is a straight line, and cheap to prove.
-fn must<R>(rt: &impl Abort, clone: Result<R, AllocError>) -> R
-    ensures { clone ≡ Ok result }
-{
-    match clone {
-        Ok(copy) => copy,
-        Err(_) => panic!(rt; "a clone was refused"),
-    }
-}
-
 #[test]
 fn clones_go_on_alike(rt: HostRuntime) {
     let mut ranges = Split::new("a,b,c", ',');
-    assert_eq!(rt; ranges.next(), Some((0, 1)));
+    equals(&rt, &ranges.next(), &Some((0, 1)));
     gives(&rt, "a,b,c", must(&rt, ranges.clone()), &["b", "c"]);
-    assert_eq!(rt;
-        (ranges.next_back(), ranges.next()),
-        (Some((4, 5)), Some((2, 3)))
+    equals(
+        &rt,
+        &(ranges.next_back(), ranges.next()),
+        &(Some((4, 5)), Some((2, 3))),
     );
 }
 

@@ -1,4 +1,5 @@
 //! Trims, strips and cuts at one match.
+use super::support::equals;
 use hip_match::pattern::{DoubleEndedPattern, ReversePattern};
 use hip_match::trim::{
     rsplit_once, split_once, strip_prefix, strip_suffix, trim_end_matches, trim_matches,
@@ -35,7 +36,7 @@ pub(crate) fn cuts<P: ReversePattern>(
         Cut::StripPrefix => strip_prefix(text, pattern),
         Cut::StripSuffix => strip_suffix(text, pattern),
     };
-    assert_eq!(rt; left, want);
+    equals(rt, &left, &want);
 }
 
 /// Asserts what lies before a match and behind it.
@@ -53,7 +54,7 @@ pub(crate) fn once<P: ReversePattern>(
     } else {
         split_once(text, pattern)
     };
-    assert_eq!(rt; parts, want);
+    equals(rt, &parts, &want);
 }
 
 /// Asserts what is left of a text without matches at its ends.
@@ -61,7 +62,7 @@ pub(crate) fn trims<P: DoubleEndedPattern>(rt: &impl Abort, text: &str, pattern:
     requires { P.can_search pattern }
 {
     let (start, end) = trim_matches(text, pattern);
-    assert_eq!(rt; &text[start..end], want);
+    equals(rt, &&text[start..end], &want);
 }
 
 /// A call, its text and pattern, and what it leaves.

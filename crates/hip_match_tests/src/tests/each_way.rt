@@ -1,5 +1,6 @@
 //! Each pattern that occurs at each `é` alone, in each way that there is.
 use super::cuts::{Cut, cuts, once, trims};
+use super::support::equals;
 use super::walks::{Walk, lists, walk_by_script, walks};
 use hip_match::draw::{End, draw_into};
 use hip_match::indices::{MatchIndices, RMatchIndices};
@@ -80,8 +81,8 @@ fn draws_by_turns<R: RangesBack + Drop>(rt: &impl Abort, mut ranges: R, want: &[
 {
     let mut drawn = [(0, 0); 5];
     let script = [End::Front, End::Back, End::Front, End::Back, End::Front];
-    assert_eq!(rt; draw_into(&mut ranges, &script, &mut drawn), 4);
-    assert_eq!(rt; &drawn[..4], want);
+    equals(rt, &draw_into(&mut ranges, &script, &mut drawn), &4);
+    equals(rt, &&drawn[..4], &want);
 }
 
 /// Asserts which matches a walk draws from the front and the back in turn.
@@ -112,21 +113,23 @@ pub(crate) fn matches_by_turns<P: OneChar>(
 pub(crate) fn searches<P: ReversePattern>(rt: &impl Abort, pattern: &P)
     requires { P.can_search pattern.now }
 {
-    assert_eq!(rt;
-        (
+    equals(
+        rt,
+        &(
             pattern.next_match(TEXT, 4),
             pattern.match_at(TEXT, 2),
-            pattern.match_at(TEXT, 4)
+            pattern.match_at(TEXT, 4),
         ),
-        (Some((5, 7)), Some(4), None)
+        &(Some((5, 7)), Some(4), None),
     );
-    assert_eq!(rt;
-        (
+    equals(
+        rt,
+        &(
             pattern.last_match(TEXT, 8),
             pattern.match_before(TEXT, 4),
-            pattern.match_before(TEXT, 5)
+            pattern.match_before(TEXT, 5),
         ),
-        (Some((5, 7)), Some(2), None)
+        &(Some((5, 7)), Some(2), None),
     );
     // The laws' functions do nothing: such calls show that a caller can state them.
     just_one_list_is_leftmost(pattern, TEXT);
@@ -137,14 +140,15 @@ pub(crate) fn searches<P: ReversePattern>(rt: &impl Abort, pattern: &P)
 pub(crate) fn tests_at_a_place<P: OneChar + DoubleEndedPattern>(rt: &impl Abort, pattern: &P)
     requires { P.can_search pattern.now }
 {
-    assert_eq!(rt;
-        (
+    equals(
+        rt,
+        &(
             pattern.starts_at(TEXT, 2),
             pattern.starts_at(TEXT, 4),
             pattern.ends_at(TEXT, 7),
-            pattern.ends_at(TEXT, 8)
+            pattern.ends_at(TEXT, 8),
         ),
-        (true, false, true, false)
+        &(true, false, true, false),
     );
     one_char_reverses(pattern, TEXT);
 }
@@ -201,9 +205,10 @@ fn at_a_place(rt: HostRuntime) {
     tests_at_a_place(&rt, &wanted.as_slice());
     trims(&rt, TEXT, 'é', "aéb");
     trims(&rt, TEXT, wanted.as_slice(), "aéb");
-    assert_eq!(rt;
-        ((&wanted).ends_at(TEXT, 7), (&wanted).ends_at(TEXT, 8)),
-        (true, false)
+    equals(
+        &rt,
+        &((&wanted).ends_at(TEXT, 7), (&wanted).ends_at(TEXT, 8)),
+        &(true, false),
     );
     one_char_reverses(&&wanted, TEXT);
 }

@@ -1,6 +1,7 @@
 //! ASCII white space at each place of texts of each length up to two blocks of 64 bytes and a rest, beside a plain search.
 ghost use Rattle.std.specs.Prelude.{◌≡◌};
 
+use super::support::equals;
 use super::walks::lists;
 use hip_match::ranges::RangesBack;
 use hip_match::white_space::SplitAsciiWhitespace;
@@ -83,7 +84,7 @@ fn agrees<R: RangesBack + Drop>(rt: &impl Abort, text: &str, mut ranges: R, ends
         } else {
             (ranges.next_back(), last_run(bytes, from, to))
         };
-        assert_eq!(rt; drawn, want);
+        equals(rt, &drawn, &want);
         let Some((start, end)) = want else {
             return;
         };
@@ -143,8 +144,9 @@ const THREE: &str =
 fn a_vertical_tab_parts_nothing(rt: HostRuntime) {
     lists(&rt, SplitAsciiWhitespace::new(THREE), &[(0, 81), (82, 122)]);
     let mut ranges = SplitAsciiWhitespace::new(THREE);
-    assert_eq!(rt;
-        (ranges.next_back(), ranges.next_back(), ranges.next_back()),
-        (Some((82, 122)), Some((0, 81)), None)
+    equals(
+        &rt,
+        &(ranges.next_back(), ranges.next_back(), ranges.next_back()),
+        &(Some((82, 122)), Some((0, 81)), None),
     );
 }

@@ -1,4 +1,5 @@
 //! A caller states the laws, and the tests at a place.
+use super::support::equals;
 use hip_match::draw::End;
 use hip_match::laws::{
     ended_pieces_are_the_text, ends_match_starts, ends_meet, join_undoes_split,
@@ -29,19 +30,26 @@ fn proof_that_callers_can_state_the_laws(_rt: HostRuntime) {
 #[test]
 fn at_a_place(rt: HostRuntime) {
     let text = "é,a";
-    assert_eq!(rt;
-        (','.starts_at(text, 2), ','.starts_at(text, 0)),
-        (true, false)
+    equals(
+        &rt,
+        &(','.starts_at(text, 2), ','.starts_at(text, 0)),
+        &(true, false),
     );
-    assert_eq!(rt; ('é'.ends_at(text, 2), 'é'.ends_at(text, 3)), (true, false));
+    equals(
+        &rt,
+        &('é'.ends_at(text, 2), 'é'.ends_at(text, 3)),
+        &(true, false),
+    );
     let slice = ['a'].as_slice();
-    assert_eq!(rt;
-        (slice.starts_at(text, 3), slice.ends_at(text, 4)),
-        (true, true)
+    equals(
+        &rt,
+        &(slice.starts_at(text, 3), slice.ends_at(text, 4)),
+        &(true, true),
     );
     let array = &['a', 'é'];
-    assert_eq!(rt;
-        (array.ends_at(text, 2), array.ends_at(text, 3)),
-        (true, false)
+    equals(
+        &rt,
+        &(array.ends_at(text, 2), array.ends_at(text, 3)),
+        &(true, false),
     );
 }

@@ -1,4 +1,5 @@
 //! Ranges that scripts draw.
+use super::support::equals;
 use hip_match::draw::{End, draw_into};
 use hip_match::lines::Lines;
 use hip_match::ranges::{Ranges, RangesBack};
@@ -28,9 +29,10 @@ fn follows<R: RangesBack + Drop>(
         };
         assert_eq!(rt; drawn, want, "script {script}");
     }
-    assert_eq!(rt;
-        (ranges.next(), ranges.next_back(), ranges.next()),
-        (None, None, None)
+    equals(
+        rt,
+        &(ranges.next(), ranges.next_back(), ranges.next()),
+        &(None, None, None),
     );
 }
 
@@ -47,10 +49,11 @@ fn drawn_by_a_script(rt: HostRuntime) {
     let mut ranges = Split::new("a,b,c,d", ',');
     let mut drawn = [(0, 0); 5];
     let script = [End::Front, End::Back, End::Back, End::Front, End::Front];
-    assert_eq!(rt; draw_into(&mut ranges, &script, &mut drawn), 4);
-    assert_eq!(rt;
-        drawn.as_slice(),
-        [(0, 1), (6, 7), (4, 5), (2, 3), (0, 0)].as_slice()
+    equals(&rt, &draw_into(&mut ranges, &script, &mut drawn), &4);
+    equals(
+        &rt,
+        &drawn.as_slice(),
+        &[(0, 1), (6, 7), (4, 5), (2, 3), (0, 0)].as_slice(),
     );
 }
 
@@ -59,8 +62,8 @@ fn draws_last<R: RangesBack + Drop>(rt: &impl Abort, mut ranges: R, want: (usize
     requires { R.ready ranges }
 {
     let mut drawn = [(0, 0)];
-    assert_eq!(rt; draw_into(&mut ranges, &[End::Back], &mut drawn), 1);
-    assert_eq!(rt; drawn[0], want);
+    equals(rt, &draw_into(&mut ranges, &[End::Back], &mut drawn), &1);
+    equals(rt, &drawn[0], &want);
 }
 
 #[test]

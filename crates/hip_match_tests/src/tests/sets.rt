@@ -1,4 +1,5 @@
 //! Sets of characters of ASCII, beside Rust's own tests of a byte, and the bits of their marks.
+use super::support::equals;
 use super::walks::Walk::{Matches, RSplit, Split};
 use super::walks::walks;
 use hip_match::ascii_set::AsciiSet;
@@ -10,7 +11,7 @@ const BLOCK: usize = 64;
 /// Asserts that a set has these of the 64 bytes from `at` on.
 fn marks(rt: &impl Abort, set: AsciiSet, bytes: &[u8; 256], at: usize, want: u64) {
     if at <= bytes.len() - BLOCK {
-        assert_eq!(rt; set.marks(bytes, at), want);
+        equals(rt, &set.marks(bytes, at), &want);
     }
 }
 
@@ -70,10 +71,10 @@ fn by_a_set_of_ascii(rt: HostRuntime) {
 
 #[test]
 fn the_lowest_bit(rt: HostRuntime) {
-    assert_eq!(rt; lowest(0), None);
-    assert_eq!(rt; lowest(0b1010_0000), Some(5));
-    assert_eq!(rt; lowest(1 << 63), Some(63));
-    assert_eq!(rt; without_lowest(0b1010_0000), 0b1000_0000);
-    assert_eq!(rt; without_lowest(u64::MAX), u64::MAX - 1);
-    assert_eq!(rt; without_lowest(0), 0);
+    equals(&rt, &lowest(0), &None);
+    equals(&rt, &lowest(0b1010_0000), &Some(5));
+    equals(&rt, &lowest(1 << 63), &Some(63));
+    equals(&rt, &without_lowest(0b1010_0000), &0b1000_0000);
+    equals(&rt, &without_lowest(u64::MAX), &(u64::MAX - 1));
+    equals(&rt, &without_lowest(0), &0);
 }

@@ -1,6 +1,7 @@
 //! The iterators by name, and what is asserted of any of them.
 ghost use Rattle.std.specs.Prelude.{◌≡◌};
 
+use super::support::equals;
 use hip_match::indices::{MatchIndices, RMatchIndices};
 use hip_match::matches::Matches;
 use hip_match::pattern::{OneChar, ReversePattern};
@@ -54,9 +55,9 @@ pub(crate) fn gives<R: Ranges + Drop>(rt: &impl Abort, text: &str, mut ranges: R
         let Some((start, end)) = ranges.next() else {
             panic!(rt; "too few pieces");
         };
-        assert_eq!(rt; &text[start..end], *piece);
+        equals(rt, &&text[start..end], &(*piece));
     }
-    assert_eq!(rt; (ranges.next(), ranges.next()), (None, None));
+    equals(rt, &(ranges.next(), ranges.next()), &(None, None));
 }
 
 /// Asserts that these are the ranges, from the front, and then none.
@@ -64,9 +65,9 @@ pub(crate) fn lists<R: Ranges + Drop>(rt: &impl Abort, mut ranges: R, want: &[(u
     requires { R.ready ranges }
 {
     for range in want {
-        assert_eq!(rt; ranges.next(), Some(*range));
+        equals(rt, &ranges.next(), &Some(*range));
     }
-    assert_eq!(rt; (ranges.next(), ranges.next()), (None, None));
+    equals(rt, &(ranges.next(), ranges.next()), &(None, None));
 }
 
 /// Asserts that the script, of `F` and `B`, draws these parts of the text, and that then there are none at either end.
@@ -89,11 +90,12 @@ pub(crate) fn draws<R: RangesBack + Drop>(
         let Some((start, end)) = drawn else {
             panic!(rt; "too few pieces");
         };
-        assert_eq!(rt; &text[start..end], *piece);
+        equals(rt, &&text[start..end], &(*piece));
     }
-    assert_eq!(rt;
-        (ranges.next(), ranges.next_back(), ranges.next()),
-        (None, None, None)
+    equals(
+        rt,
+        &(ranges.next(), ranges.next_back(), ranges.next()),
+        &(None, None, None),
     );
 }
 

@@ -1,4 +1,5 @@
 //! Lines, and runs between white space.
+use super::support::equals;
 use super::walks::{draws, gives};
 use hip_match::lines::Lines;
 use hip_match::trim::{trim, trim_end, trim_start};
@@ -106,9 +107,10 @@ fn trimmed_rows() -> &'static [Trimmed] {
 #[test]
 fn trims(rt: HostRuntime) {
     for Trimmed(text, both, start, end) in trimmed_rows() {
-        assert_eq!(rt;
-            (trim(text), trim_start(text), trim_end(text)),
-            (*both, *start, *end)
+        equals(
+            &rt,
+            &(trim(text), trim_start(text), trim_end(text)),
+            &(*both, *start, *end),
         );
     }
 }

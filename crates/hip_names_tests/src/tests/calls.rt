@@ -1,7 +1,7 @@
 //! Conversions between types, rooms, orders of OS strings and of paths, and components by themselves.
 use super::handle::Handle;
 use super::name::{Name, OsStr};
-use super::support::{compared, must, text_of};
+use super::support::{compared, equals, must, text_of};
 use hip_names::{Backend, Component, HipOsStr, HipPath, HipStr, Rc, Unique, components_eq};
 use std::alloc::Global;
 use std::borrow::{CowSlice, CowStr};
@@ -11,7 +11,7 @@ use std::process::Abort;
 const LETTERS: &str = "abcdefghijklmnopqrstuvwxyz";
 
 fn is<N: Name>(rt: &impl Abort, name: N, text: &str) {
-    assert_eq!(rt; name.bytes(), text.as_bytes());
+    equals(rt, &name.bytes(), &text.as_bytes());
 }
 
 /// Makes names of a clone of the text that a `Cow` makes, and of the text itself.
@@ -27,9 +27,10 @@ fn from_text<B: Backend>(rt: &impl Abort, alloc: Global, cow: CowStr<'static>) {
 
 fn are_letters<B: Backend>(rt: &impl Abort, name: HipOsStr<'_, B>, path: HipPath<'_, B>) {
     let letters = LETTERS.as_bytes();
-    assert_eq!(rt;
-        (name.as_os_str(), path.as_path(), path.as_os_str()),
-        (letters, letters, letters)
+    equals(
+        rt,
+        &(name.as_os_str(), path.as_path(), path.as_os_str()),
+        &(letters, letters, letters),
     );
 }
 
@@ -43,18 +44,18 @@ fn from_texts<B: Backend>(rt: &impl Abort, alloc: Global) {
 /// A lent name becomes a lent `Cow`, a copied one an owned one.
 fn into_cows<N: Name>(rt: &impl Abort, alloc: Global) {
     match must(rt, N::from_static("abc").into_cow(alloc)) {
-        CowSlice::Borrowed(bytes) => assert_eq!(rt; bytes, b"abc".as_slice()),
+        CowSlice::Borrowed(bytes) => equals(rt, &bytes, &b"abc".as_slice()),
         CowSlice::Owned(_) => panic!(rt; "it was copied"),
     }
     match must(rt, must(rt, N::from_str(alloc, "abc")).into_cow(alloc)) {
-        CowSlice::Owned(vec) => assert_eq!(rt; vec.as_slice(), b"abc".as_slice()),
+        CowSlice::Owned(vec) => equals(rt, &vec.as_slice(), &b"abc".as_slice()),
         CowSlice::Borrowed(_) => panic!(rt; "it wasn't copied"),
     }
 }
 
 fn no_room<N: Name>(rt: &impl Abort, alloc: Global) {
     let name = must(rt, N::with_capacity_push(alloc, 0, ""));
-    assert_eq!(rt; name.capacity(), 23);
+    equals(rt, &name.capacity(), &23);
     is(rt, name, "");
 }
 
@@ -62,10 +63,10 @@ fn no_room<N: Name>(rt: &impl Abort, alloc: Global) {
 fn shrinks<N: Name>(rt: &impl Abort, alloc: Global) {
     let mut name = must(rt, N::with_capacity_push(alloc, 24, ""));
     must(rt, name.shrink_to_fit(alloc));
-    assert_eq!(rt; (name.capacity(), N::inline_capacity()), (23, 23));
+    equals(rt, &(name.capacity(), N::inline_capacity()), &(23, 23));
     let mut name = must(rt, N::with_capacity_push(alloc, 24, "a"));
     must(rt, name.shrink_to(alloc, 0));
-    assert_eq!(rt; name.capacity(), 23);
+    equals(rt, &name.capacity(), &23);
     is(rt, name, "a");
 }
 
@@ -92,7 +93,7 @@ fn ordered_rows() -> &'static [Ordered] {
 fn orders_bytes<N: OsStr>(rt: &impl Abort) {
     for (left, right, order, _) in ordered_rows() {
         let name = N::from_static(left);
-        assert_eq!(rt; name.os_str_cmp(right.as_bytes()), *order);
+        equals(rt, &name.os_str_cmp(right.as_bytes()), &(*order));
     }
 }
 
@@ -103,9 +104,10 @@ fn orders<N: Name>(rt: &impl Abort, alloc: Global) {
         let order = if N::IS_PATH { by_components } else { by_bytes };
         let (lent, other) = (N::from_static(left), N::from_static(right));
         let wanted = (*order, order.reverse(), order.is_eq());
-        assert_eq!(rt;
-            (compared(&copied, &other), compared(&lent, &other)),
-            (wanted, wanted)
+        equals(
+            rt,
+            &(compared(&copied, &other), compared(&lent, &other)),
+            &(wanted, wanted),
         );
     }
 }
@@ -115,17 +117,19 @@ fn orders_by_name<N: Name>(rt: &impl Abort, alloc: Global) {
     for (left, right, by_bytes, by_components) in ordered_rows() {
         let name = must(rt, N::from_str(alloc, left));
         let bytes = right.as_bytes();
-        assert_eq!(rt;
-            (
+        equals(
+            rt,
+            &(
                 name.os_str_eq(bytes),
                 name.path_eq(bytes),
-                name.path_cmp(bytes)
+                name.path_cmp(bytes),
             ),
-            (by_bytes.is_eq(), by_components.is_eq(), *by_components)
+            &(by_bytes.is_eq(), by_components.is_eq(), *by_components),
         );
-        assert_eq!(rt;
-            components_eq(left.as_bytes(), bytes),
-            by_components.is_eq()
+        equals(
+            rt,
+            &components_eq(left.as_bytes(), bytes),
+            &by_components.is_eq(),
         );
     }
 }
@@ -141,11 +145,15 @@ pub(crate) fn of_either<N: Name>(rt: &impl Abort, alloc: Global) {
 
 fn rooms<N: OsStr>(rt: &impl Abort, alloc: Global) {
     let mut name = must(rt, N::with_capacity_push(alloc, 42, ""));
-    assert_eq!(rt; (name.is_empty(), name.capacity() >= 42), (true, true));
+    equals(rt, &(name.is_empty(), name.capacity() >= 42), &(true, true));
     for _ in 0..42 {
         must(rt, name.push(alloc, "A"));
     }
-    assert_eq!(rt; (name.len(), name.bytes()), (42, [b'A'; 42].as_slice()));
+    equals(
+        rt,
+        &(name.len(), name.bytes()),
+        &(42, [b'A'; 42].as_slice()),
+    );
 }
 
 fn pushes<N: OsStr>(rt: &impl Abort, alloc: Global) {
@@ -166,7 +174,7 @@ fn are_ordered<K: Ord>(rt: &impl Abort, keys: &[K]) {
     for (i, left) in keys.iter().enumerate() {
         for (j, right) in keys.iter().enumerate() {
             let wanted = (i.cmp(&j), j.cmp(&i), i == j);
-            assert_eq!(rt; compared(left, right), wanted);
+            equals(rt, &compared(left, right), &wanted);
         }
     }
 }
@@ -185,7 +193,7 @@ fn components(rt: HostRuntime) {
     ];
     are_ordered(&rt, &all);
     let said = must(&rt, text_of(rt.alloc(), &all[4]));
-    assert_eq!(rt; said.as_str(), "Normal([97])");
+    equals(&rt, &said.as_str(), &"Normal([97])");
 }
 
 #[test]
@@ -199,9 +207,9 @@ fn closures_write(rt: HostRuntime) {
     let mut name = must(&rt, HipOsStr::<Rc>::from_str(rt.alloc(), "ab"));
     let pushed = name.with_mutated(rt.alloc(), |vec: &mut Vec<u8>| vec.push(b'c'));
     must(&rt, must(&rt, pushed));
-    assert_eq!(&rt; name.as_os_str(), b"abc".as_slice());
+    equals(&rt, &name.as_os_str(), &b"abc".as_slice());
     let mut path = must(&rt, HipPath::<Unique>::from_str(rt.alloc(), "a/"));
     let pushed = path.with_mutated(rt.alloc(), |vec: &mut Vec<u8>| vec.push(b'b'));
     must(&rt, must(&rt, pushed));
-    assert_eq!(&rt; path.as_path(), b"a/b".as_slice());
+    equals(&rt, &path.as_path(), &b"a/b".as_slice());
 }

@@ -1,7 +1,7 @@
 //! OS strings that are UTF-8, that aren't, and their repair.
 use super::handle::Handle;
 use super::name::{Name, OsStr};
-use super::support::{must, text_of};
+use super::support::{equals, must, text_of};
 use hip_bytes::Kind;
 use std::alloc::Global;
 use std::process::Abort;
@@ -27,7 +27,7 @@ fn is_decoded<N: OsStr>(rt: &impl Abort, alloc: Global, row: Decoded) {
     let (bytes, is_text, repaired) = row;
     let name = must(rt, N::lent(bytes));
     let (text, is_lent) = must(rt, name.to_str_lossy(alloc));
-    assert_eq!(rt; (text.as_str(), is_lent), (repaired, is_text));
+    equals(rt, &(text.as_str(), is_lent), &(repaired, is_text));
     assert!(rt; is(must(rt, name.to_str(alloc)), is_text, repaired));
 }
 
@@ -42,8 +42,8 @@ fn is(text: Option<String>, is_text: bool, want: &str) -> bool {
 fn becomes_text<N: Name>(rt: &impl Abort, row: Decoded) {
     let (bytes, is_text, text) = row;
     match must(rt, N::lent(bytes)).into_str_eq(text) {
-        Ok(told) => assert_eq!(rt; (told, is_text), ((true, Kind::Borrowed), true)),
-        Err(back) => assert_eq!(rt; (back.bytes(), is_text), (bytes, false)),
+        Ok(told) => equals(rt, &(told, is_text), &((true, Kind::Borrowed), true)),
+        Err(back) => equals(rt, &(back.bytes(), is_text), &(bytes, false)),
     }
 }
 
@@ -51,7 +51,7 @@ fn becomes_text<N: Name>(rt: &impl Abort, row: Decoded) {
 fn debugs<N: Name>(rt: &impl Abort, alloc: Global) {
     let name = must(rt, N::lent(b"a\"\n\xFFb"));
     let said = must(rt, text_of(alloc, &name));
-    assert_eq!(rt; said.as_str(), "\"a\\\"\\n\\xffb\"");
+    equals(rt, &said.as_str(), &"\"a\\\"\\n\\xffb\"");
 }
 
 /// The tests of an OS string or of a path.

@@ -1,7 +1,7 @@
 //! Paths that are hard to read, with the answers of Rust's `std::path`.
 use super::handle::Handle;
 use super::name::Name;
-use super::support::{compared, must};
+use super::support::{compared, equals, must};
 use hip_names::{Backend, Component, Components, HipByt, HipOsStr, HipPath, Rc, Unique, path_cmp};
 use std::alloc::{AllocError, Global};
 use std::cmp::Ordering;
@@ -153,7 +153,7 @@ fn written(alloc: Global, components: Components) -> Result<Vec<u8>, AllocError>
 }
 
 fn is(rt: &impl Abort, vec: Vec<u8>, wanted: &[u8]) {
-    assert_eq!(rt; vec.as_slice(), wanted);
+    equals(rt, &vec.as_slice(), &wanted);
 }
 
 fn path_of<B: Backend>(bytes: &[u8]) -> HipPath<'_, B> {
@@ -171,9 +171,10 @@ fn is_ordered<N: Name>(rt: &impl Abort, row: Hostile, next: Hostile) {
     let (path, other) = (must(rt, N::lent(row.0)), must(rt, N::lent(next.0)));
     let (order, turned, are_equal) = compared(&path, &other);
     let wanted = row.2;
-    assert_eq!(rt;
-        (row.0, order, path_cmp(row.0, next.0), turned, are_equal),
-        (row.0, wanted, wanted, wanted.reverse(), wanted.is_eq())
+    equals(
+        rt,
+        &(row.0, order, path_cmp(row.0, next.0), turned, are_equal),
+        &(row.0, wanted, wanted, wanted.reverse(), wanted.is_eq()),
     );
 }
 

@@ -1,6 +1,6 @@
 //! Keys of maps and sets: paths by their components, OS strings by their bytes.
 use super::name::Name;
-use super::support::must;
+use super::support::{equals, must};
 use std::alloc::{AllocError, Global};
 use std::collections::{BTreeMap, HashMap, HashSet};
 use std::hash::Hash;
@@ -51,11 +51,12 @@ fn is_told<K: Hash + Ord + Drop>(
     is_found: bool,
 ) {
     let age = is_found.then_some(7);
-    assert_eq!(rt; must(rt, found(alloc, keys.0, sought)), age);
-    assert_eq!(rt; must(rt, found_in_order(alloc, keys.1, sought)), age);
-    assert_eq!(rt;
-        must(rt, is_in_set(alloc, pair.0, pair.1, sought)),
-        is_found
+    equals(rt, &must(rt, found(alloc, keys.0, sought)), &age);
+    equals(rt, &must(rt, found_in_order(alloc, keys.1, sought)), &age);
+    equals(
+        rt,
+        &must(rt, is_in_set(alloc, pair.0, pair.1, sought)),
+        &is_found,
     );
 }
 

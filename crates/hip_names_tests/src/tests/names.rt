@@ -1,7 +1,7 @@
 //! hipstr's own tests of OS strings and of paths, each by its own calls.
 use super::handle::Handle;
 use super::name::{Name, OsStr};
-use super::support::{are_equal, must, text_of};
+use super::support::{are_equal, equals, must, text_of};
 use super::{calls, decoding, hostile, maps, rooms};
 use hip_names::{HipOsStr, HipPath, Kind, Rc, Unique};
 use std::alloc::Global;
@@ -58,11 +58,12 @@ fn taken<N: Name>(rt: &impl Abort, alloc: Global, room: usize, text: &str) -> N 
 
 /// Asserts what a name holds, and where.
 fn is<H: Handle>(rt: &impl Abort, name: H, text: &str, kind: Kind) {
-    assert_eq!(rt; (name.bytes(), name.kind()), (text.as_bytes(), Some(kind)));
+    equals(rt, &name.bytes(), &text.as_bytes());
+    equals(rt, &name.kind(), &Some(kind));
 }
 
 fn is_vector(rt: &impl Abort, vec: Vec<u8>, text: &str) {
-    assert_eq!(rt; vec.as_slice(), text.as_bytes());
+    equals(rt, &vec.as_slice(), &text.as_bytes());
 }
 
 /// A clone outlives its source, and lies as that does.
@@ -76,13 +77,14 @@ fn makers<N: Name>(rt: &impl Abort, alloc: Global) {
 }
 
 fn is_empty<N: Name>(rt: &impl Abort, empty: N) {
-    assert_eq!(rt;
-        (
+    equals(
+        rt,
+        &(
             empty.os_str_eq(b""),
             empty.path_eq(b""),
-            empty.path_cmp(b"")
+            empty.path_cmp(b""),
         ),
-        (true, true, Ordering::Equal)
+        &(true, true, Ordering::Equal),
     );
     is(rt, empty, "", Kind::Inline);
 }
@@ -166,9 +168,10 @@ fn into_texts<N: Name>(rt: &impl Abort, alloc: Global) {
         let name = made::<N>(rt, alloc, *way, text);
         let clone = must(rt, name.clone(alloc));
         let wanted = Some((true, *kind));
-        assert_eq!(rt;
-            (clone.into_str_eq(text).ok(), name.into_str_eq(text).ok()),
-            (wanted, wanted)
+        equals(
+            rt,
+            &(clone.into_str_eq(text).ok(), name.into_str_eq(text).ok()),
+            &(wanted, wanted),
         );
     }
 }
@@ -180,10 +183,10 @@ fn borrows<N: Name>(rt: &impl Abort, alloc: Global) {
         let clone = must(rt, name.clone(alloc));
         let is_lent = *kind == Kind::Borrowed;
         let lent = is_lent.then_some(text.as_bytes());
-        assert_eq!(rt; name.as_borrowed(), lent);
+        equals(rt, &name.as_borrowed(), &lent);
         match name.into_borrowed() {
-            Ok(bytes) => assert_eq!(rt; Some(bytes), lent),
-            Err(back) => assert_eq!(rt; (are_equal(&back, &clone), is_lent), (true, false)),
+            Ok(bytes) => equals(rt, &Some(bytes), &lent),
+            Err(back) => equals(rt, &(are_equal(&back, &clone), is_lent), &(true, false)),
         }
     }
 }
@@ -194,18 +197,16 @@ fn equalities<N: Name>(rt: &impl Abort, alloc: Global) {
         let name = made::<N>(rt, alloc, *way, text);
         let other = made::<N>(rt, alloc, *way, text);
         let bytes = text.as_bytes();
-        assert_eq!(rt;
-            (
+        equals(
+            rt,
+            &(
                 name.os_str_eq(bytes),
                 name.path_eq(bytes),
-                name.path_cmp(bytes)
+                name.path_cmp(bytes),
             ),
-            (true, true, Ordering::Equal)
+            &(true, true, Ordering::Equal),
         );
-        assert_eq!(rt;
-            (are_equal(&name, &other), are_equal(&other, &name)),
-            (true, true)
-        );
+        assert!(rt; are_equal(&name, &other) & are_equal(&other, &name));
     }
 }
 
@@ -302,13 +303,13 @@ fn debugs_guards<N: Name>(rt: &impl Abort, alloc: Global) {
     for way in [Way::Copied, Way::Lent] {
         let mut name = made::<N>(rt, alloc, way, "abc");
         let guard = pushes_by_guard(rt, alloc, &mut name, "");
-        assert_eq!(rt; guard.as_str(), "[97, 98, 99]");
+        equals(rt, &guard.as_str(), &"[97, 98, 99]");
     }
 }
 
 fn debugs<N: Name>(rt: &impl Abort, alloc: Global) {
     let said = must(rt, text_of(alloc, &N::from_static("abc")));
-    assert_eq!(rt; said.as_str(), "\"abc\"");
+    equals(rt, &said.as_str(), &"\"abc\"");
 }
 
 /// Lent bytes are copied, any others stay where they lie.

@@ -1,6 +1,6 @@
 //! Room that a name has, and what it gives back.
 use super::name::Name;
-use super::support::must;
+use super::support::{equals, must};
 use std::alloc::Global;
 use std::process::Abort;
 
@@ -13,9 +13,10 @@ fn rooms<N: Name>(rt: &impl Abort, alloc: Global) {
     }
     let taken = must(rt, N::from_string(alloc, string));
     let (copied, lent) = (must(rt, N::from_str(alloc, "abc")), N::from_static("abc"));
-    assert_eq!(rt;
-        (copied.capacity(), lent.capacity(), taken.capacity() >= 30),
-        (23, 3, true)
+    equals(
+        rt,
+        &(copied.capacity(), lent.capacity(), taken.capacity() >= 30),
+        &(23, 3, true),
     );
 }
 
@@ -25,8 +26,8 @@ fn shrinks<N: Name>(rt: &impl Abort, alloc: Global) {
         must(rt, name.shrink_to(alloc, 4));
         must(rt, name.shrink_to_fit(alloc));
         let room = name.capacity();
-        assert_eq!(rt; (room >= least, room <= most), (true, true));
-        assert_eq!(rt; name.bytes(), text.as_bytes());
+        equals(rt, &(room >= least, room <= most), &(true, true));
+        equals(rt, &name.bytes(), &text.as_bytes());
     }
 }
 
@@ -35,7 +36,7 @@ fn shrinks_lent<N: Name>(rt: &impl Abort, alloc: Global) {
     must(rt, name.shrink_to(alloc, 0));
     let room = name.capacity();
     must(rt, name.shrink_to_fit(alloc));
-    assert_eq!(rt; (room, name.capacity()), (3, 3));
+    equals(rt, &(room, name.capacity()), &(3, 3));
 }
 
 /// These tests of an OS string or of a path.

@@ -1,5 +1,5 @@
 //! Ranges of an owner's bytes.
-use super::support::{must, must_refuse};
+use super::support::{equals, must, must_refuse};
 use hip_raw::{Allocated, Appended, Backend, Meter, Rc, Unique};
 use std::alloc::Global;
 use std::process::Abort;
@@ -8,9 +8,10 @@ const STARS: &[u8] = &[b'*'; 42];
 
 /// Asserts what a range holds.
 fn has<B: Backend>(rt: &impl Abort, bytes: &Allocated<B>, items: &[u8]) {
-    assert_eq!(rt;
-        (bytes.as_slice(), bytes.len(), bytes.is_empty()),
-        (items, items.len(), items.is_empty())
+    equals(
+        rt,
+        &(bytes.as_slice(), bytes.len(), bytes.is_empty()),
+        &(items, items.len(), items.is_empty()),
     );
 }
 
@@ -27,9 +28,9 @@ fn holds_bytes<B: Backend>(rt: &impl Abort, alloc: Global, copied: u128) {
         Allocated::<B>::from_slice_metered(alloc, STARS, &mut meter),
     );
     has(rt, &whole, STARS);
-    assert_eq!(rt; meter.copied(), 42);
+    equals(rt, &meter.copied(), &42);
     let copy = must(rt, whole.slice_unchecked_metered(alloc, 0..42, &mut meter));
-    assert_eq!(rt; meter.copied(), copied);
+    equals(rt, &meter.copied(), &copied);
     drop(whole);
     takes_one_more(rt, alloc, copy);
 }
@@ -38,7 +39,7 @@ const STARS_AND_ONE: &[u8] = b"******************************************!";
 
 fn takes_one_more<B: Backend>(rt: &impl Abort, alloc: Global, mut bytes: Allocated<B>) {
     has(rt, &bytes, STARS);
-    assert_eq!(rt; bytes.push_slice(alloc, b"!"), Appended::Done);
+    equals(rt, &bytes.push_slice(alloc, b"!"), &Appended::Done);
     has(rt, &bytes, STARS_AND_ONE);
     must(rt, bytes.shrink_to(alloc, 0));
     has(rt, &bytes, STARS_AND_ONE);
@@ -66,7 +67,7 @@ fn writes_ends<B: Backend>(rt: &impl Abort, bytes: &mut Allocated<B>) {
         bytes[0] = 65;
         bytes.len()
     });
-    assert_eq!(rt; written.ok(), Some(42));
+    equals(rt, &written.ok(), &Some(42));
     assert!(rt; bytes.set(41, 66));
 }
 
@@ -95,19 +96,21 @@ fn cuts_and_shrinks<B: Backend>(
 ) {
     bytes.truncate(2);
     let answer = bytes.push_slice_metered(alloc, b"xyz", meter);
-    assert_eq!(rt;
-        (answer, meter.copied(), bytes.capacity() >= 200),
-        (Appended::Done, 3, true)
+    equals(
+        rt,
+        &(answer, meter.copied(), bytes.capacity() >= 200),
+        &(Appended::Done, 3, true),
     );
     has(rt, bytes, b"ACxyz");
     must(rt, bytes.shrink_to_metered(alloc, 8, meter));
-    assert_eq!(rt;
-        (
+    equals(
+        rt,
+        &(
             bytes.capacity() >= 8,
             bytes.capacity() < 200,
-            meter.copied()
+            meter.copied(),
         ),
-        (true, true, 8)
+        &(true, true, 8),
     );
     has(rt, bytes, b"ACxyz");
 }
@@ -127,7 +130,11 @@ fn takes_over<B: Backend>(rt: &impl Abort, alloc: Global, taken: u128) -> Alloca
     let vec = roomy(rt, alloc);
     let bytes = must(rt, Allocated::<B>::new_metered(alloc, vec, &mut meter));
     has(rt, &bytes, STARS);
-    assert_eq!(rt; (bytes.capacity() >= 200, meter.copied()), (true, taken));
+    equals(
+        rt,
+        &(bytes.capacity() >= 200, meter.copied()),
+        &(true, taken),
+    );
     bytes
 }
 
@@ -141,7 +148,7 @@ fn hands_out<B: Backend>(
 ) {
     let mut meter = Meter::new();
     let vec = must(rt, bytes.try_into_vec_metered(alloc, &mut meter));
-    assert_eq!(rt; (vec.as_slice(), meter.copied()), (items, handed));
+    equals(rt, &(vec.as_slice(), meter.copied()), &(items, handed));
 }
 
 #[test]
@@ -154,10 +161,11 @@ fn a_sole_owner_is_written_in_place(rt: HostRuntime) {
 fn is_not_written<B: Backend>(rt: &impl Abort, alloc: Global, bytes: &mut Allocated<B>) {
     let mut meter = Meter::new();
     let answer = bytes.push_slice_metered(alloc, b"x", &mut meter);
-    assert_eq!(rt; (answer, meter.copied()), (Appended::Shared, 0));
+    equals(rt, &(answer, meter.copied()), &(Appended::Shared, 0));
     let is_refused = bytes.with_mut_slice(|_| ()).is_err();
     let is_lent = bytes.as_mut_slice().is_some();
-    assert_eq!(rt; (is_refused, is_lent, bytes.len()), (true, false, 42));
+    assert_eq!(rt; bytes.len(), 42);
+    equals(rt, &(is_refused, is_lent), &(true, false));
     assert!(rt; !bytes.set(0, 65));
     has(rt, bytes, STARS);
 }
@@ -200,7 +208,7 @@ fn a_vector_comes_back(rt: HostRuntime) {
 
 fn is_whole<B: Backend>(rt: &impl Abort, alloc: Global, whole: Allocated<B>) {
     let vec = must(rt, whole.try_into_vec(alloc));
-    assert_eq!(rt; vec.as_slice(), [0, 1, 2].as_slice());
+    equals(rt, &vec.as_slice(), &[0, 1, 2].as_slice());
 }
 
 /// Writes over the first byte, where no other range shares the owner, and says whether it did.
@@ -221,14 +229,15 @@ fn is_held_when_sole<B: Backend>(rt: &impl Abort, alloc: Global) {
     let other = must(rt, whole.slice_unchecked(alloc, 0..42));
     let alone = writes_held(&mut whole);
     let first = whole.as_slice().first().copied();
-    assert_eq!(rt;
-        (alone, first),
-        (!B::SHARES, Some(if alone { b'+' } else { b'*' }))
+    equals(
+        rt,
+        &(alone, first),
+        &(!B::SHARES, Some(if alone { b'+' } else { b'*' })),
     );
     has(rt, &other, STARS);
     drop(other);
     assert!(rt; writes_held(&mut whole));
-    assert_eq!(rt; whole.as_slice().first(), Some(&b'+'));
+    equals(rt, &whole.as_slice().first(), &Some(&b'+'));
 }
 
 #[test]

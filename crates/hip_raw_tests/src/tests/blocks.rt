@@ -2,6 +2,7 @@
 //! comparisons of some longer ones too.
 ghost use Rattle.std.specs.Prelude.{◌≤◌};
 
+use super::support::equals;
 use hip_raw::{common_prefix, equal, make_ascii_lowercase, make_ascii_uppercase, order};
 use std::cmp::Ordering;
 use std::process::Abort;
@@ -49,17 +50,20 @@ fn plainly_common(a: &[u8], b: &[u8]) -> usize {
 
 /// Asserts that `equal`, `order` and `common_prefix` agree with the plain loops, each way round.
 fn compares(rt: &impl Abort, a: &[u8], b: &[u8]) {
-    assert_eq!(rt;
-        (equal(a, b), equal(b, a)),
-        (plainly_equal(a, b), plainly_equal(b, a))
+    equals(
+        rt,
+        &(equal(a, b), equal(b, a)),
+        &(plainly_equal(a, b), plainly_equal(b, a)),
     );
-    assert_eq!(rt;
-        (order(a, b), order(b, a)),
-        (plainly_ordered(a, b), plainly_ordered(b, a))
+    equals(
+        rt,
+        &(order(a, b), order(b, a)),
+        &(plainly_ordered(a, b), plainly_ordered(b, a)),
     );
-    assert_eq!(rt;
-        (common_prefix(a, b), common_prefix(b, a)),
-        (plainly_common(a, b), plainly_common(b, a))
+    equals(
+        rt,
+        &(common_prefix(a, b), common_prefix(b, a)),
+        &(plainly_common(a, b), plainly_common(b, a)),
     );
 }
 
@@ -165,7 +169,7 @@ fn moves_letters(rt: &impl Abort, bytes: &[u8; LONGEST], len: usize)
         } else {
             (bytes[i], bytes[i])
         };
-        assert_eq!(rt; (ups[i], lows[i]), want);
+        equals(rt, &(ups[i], lows[i]), &want);
     }
 }
 
@@ -209,6 +213,6 @@ fn the_edges_of_the_letters(rt: HostRuntime) {
     make_ascii_lowercase(&mut lows);
     make_ascii_uppercase(&mut ups);
     for i in 0..70 {
-        assert_eq!(rt; (lows[i], ups[i]), (LOWERED[i % 10], RAISED[i % 10]));
+        equals(&rt, &(lows[i], ups[i]), &(LOWERED[i % 10], RAISED[i % 10]));
     }
 }

@@ -1,4 +1,5 @@
 //! Readers and writers that move few bytes a call, and fail at one call.
+use super::support::equals;
 use hip_raw::Fuse;
 use std::io::{Read, Write};
 use std::process::Abort;
@@ -22,9 +23,9 @@ fn reads(rt: &impl Abort, row: Row) {
     let mut fuse = Fuse::new(&b"abcdef"[..], most, failing);
     let mut room = [0u8; 4];
     for moved in calls {
-        assert_eq!(rt; fuse.read(&mut room).ok(), *moved);
+        equals(rt, &fuse.read(&mut room).ok(), &(*moved));
     }
-    assert_eq!(rt; fuse.into_inner(), left);
+    equals(rt, &fuse.into_inner(), &left);
 }
 
 #[test]
@@ -48,10 +49,10 @@ fn writes(rt: &impl Abort, row: (usize, u64, &'static [Option<usize>], usize)) {
     let mut room = [0u8; 6];
     let mut fuse = Fuse::new(&mut room[..], most, failing);
     for moved in calls {
-        assert_eq!(rt; fuse.write(b"abc").ok(), *moved);
+        equals(rt, &fuse.write(b"abc").ok(), &(*moved));
     }
     assert!(rt; fuse.flush().is_ok());
-    assert_eq!(rt; fuse.into_inner().len(), left);
+    equals(rt, &fuse.into_inner().len(), &left);
 }
 
 #[test]

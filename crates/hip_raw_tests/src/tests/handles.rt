@@ -1,13 +1,14 @@
 //! Bytes in the handle itself, and lent bytes.
-use super::support::must;
+use super::support::{equals, must};
 use hip_raw::{Borrowed, Inline, Meter};
 use std::process::Abort;
 
 /// Asserts what the handle has, and how many bytes were copied so far.
 fn has(rt: &impl Abort, inline: &Inline<23>, items: &[u8], meter: &Meter, copied: u128) {
-    assert_eq!(rt;
-        (inline.as_slice(), inline.len(), meter.copied()),
-        (items, items.len(), copied)
+    equals(
+        rt,
+        &(inline.as_slice(), inline.len(), meter.copied()),
+        &(items, items.len(), copied),
     );
 }
 
@@ -21,7 +22,7 @@ fn inline_bytes(rt: HostRuntime) {
     copy.push_slice_unchecked_metered(b"def", &mut meter);
     has(&rt, &copy, b"abcdef", &meter, 9);
     has(&rt, &abc, b"abc", &meter, 9);
-    assert_eq!(rt; abc.capacity(), 23);
+    equals(&rt, &abc.capacity(), &23);
 }
 
 #[test]
@@ -29,28 +30,30 @@ fn inline_writes(rt: HostRuntime) {
     let abcdef = Inline::<23>::new_unchecked(b"abcdef");
     let mut copy = must(&rt, abcdef.clone());
     copy.as_mut_slice()[0] = b'x';
-    assert_eq!(rt; copy.as_slice(), b"xbcdef".as_slice());
+    equals(&rt, &copy.as_slice(), &b"xbcdef".as_slice());
     copy.truncate(2);
-    assert_eq!(rt;
-        (copy.as_slice(), abcdef.as_slice()),
-        (b"xb".as_slice(), b"abcdef".as_slice())
+    equals(
+        &rt,
+        &(copy.as_slice(), abcdef.as_slice()),
+        &(b"xb".as_slice(), b"abcdef".as_slice()),
     );
 }
 
 #[test]
 fn inline_limits(rt: HostRuntime) {
     let stars = [b'*'; 24];
-    assert_eq!(rt;
-        (
+    equals(
+        &rt,
+        &(
             Inline::<23>::new(&stars).is_none(),
             Inline::<23>::new(&stars[..23]).is_some(),
-            Inline::<23>::empty().is_empty()
+            Inline::<23>::empty().is_empty(),
         ),
-        (true, true, true)
+        &(true, true, true),
     );
     let mut two = Inline::<23>::new_unchecked(b"ab");
     two.push_slice_unchecked(b"cd");
-    assert_eq!(rt; two.as_slice(), b"abcd".as_slice());
+    equals(&rt, &two.as_slice(), &b"abcd".as_slice());
 }
 
 /// A list of each number of bytes that it can hold.
@@ -59,16 +62,17 @@ fn inline_of_each_length(rt: HostRuntime) {
     let letters = b"abcdefghijklmnopqrstuvwxyzABCDEFGHIJKLMNOPQRSTUVWXYZ0123456789+/";
     for len in 0..65 {
         let inline = Inline::<64>::new_unchecked(&letters[..len]);
-        assert_eq!(rt; inline.as_slice(), &letters[..len]);
+        equals(&rt, &inline.as_slice(), &&letters[..len]);
     }
 }
 
 #[test]
 fn inline_zeros(rt: HostRuntime) {
     let five = Inline::<23>::zeroed(5);
-    assert_eq!(rt;
-        (five.as_slice(), Inline::<23>::zeroed(0).len()),
-        ([0_u8; 5].as_slice(), 0)
+    equals(
+        &rt,
+        &(five.as_slice(), Inline::<23>::zeroed(0).len()),
+        &([0_u8; 5].as_slice(), 0),
     );
 }
 
@@ -77,8 +81,9 @@ fn borrowed_bytes(rt: HostRuntime) {
     let mut abc = Borrowed::new(b"abc");
     let copy = abc;
     abc.truncate(2);
-    assert_eq!(rt;
-        (abc.as_slice(), copy.len(), copy.is_empty()),
-        (b"ab".as_slice(), 3, false)
+    equals(
+        &rt,
+        &(abc.as_slice(), copy.len(), copy.is_empty()),
+        &(b"ab".as_slice(), 3, false),
     );
 }

@@ -1,5 +1,5 @@
 //! The contracts of an owner of bytes.
-use super::support::{must, must_refuse};
+use super::support::{equals, must, must_refuse};
 use hip_raw::{Appended, Backend, Meter, Rc, Room, Unique};
 use std::alloc::Global;
 use std::process::Abort;
@@ -9,10 +9,11 @@ fn parted<B: Backend>(rt: &impl Abort, alloc: Global, meter: &mut Meter, copied:
     let vec = must(rt, vec![in alloc; 1]);
     let first = must(rt, B::own(alloc, vec, meter));
     let (second, position) = must(rt, first.part(alloc, 0, 1, meter));
-    assert_eq!(rt; (position, meter.copied()), (0, copied));
-    assert_eq!(rt;
-        (first.as_slice(), second.as_slice()),
-        ([1].as_slice(), [1].as_slice())
+    equals(rt, &(position, meter.copied()), &(0, copied));
+    equals(
+        rt,
+        &(first.as_slice(), second.as_slice()),
+        &([1].as_slice(), [1].as_slice()),
     );
     (first, second)
 }
@@ -26,7 +27,7 @@ fn hands_out<B: Backend>(
     meter: &mut Meter,
 ) {
     let vec = must(rt, owner.try_into_vec(alloc, meter));
-    assert_eq!(rt; vec.as_slice(), items);
+    equals(rt, &vec.as_slice(), &items);
 }
 
 /// Writes the first byte, if the owner is a sole one and has one.
@@ -42,9 +43,10 @@ fn writes<B: Backend>(owner: &mut B, byte: u8) {
 fn both_are_sole(rt: &impl Abort, alloc: Global) {
     let mut meter = Meter::new();
     let (mut first, mut second) = parted::<Unique>(rt, alloc, &mut meter, 2);
-    assert_eq!(rt;
-        (first.writable().is_some(), second.writable().is_some()),
-        (true, true)
+    equals(
+        rt,
+        &(first.writable().is_some(), second.writable().is_some()),
+        &(true, true),
     );
     hands_out(rt, alloc, first, &[1], &mut meter);
     hands_out(rt, alloc, second, &[1], &mut meter);
@@ -59,14 +61,15 @@ fn lets_go<B: Backend>(rt: &impl Abort, alloc: Global, owner: B, meter: &mut Met
 fn the_last_is_sole(rt: &impl Abort, alloc: Global) {
     let mut meter = Meter::new();
     let (mut first, mut second) = parted::<Rc>(rt, alloc, &mut meter, 0);
-    assert_eq!(rt;
-        (first.writable().is_none(), second.writable().is_none()),
-        (true, true)
+    equals(
+        rt,
+        &(first.writable().is_none(), second.writable().is_none()),
+        &(true, true),
     );
     lets_go(rt, alloc, second, &mut meter);
     assert!(rt; first.writable().is_some());
     hands_out(rt, alloc, first, &[1], &mut meter);
-    assert_eq!(rt; meter.copied(), 0);
+    equals(rt, &meter.copied(), &0);
 }
 
 #[test]
@@ -81,9 +84,10 @@ fn an_owner_of_its_own_is_written_alone(rt: HostRuntime) {
     let alloc = rt.alloc();
     let (first, mut second) = parted::<Unique>(&rt, alloc, &mut Meter::new(), 2);
     writes(&mut second, 2);
-    assert_eq!(rt;
-        (first.as_slice(), second.as_slice()),
-        ([1].as_slice(), [2].as_slice())
+    equals(
+        &rt,
+        &(first.as_slice(), second.as_slice()),
+        &([1].as_slice(), [2].as_slice()),
     );
     hands_out(&rt, alloc, second, &[2], &mut Meter::new());
 }
@@ -94,7 +98,11 @@ fn the_last_owner_is_written_in_place(rt: HostRuntime) {
     let mut meter = Meter::new();
     let (mut first, second) = parted::<Rc>(&rt, alloc, &mut meter, 0);
     drop(second);
-    assert_eq!(rt; first.append(alloc, 0, b"ab", &mut meter), Appended::Done);
+    equals(
+        &rt,
+        &first.append(alloc, 0, b"ab", &mut meter),
+        &Appended::Done,
+    );
     hands_out(&rt, alloc, first, b"ab", &mut meter);
-    assert_eq!(rt; meter.copied(), 2);
+    equals(&rt, &meter.copied(), &2);
 }

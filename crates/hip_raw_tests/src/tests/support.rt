@@ -1,6 +1,7 @@
 //! The ends of a test that a call brings about.
 ghost use Rattle.std.specs.Prelude.{◌≡◌, Ok, Err};
 
+use std::fmt;
 use std::process::Abort;
 
 /// The value, or the end of the test where it was refused. A test with no way out but this is a straight line, and cheap to prove.
@@ -21,4 +22,9 @@ pub(crate) fn must_refuse<T: Drop, E>(rt: &impl Abort, outcome: Result<T, E>) ->
         Ok(_) => panic!(rt; "a call wasn't refused"),
         Err(error) => error,
     }
+}
+
+/// Asserts that two values are equal.
+pub(crate) fn equals<T: PartialEq + fmt::Debug>(rt: &impl Abort, found: &T, wanted: &T) {
+    assert_eq!(rt; *found, *wanted);
 }

@@ -1,6 +1,6 @@
 //! hipstr's own tests of texts, and worked cases.
 use super::suite::{Suite, run_on_each};
-use super::support::{holds, is, must, reads};
+use super::support::{equals, holds, is, must, reads};
 use super::text::{Bytes, Text};
 use hip_text::{Backend, HipStr, Kind, Meter, Rc, Unique};
 use std::alloc::Global;
@@ -57,7 +57,11 @@ fn into_strings<T: Text>(rt: &impl Abort, alloc: Global) {
 
 /// Asserts what bytes hold, and where.
 fn has<T: Text>(rt: &impl Abort, bytes: T::Bytes, text: &str, kind: Kind) {
-    assert_eq!(rt; (bytes.as_slice(), bytes.kind()), (text.as_bytes(), kind));
+    equals(
+        rt,
+        &(bytes.as_slice(), bytes.kind()),
+        &(text.as_bytes(), kind),
+    );
 }
 
 /// A text becomes bytes by the call of that name, and by `From`.
@@ -70,10 +74,10 @@ fn into_bytes<T: Text>(rt: &impl Abort, alloc: Global) {
             *kind,
         );
         let bytes = made::<T>(rt, alloc, *way, text).into();
-        assert_eq!(rt; bytes.kind(), *kind);
+        equals(rt, &bytes.kind(), &(*kind));
         let vec = must(rt, bytes.into_vec_copied(alloc));
         let wanted = text.as_bytes();
-        assert_eq!(rt; vec.as_slice(), wanted);
+        equals(rt, &vec.as_slice(), &wanted);
     }
 }
 
@@ -121,21 +125,23 @@ fn order<T: Text>(rt: &impl Abort, alloc: Global) {
     for (other, order) in ORDERED {
         let string = must(rt, String::from_str(alloc, other));
         let lent = string.as_str();
-        assert_eq!(rt;
-            (
+        equals(
+            rt,
+            &(
                 bb.cmp(&T::borrowed(other)),
                 bb.str_cmp(lent),
-                bb.cmp_with(lent)
+                bb.cmp_with(lent),
             ),
-            (*order, *order, *order)
+            &(*order, *order, *order),
         );
-        assert_eq!(rt;
-            (
+        equals(
+            rt,
+            &(
                 bb.str_cmp(other),
                 T::cmp_borrowed("bb", lent),
-                T::cmp_borrowed(lent, "bb")
+                T::cmp_borrowed(lent, "bb"),
             ),
-            (*order, *order, order.reverse())
+            &(*order, *order, order.reverse()),
         );
     }
 }
@@ -146,19 +152,21 @@ fn equality_wherever_they_lie<T: Text>(rt: &impl Abort, alloc: Global) {
         must(rt, T::from_str(alloc, CAPITALS)),
         T::borrowed(CAPITALS),
     );
-    assert_eq!(rt;
-        (
+    equals(
+        rt,
+        &(
             copied == copied,
             lent == lent,
             copied == lent,
-            lent == copied
+            lent == copied,
         ),
-        (true, true, true, true)
+        &(true, true, true, true),
     );
     let front = must(rt, lent.slice(alloc, 0..4));
-    assert_eq!(rt;
-        (lent == front, copied.str_eq(CAPITALS), front.as_str()),
-        (false, true, "AAAA")
+    equals(
+        rt,
+        &(lent == front, copied.str_eq(CAPITALS), front.as_str()),
+        &(false, true, "AAAA"),
     );
 }
 
@@ -166,7 +174,7 @@ fn equality<T: Text>(rt: &impl Abort, alloc: Global) {
     for (way, text, _) in WAYS {
         let value = made::<T>(rt, alloc, *way, text);
         let clone = must(rt, value.clone(alloc));
-        assert_eq!(rt; (value == clone, value.eq_with(text)), (true, true));
+        equals(rt, &(value == clone, value.eq_with(text)), &(true, true));
     }
 }
 
@@ -176,7 +184,7 @@ fn outlives<T: Text>(rt: &impl Abort, alloc: Global) {
     let mut meter = Meter::new();
     let name = must(rt, source.slice_metered_from(alloc, 6, &mut meter));
     drop(source);
-    assert_eq!(rt; meter.copied(), 4);
+    equals(rt, &meter.copied(), &4);
     is(rt, name, "John", Kind::Inline);
 }
 
@@ -189,7 +197,7 @@ fn example<T: Text>(rt: &impl Abort, alloc: Global) {
     let source = must(rt, T::from_string(alloc, string));
     let name = must(rt, source.slice(alloc, 6..10));
     drop(source);
-    assert_eq!(rt; name.as_str().chars().count(), 4);
+    equals(rt, &name.as_str().chars().count(), &4);
     is(rt, name, "John", Kind::Inline);
 }
 
@@ -207,9 +215,10 @@ fn pushes<T: Text>(rt: &impl Abort, alloc: Global) {
     for (count, c, len, kind) in AT_THE_LIMIT {
         let mut text = must(rt, T::borrowed("a").repeat(alloc, *count));
         must(rt, text.push(alloc, *c));
-        assert_eq!(rt;
-            (text.len(), text.kind(), text.pop()),
-            (*len, *kind, Some(*c))
+        equals(
+            rt,
+            &(text.len(), text.kind(), text.pop()),
+            &(*len, *kind, Some(*c)),
         );
     }
 }
@@ -221,7 +230,7 @@ fn shortens<T: Text>(rt: &impl Abort, alloc: Global) {
         reads(rt, text.as_str(), "aé😀");
     }
     for last in [Some('😀'), Some('é'), Some('a'), None] {
-        assert_eq!(rt; text.pop(), last);
+        equals(rt, &text.pop(), &last);
     }
     let mut text = must(rt, T::from_str(alloc, "aé😀"));
     must(rt, text.truncate(3));
@@ -261,9 +270,10 @@ fn stays_borrowed<B: Backend>(rt: &impl Abort, alloc: Global) {
         HipStr::<B>::from_cow(alloc, CowStr::Borrowed(string.as_str())),
     );
     let both = (text, HipStr::<B>::borrowed("abc"));
-    assert_eq!(rt;
-        (both.0.is_borrowed(), both.1.is_borrowed(), both.0.as_str()),
-        (true, true, "abc")
+    equals(
+        rt,
+        &(both.0.is_borrowed(), both.1.is_borrowed(), both.0.as_str()),
+        &(true, true, "abc"),
     );
 }
 

@@ -1,6 +1,6 @@
 //! Bytes that are UTF-8, that aren't, and their repair.
 use super::suite::{Suite, run_on_each};
-use super::support::{cause_of, debugged, must, must_refuse, reads, shown};
+use super::support::{cause_of, debugged, equals, must, must_refuse, reads, shown};
 use super::text::{Bytes, FromUtf8Error, Text};
 use hip_text::Kind;
 use std::alloc::Global;
@@ -72,9 +72,13 @@ const REPAIRED: &[Repaired] = &[
 fn accepts<T: Text>(rt: &impl Abort, alloc: Global) {
     for bytes in ACCEPTED {
         let text = must(rt, T::from_utf8(T::Bytes::borrowed(bytes)));
-        assert_eq!(rt; (text.as_bytes(), text.kind()), (*bytes, Kind::Borrowed));
+        equals(
+            rt,
+            &(text.as_bytes(), text.kind()),
+            &(*bytes, Kind::Borrowed),
+        );
         let copied = must(rt, T::try_from_slice(alloc, bytes));
-        assert_eq!(rt; copied.as_bytes(), *bytes);
+        equals(rt, &copied.as_bytes(), &(*bytes));
     }
 }
 
@@ -85,10 +89,14 @@ fn refuses<T: Text>(rt: &impl Abort, alloc: Global) {
         let clone = must_refuse(rt, T::from_utf8(must(rt, value.clone(alloc))));
         let error = must_refuse(rt, T::from_utf8(value));
         let cause = (*front, *len);
-        assert_eq!(rt; (cause_of(&error), error.as_bytes()), (cause, *bytes));
+        equals(rt, &(cause_of(&error), error.as_bytes()), &(cause, *bytes));
         let cloned = must(rt, error.clone(alloc));
-        assert_eq!(rt; (clone == error, cloned == error), (true, true));
-        assert_eq!(rt; (cause_of(&cloned), cloned.as_bytes()), (cause, *bytes));
+        equals(rt, &(clone == error, cloned == error), &(true, true));
+        equals(
+            rt,
+            &(cause_of(&cloned), cloned.as_bytes()),
+            &(cause, *bytes),
+        );
     }
 }
 
@@ -104,7 +112,7 @@ fn repairs_by_length<T: Text>(rt: &impl Abort, alloc: Global) {
     for (len, kind) in [(7, Kind::Inline), (8, Kind::Allocated)] {
         let faults = must(rt, T::Bytes::borrowed(b"\xFF").repeat(alloc, len));
         let repaired = must(rt, T::from_utf8_lossy(alloc, faults));
-        assert_eq!(rt; (repaired.len(), repaired.kind()), (3 * len, kind));
+        equals(rt, &(repaired.len(), repaired.kind()), &(3 * len, kind));
     }
 }
 

@@ -1,7 +1,7 @@
 //! Ranges that are refused, and bytes that aren't a text.
 use super::faults::{Refusal, Told};
 use super::suite::{Suite, run_on_each};
-use super::support::{cause_of, is, must, must_refuse, reads, shown};
+use super::support::{cause_of, equals, is, must, must_refuse, reads, shown};
 use super::text::{Bytes, FromUtf8Error, Text};
 use hip_text::{BytesFault, Kind, SliceErrorKind};
 use std::alloc::Global;
@@ -196,24 +196,27 @@ fn refuses<T: Text>(rt: &impl Abort, alloc: Global, source: &'static str, rows: 
 /// Asserts what the error tells.
 fn tells(rt: &impl Abort, told: Told, source: &str, row: Refused) {
     let (_, _, kind, start, end, text) = row;
-    assert_eq!(rt;
-        (told.kind, told.start, told.end, told.range),
-        (kind, start, end, start..end)
+    equals(
+        rt,
+        &(told.kind, told.start, told.end, told.range),
+        &(kind, start, end, start..end),
     );
-    assert_eq!(rt;
-        (told.source.as_str(), told.display.as_str()),
-        (source, text)
+    equals(
+        rt,
+        &(told.source.as_str(), told.display.as_str()),
+        &(source, text),
     );
 }
 
 /// Bytes that aren't a text come back from the error as they were.
 fn is_kept<T: Text>(rt: &impl Abort, bytes: T::Bytes, kind: Kind) {
     let error = must_refuse(rt, T::from_utf8(bytes));
-    assert_eq!(rt; cause_of(&error), (3, Some(1)));
+    equals(rt, &cause_of(&error), &(3, Some(1)));
     let back = error.into_bytes();
-    assert_eq!(rt;
-        (back.as_slice(), back.kind()),
-        (b"abc\xFF".as_slice(), kind)
+    equals(
+        rt,
+        &(back.as_slice(), back.kind()),
+        &(b"abc\xFF".as_slice(), kind),
     );
 }
 
@@ -239,15 +242,16 @@ fn text_of_the_error<T: Text>(rt: &impl Abort, alloc: Global) {
 
 fn not_utf8_in_a_slice<T: Text>(rt: &impl Abort, alloc: Global) {
     let fault = must_refuse(rt, T::try_from_slice(alloc, b"abc\x80"));
-    assert_eq!(rt; fault, BytesFault::NotUtf8);
+    equals(rt, &fault, &BytesFault::NotUtf8);
 }
 
 fn not_utf8_in_a_vector<T: Text>(rt: &impl Abort, alloc: Global) {
     let vec = must(rt, Vec::from_slice(alloc, b"abc\x80"));
     let (fault, back) = must_refuse(rt, T::try_from_vec(alloc, vec));
-    assert_eq!(rt;
-        (fault, back.as_slice()),
-        (BytesFault::NotUtf8, b"abc\x80".as_slice())
+    equals(
+        rt,
+        &(fault, back.as_slice()),
+        &(BytesFault::NotUtf8, b"abc\x80".as_slice()),
     );
 }
 

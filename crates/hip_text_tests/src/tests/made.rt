@@ -1,6 +1,6 @@
 //! Joins and repetitions, and texts of units of UTF-16.
 use super::suite::{Suite, run_on_each};
-use super::support::{is, must, must_refuse, reads};
+use super::support::{equals, is, must, must_refuse, reads};
 use super::text::{Bytes, FromUtf8Error, Text};
 use hip_text::{GrowFault, HipStr, Kind, Meter, Rc, Utf16Fault};
 use std::alloc::Global;
@@ -38,7 +38,7 @@ fn concatenates<T: Text>(rt: &impl Abort, alloc: Global) {
         rt,
         T::concat_slices_metered(alloc, &["é", "", "z"], &mut meter),
     );
-    assert_eq!(rt; (whole.as_str(), meter.copied()), ("éz", 3));
+    equals(rt, &(whole.as_str(), meter.copied()), &("éz", 3));
     let whole = must(rt, T::concat(alloc, ["é", "", "z"]));
     reads(rt, whole.as_str(), "éz");
 }
@@ -47,7 +47,7 @@ fn repeats<T: Text>(rt: &impl Abort, alloc: Global) {
     let text = must(rt, T::from_str(alloc, "é"));
     is(rt, must(rt, text.repeat(alloc, 3)), "ééé", Kind::Inline);
     let fault = must_refuse(rt, text.repeat(alloc, usize::MAX));
-    assert_eq!(rt; fault, GrowFault::TooLong);
+    equals(rt, &fault, &GrowFault::TooLong);
     let twice = must(rt, T::borrowed("é-").repeat(alloc, 2));
     is(rt, twice, "é-é-", Kind::Inline);
 }
@@ -94,7 +94,7 @@ fn reads_units<T: Text>(rt: &impl Abort, alloc: Global) {
 fn refuses_units<T: Text>(rt: &impl Abort, alloc: Global) {
     for (units, at, text) in UNPAIRED {
         let fault = must_refuse(rt, T::from_utf16(alloc, units));
-        assert_eq!(rt; fault, Utf16Fault::Unpaired(*at));
+        equals(rt, &fault, &Utf16Fault::Unpaired(*at));
         let read = must(rt, T::from_utf16_lossy(alloc, units));
         reads(rt, read.as_str(), text);
     }
@@ -106,8 +106,8 @@ fn compares_errors<T: Text>(rt: &impl Abort, alloc: Global) {
     let copied = must_refuse(rt, T::from_utf8(copied));
     let same = must_refuse(rt, T::from_utf8(T::Bytes::borrowed(b"a\xFF")));
     let other = must_refuse(rt, T::from_utf8(T::Bytes::borrowed(b"b\xFF")));
-    assert_eq!(rt; (copied == same, copied != same), (true, false));
-    assert_eq!(rt; (other == same, other != same), (false, true));
+    equals(rt, &(copied == same, copied != same), &(true, false));
+    equals(rt, &(other == same, other != same), &(false, true));
     assert!(rt; must(rt, same.clone(alloc)) == same);
 }
 
@@ -137,5 +137,5 @@ fn a_closure_writes(rt: HostRuntime) {
         |string: &mut String| string.push_str(", World!"),
     );
     must(&rt, must(&rt, pushed));
-    assert_eq!(&rt; text.as_str(), "Hello, World!");
+    equals(&rt, &text.as_str(), &"Hello, World!");
 }

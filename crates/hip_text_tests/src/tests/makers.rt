@@ -1,6 +1,6 @@
 //! Makers, conversions, pushes, `pop`, case, comparisons and guards.
 use super::suite::{Suite, run_on_each};
-use super::support::{holds, is, must, must_refuse, reads};
+use super::support::{equals, holds, is, must, must_refuse, reads};
 use super::text::Text;
 use hip_text::Kind;
 use std::alloc::{AllocError, Global};
@@ -25,13 +25,18 @@ fn rooms<T: Text>(rt: &impl Abort, alloc: Global) {
         must(rt, T::from_str(alloc, "abc")),
         must(rt, T::from_str(alloc, "abc")),
     );
-    assert_eq!(rt;
-        (one == other, one.capacity(), T::inline_capacity()),
-        (true, 23, 23)
+    equals(
+        rt,
+        &(one == other, one.capacity(), T::inline_capacity()),
+        &(true, 23, 23),
     );
     let many = must(rt, T::borrowed("a").repeat(alloc, 100));
     let copied = must(rt, T::from_str(alloc, many.as_str()));
-    assert_eq!(rt; (copied.str_eq(many.as_str()), copied.len()), (true, 100));
+    equals(
+        rt,
+        &(copied.str_eq(many.as_str()), copied.len()),
+        &(true, 100),
+    );
     let room = must(rt, T::with_capacity(alloc, 42));
     assert!(rt; room.capacity() >= 42);
     is(rt, room, "", Kind::Allocated);
@@ -40,7 +45,7 @@ fn rooms<T: Text>(rt: &impl Abort, alloc: Global) {
 /// A lent text comes out again, and a copy is handed back.
 fn borrows<T: Text>(rt: &impl Abort, alloc: Global) {
     let lent = T::borrowed(LETTERS);
-    assert_eq!(rt; lent.capacity(), 26);
+    equals(rt, &lent.capacity(), &26);
     reads(rt, must(rt, lent.into_borrowed()), LETTERS);
     let copied = must(rt, T::from_str(alloc, LETTERS));
     is(
@@ -66,7 +71,7 @@ fn keys<T: Text>(rt: &impl Abort, alloc: Global) {
     let key = must(rt, T::from_str(alloc, "é"));
     let (same, other) = (T::borrowed("é"), T::borrowed("e"));
     let ages = must(rt, ages_of(alloc, key, (&same, &other)));
-    assert_eq!(rt; ages, (Some(7), None));
+    equals(rt, &ages, &(Some(7), None));
 }
 
 fn cuts<T: Text>(rt: &impl Abort, alloc: Global) {
@@ -98,9 +103,9 @@ fn pushes<T: Text>(rt: &impl Abort, alloc: Global) {
     must(rt, text.push(alloc, 'é'));
     holds(rt, &text, "café", Kind::Inline);
     must(rt, text.push_str(alloc, LETTERS));
-    assert_eq!(rt; (text.len(), text.kind()), (31, Kind::Allocated));
+    equals(rt, &(text.len(), text.kind()), &(31, Kind::Allocated));
     must(rt, text.truncate(5));
-    assert_eq!(rt; (text.pop(), text.pop()), (Some('é'), Some('f')));
+    equals(rt, &(text.pop(), text.pop()), &(Some('é'), Some('f')));
     holds(rt, &text, "ca", Kind::Inline);
 }
 

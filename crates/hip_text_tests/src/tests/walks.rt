@@ -51,24 +51,48 @@ fn is_drawn<B: Backend>(
     }
 }
 
-/// Whether the script, a bit for each end, draws these pieces, and none again and again once none is left.
+/// Whether this is drawn from that end, or nothing.
+fn draws_at<'h, 'b, B: Backend, I: Unnumbered + RangesBack + Drop>(
+    pieces: &mut IterWrapper<'h, 'b, B, I>,
+    is_back: bool,
+    want: Option<&str>,
+) -> bool {
+    if is_back {
+        is_drawn(pieces.next_back(), want)
+    } else {
+        is_drawn(pieces.next(), want)
+    }
+}
+
+/// The text at that end.
+fn at_end(texts: &[&'static str], is_back: bool) -> Option<&'static str> {
+    if is_back {
+        texts.last().copied()
+    } else {
+        texts.first().copied()
+    }
+}
+
+/// The texts but that at that end.
+fn without_end<'t>(texts: &'t [&'static str], is_back: bool) -> &'t [&'static str] {
+    match texts {
+        [rest @ .., _] if is_back => rest,
+        [_, rest @ ..] => rest,
+        [] => texts,
+    }
+}
+
+/// Whether the script, a bit for each end, draws these pieces, and none again and again once none is left. It is gone through twice.
 fn follows<'h, 'b, B: Backend, I: Unnumbered + RangesBack + Drop>(
     mut pieces: IterWrapper<'h, 'b, B, I>,
     script: u8,
-    mut left: &[&str],
+    mut left: &[&'static str],
 ) -> bool {
     let mut is_same = true;
-    for step in [1u8, 2, 4, 8, 16, 32] {
-        if script & step == 0 {
-            is_same &= is_drawn(pieces.next(), left.first().copied());
-            left = left.get(1..).unwrap_or_default();
-        } else {
-            is_same &= is_drawn(pieces.next_back(), left.last().copied());
-            left = left.get(..left.len().saturating_sub(1)).unwrap_or_default();
-        }
-    }
-    for _ in 0..3 {
-        is_same &= pieces.next().is_none() & pieces.next_back().is_none();
+    for step in [1u8, 2, 4, 8, 16, 32, 1, 2, 4, 8, 16, 32] {
+        let is_back = script & step != 0;
+        is_same &= draws_at(&mut pieces, is_back, at_end(left, is_back));
+        left = without_end(left, is_back);
     }
     is_same
 }

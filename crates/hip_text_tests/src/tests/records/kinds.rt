@@ -1,5 +1,5 @@
 //! The kinds of fields, and how many bytes are copied for them.
-use crate::tests::support::must;
+use crate::tests::support::{equals, must};
 use hip_cuts::{Backend, HipStr, Kind, Meter, Rc, Unique};
 use hip_fields::records_metered;
 use std::alloc::Global;
@@ -26,13 +26,15 @@ fn are<B: Backend>(
     let mut meter = Meter::new();
     let records = must(rt, records_metered(alloc, source, ',', &mut meter));
     let fields: &[HipStr<'_, B>] = records.first().map_or(&[], |fields| fields.as_slice());
-    assert_eq!(rt;
-        (records.len(), fields.len(), meter.copied()),
-        (1, 2, wanted.2)
+    equals(
+        rt,
+        &(records.len(), fields.len(), meter.copied()),
+        &(1, 2, wanted.2),
     );
-    assert_eq!(rt;
-        (seen(fields.first()), seen(fields.last())),
-        (Some((40, wanted.0)), Some((2, wanted.1)))
+    equals(
+        rt,
+        &(seen(fields.first()), seen(fields.last())),
+        &(Some((40, wanted.0)), Some((2, wanted.1))),
     );
 }
 

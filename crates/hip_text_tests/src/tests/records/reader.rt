@@ -1,6 +1,6 @@
 //! Records that are drawn one after another.
 use super::told::tell;
-use crate::tests::support::must;
+use crate::tests::support::{equals, must};
 use hip_cuts::hip_match::ranges::Ranges;
 use hip_cuts::{Backend, HipStr, Meter, Rc, Unique};
 use hip_fields::reader::Records;
@@ -19,7 +19,7 @@ fn draws<'h, 'b, B: Backend, I: Ranges + Drop>(
     if let Some(fields) = records.next_record_metered(alloc, &mut meter) {
         must(rt, tell(&mut told, &must(rt, fields)));
     }
-    assert_eq!(rt; (told.as_str(), meter.copied()), wanted);
+    equals(rt, &(told.as_str(), meter.copied()), &wanted);
 }
 
 fn drawn<B: Backend>(rt: &impl Abort, alloc: Global) {

@@ -1,6 +1,6 @@
 //! Texts and what their records are, as Rust's `lines` and `split` answer.
 use super::told::told;
-use crate::tests::support::must;
+use crate::tests::support::{equals, must};
 use hip_cuts::{Backend, HipStr, Rc, Unique};
 use hip_fields::records;
 use std::alloc::Global;
@@ -63,7 +63,7 @@ fn counts<B: Backend>(rt: &impl Abort, alloc: Global, text: &str, wanted: (usize
         (0, 0),
         |fields| (fields.len(), fields.first().map_or(0, |field| field.len())),
     );
-    assert_eq!(rt; (records.len(), first.0, first.1), wanted);
+    equals(rt, &(records.len(), first.0, first.1), &wanted);
 }
 
 /// Ten thousand lines that are empty, and one of a mebibyte.
