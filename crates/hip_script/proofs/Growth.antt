@@ -4,14 +4,14 @@ use Rattle.std.proofs.lemmas.List.{append-nil, take-append-le, drop-append-le, l
 use Rattle.std.specs.List.{slice_range}
 use Rattle.std.specs.Option.{MatchOption, option_and_then, option_map}
 use Rattle.std.specs.Str.{is_utf8}
-use Rattle.hip_script.specs.Said.{Grows, Held, IsSpan, IsWithin, QuotedWithin, ReadsFields, fields_in, in_span, no_rare, quoted_in, rare_in}
+use Rattle.hip_script.specs.Said.{AreWithin, Grows, Held, IsListed, IsSpan, IsWithin, QuotedWithin, ReadsFields, arguments_in, fields_in, fields_with, in_span, no_arguments, quoted_in}
 use Rattle.hip_script.specs.Spoken.{Fields}
 use Rattle.hip_script.specs.Spoken.Pattern.{TextOf, AnyOf}
 use Rattle.hip_script.specs.Spoken.Quoted.{Plainly, Sought}
 use Rattle.hip_script.specs.Words.{Left}
-use Rattle.hip_script.specs.declared.said.Quoted.{Quoted as Said_quoted}
-use Rattle.hip_script.specs.declared.said.Quoted.TheVariants.{Bytes, DecodedBytes, Text, DecodedText, Char, Any}
-use Rattle.hip_script.specs.declared.said.Rare.{Rare}
+use Rattle.hip_script.specs.declared.said.Argument.{Argument}
+use Rattle.hip_script.specs.declared.said.Argument.TheVariants.{Number, Between, Bytes, DecodedBytes, Text, DecodedText, Char, Any, All}
+use Rattle.hip_script.specs.declared.said.Arguments.{Arguments}
 use Rattle.hip_script.specs.declared.said.Said.{Said}
 use Rattle.hip_script.specs.declared.said.Span.{Span}
 
@@ -36,8 +36,8 @@ grows-none held = record {
   chars = sym (append-nil held.chars);
   more_ends = [];
   ends = sym (append-nil held.ends);
-  more_rares = [];
-  rares = sym (append-nil held.rares);
+  more_arguments = [];
+  arguments = sym (append-nil held.arguments);
 }
 
 joined : {A : Type 0} (a b c xs ys : List A) → b ≡ a ++ xs → c ≡ b ++ ys → c ≡ a ++ (xs ++ ys)
@@ -51,41 +51,54 @@ grows-then a b c first second = record {
   chars = joined a.chars b.chars c.chars first.more_chars second.more_chars first.chars second.chars;
   more_ends = first.more_ends ++ second.more_ends;
   ends = joined a.ends b.ends c.ends first.more_ends second.more_ends first.ends second.ends;
-  more_rares = first.more_rares ++ second.more_rares;
-  rares = joined a.rares b.rares c.rares first.more_rares second.more_rares first.rares second.rares;
+  more_arguments = first.more_arguments ++ second.more_arguments;
+  arguments = joined a.arguments b.arguments c.arguments first.more_arguments second.more_arguments first.arguments second.arguments;
 }
 
 -- an item stays at its place when more are added, and the last one that was added stands at the end
-place-added : (xs more : List Rare) (i : ℕ) (d : Rare) → i < length xs → get_or (xs ++ more) i d ≡ get_or xs i d
+place-added : (xs more : List Arguments) (i : ℕ) (d : Arguments) → i < length xs → get_or (xs ++ more) i d ≡ get_or xs i d
 place-added [] more i d inside = absurd (omega arith)
 place-added (x ∷ xs) more zero d inside = refl
 place-added (x ∷ xs) more (suc i) d inside = place-added xs more i d (omega arith)
 
-place-last : (xs : List Rare) (x d : Rare) → get_or (xs ++ x ∷ []) (length xs) d ≡ x
+pub place-last : (xs : List Arguments) (x d : Arguments) → get_or (xs ++ x ∷ []) (length xs) d ≡ x
 place-last [] x d = refl
 place-last (y ∷ ys) x d = place-last ys x d
 
-place-same : (xs : List Rare) (i : ℕ) (d e : Rare) → i < length xs → get_or xs i d ≡ get_or xs i e
+pub place-same : (xs : List Arguments) (i : ℕ) (d e : Arguments) → i < length xs → get_or xs i d ≡ get_or xs i e
 place-same [] i d e inside = absurd (omega arith)
 place-same (x ∷ xs) zero d e inside = refl
 place-same (x ∷ xs) (suc i) d e inside = place-same xs i d e (omega arith)
 
-pub rare-first : (rares : List Rare) (n : ℕ) (rare : Rare) → n ≡ 0 → rare ≡ no_rare → rare ≡ rare_in rares n
-rare-first rares n rare none is = rw none is
+-- an argument says the same when more are listed
+arguments-grow : (old more : List Arguments) (argument : Argument) → IsListed (length old) argument
+    → arguments_in (old ++ more) argument ≡ arguments_in old argument
+arguments-grow old more (Number number) inside = refl
+arguments-grow old more (Between low high) inside = refl
+arguments-grow old more (Bytes bytes) inside = refl
+arguments-grow old more (DecodedBytes span) inside = refl
+arguments-grow old more (Text text) inside = refl
+arguments-grow old more (DecodedText span) inside = refl
+arguments-grow old more (Char c) inside = refl
+arguments-grow old more (Any span) inside = refl
+arguments-grow old more (All at) inside = place-added old more at no_arguments inside
 
-pub rare-at : (rares : List Rare) (n : ℕ) (d : Rare) → (n ≡ 0 → ⊥) → n ≤ length rares → get_or rares (n - 1) d ≡ rare_in rares n
-rare-at rares zero d some inside = absurd (some refl)
-rare-at rares (suc i) d some inside = ap (λ k. get_or rares k d) (omega arith) ∙ place-same rares i d no_rare (omega arith)
+listed-grows : (old more : List Arguments) (argument : Argument) → IsListed (length old) argument → IsListed (length (old ++ more)) argument
+listed-grows old more (Number number) inside = tt
+listed-grows old more (Between low high) inside = tt
+listed-grows old more (Bytes bytes) inside = tt
+listed-grows old more (DecodedBytes span) inside = tt
+listed-grows old more (Text text) inside = tt
+listed-grows old more (DecodedText span) inside = tt
+listed-grows old more (Char c) inside = tt
+listed-grows old more (Any span) inside = tt
+listed-grows old more (All at) inside = simp length-append (omega arith)
 
-rare-grows : (old more : List Rare) (n : ℕ) → n ≤ length old → rare_in (old ++ more) n ≡ rare_in old n
-rare-grows old more zero inside = refl
-rare-grows old more (suc i) inside = place-added old more i no_rare (omega arith)
-
-pub rare-last : (old : List Rare) (rare : Rare) → rare_in (old ++ rare ∷ []) (suc (length old)) ≡ rare
-rare-last old rare = place-last old rare no_rare
-
-pub quoted-grows : (old new : Held) (quoted : Said_quoted) → Grows old new → QuotedWithin old quoted
+pub quoted-grows : (old new : Held) (quoted : Argument) → Grows old new → QuotedWithin old quoted
     → QuotedWithin new quoted × (quoted_in new quoted ≡ quoted_in old quoted)
+quoted-grows old new (Number number) grows within = (tt, refl)
+quoted-grows old new (Between low high) grows within = (tt, refl)
+quoted-grows old new (All at) grows within = (tt, refl)
 quoted-grows old new (Bytes bytes) grows within = (tt, refl)
 quoted-grows old new (DecodedBytes span) grows within = (
   span-within old.bytes new.bytes grows.more_bytes span grows.bytes within,
@@ -103,23 +116,34 @@ quoted-grows old new (Any span) grows within = (
   ap (λ cs. Sought (AnyOf cs)) (span-in old.chars new.chars grows.more_chars span grows.chars within),
 )
 
-same-rare : (old new : Held) (said : Said) → Grows old new → IsWithin old said → rare_in new.rares said.rare ≡ rare_in old.rares said.rare
-same-rare old new said grows within = rw grows.rares (rare-grows old.rares grows.more_rares said.rare within.rare)
+same-arguments : (old new : Held) (said : Said) → Grows old new → IsWithin old said
+    → arguments_in new.arguments said.argument ≡ arguments_in old.arguments said.argument
+same-arguments old new said grows within = rw grows.arguments (arguments-grow old.arguments grows.more_arguments said.argument within.listed)
+
+pub are-within-grows : (old new : Held) (arguments : Arguments) → Grows old new → AreWithin old arguments → AreWithin new arguments
+are-within-grows old new arguments grows within = record {
+  quoted = (quoted-grows old new arguments.quoted grows within.quoted).0;
+  ends = span-within old.ends new.ends grows.more_ends arguments.ends grows.ends within.ends;
+}
 
 pub within-grows : (old new : Held) (said : Said) → Grows old new → IsWithin old said → IsWithin new said
 within-grows old new said grows within = record {
-  quoted = (quoted-grows old new said.quoted grows within.quoted).0;
-  rare = let inside = within.rare in rw grows.rares (simp length-append (omega arith));
-  ends = subst (λ (rare : Rare). IsSpan (length new.ends) rare.ends) (sym (same-rare old new said grows within))
-      (span-within old.ends new.ends grows.more_ends (rare_in old.rares said.rare).ends grows.ends within.ends);
+  listed = rw grows.arguments (listed-grows old.arguments grows.more_arguments said.argument within.listed);
+  arguments = subst (AreWithin new) (sym (same-arguments old new said grows within))
+      (are-within-grows old new (arguments_in old.arguments said.argument) grows within.arguments);
 }
+
+pub with-grows : (old new : Held) (said : Said) (arguments : Arguments) → Grows old new → AreWithin old arguments
+    → fields_with new said arguments ≡ fields_with old said arguments
+with-grows old new said arguments grows within =
+    ap (λ quoted. record (fields_with new said arguments) { quoted = quoted }) (quoted-grows old new arguments.quoted grows within.quoted).1
+    ∙ ap (λ ends. record (fields_with old said arguments) { ends = ends })
+    (span-in old.ends new.ends grows.more_ends arguments.ends grows.ends within.ends)
 
 pub fields-grow : (old new : Held) (said : Said) → Grows old new → IsWithin old said → fields_in new said ≡ fields_in old said
 fields-grow old new said grows within =
-    ap (λ quoted. record (fields_in new said) { quoted = quoted }) (quoted-grows old new said.quoted grows within.quoted).1
-    ∙ ap (λ (rare : Rare). record (fields_in old said) { low = rare.low; high = rare.high; ends = in_span new.ends rare.ends }) (same-rare old new said grows within)
-    ∙ ap (λ ends. record (fields_in old said) { ends = ends })
-    (span-in old.ends new.ends grows.more_ends (rare_in old.rares said.rare).ends grows.ends within.ends)
+    ap (fields_with new said) (same-arguments old new said grows within)
+    ∙ with-grows old new said (arguments_in old.arguments said.argument) grows within.arguments
 
 -- words that were read on from what others left
 pub reads-then : (first : Option (Fields × Left)) (later : Fields → Left → Option (Fields × Left)) (between after : Left) (a b c : Held) (before mid said : Said)
@@ -135,11 +159,11 @@ reads-then first later between after a b c before mid said one more = record {
 -- a word that needs no buffer
 pub puts : {A : Type 0} (set : A → Fields) (read : Option (A × Left)) (found : Option A) (value : A) (after : Left) (held : Held) (before new : Said)
     → IsWithin held before → MatchOption found (read ≡ None) (λ x. read ≡ Some (x, after)) → found ≡ Some value
-    → new.verb ≡ before.verb → new.quoted ≡ before.quoted → new.rare ≡ before.rare → set value ≡ fields_in held new
+    → new.verb ≡ before.verb → new.argument ≡ before.argument → set value ≡ fields_in held new
     → ReadsFields (option_map (λ (x : A × Left). (set x.0, x.1)) read) after held held before new
-puts set read found value after held before new within told is verb quoted rare fields = record {
+puts set read found value after held before new within told is verb argument fields = record {
   grows = grows-none held;
-  within = record { quoted = rw quoted within.quoted; rare = rw rare within.rare; ends = rw rare within.ends };
+  within = record { listed = rw argument within.listed; arguments = rw argument within.arguments };
   verb = verb;
   read_is =
       let said = rw is at told in

@@ -1,7 +1,7 @@
 -- The records of lines, whose literals stand in the script or in buffers. Only private functions cite these.
-use Rattle.std.specs.Prelude.{◌≡◌, ℕ, zero, suc, ◌≤◌, ◌==◌, ◌||◌, not, Bool, true, List, ◌++◌, length, map, Option, Some, Result, Ok, Err, slice_range, slice_index_or, Vec}
+use Rattle.std.specs.Prelude.{◌≡◌, ℕ, ◌<◌, ◌≤◌, ◌==◌, ◌||◌, not, Bool, true, List, [], ◌++◌, length, map, Option, Some, Result, Ok, Err, slice_range, slice_index_or, Vec}
 use Rattle.std.specs.declared.alloc.Global.{Global}
-use Rattle.std.specs.declared.ops.Bound.TheVariants.{Unbounded}
+use Rattle.std.specs.declared.ops.Bound.TheVariants.{Included, Excluded, Unbounded}
 use Rattle.hipstr.specs.Handle.{Handle}
 use Rattle.std.specs.List.{AllByRecursion}
 use Rattle.std.specs.Str.{is_utf8}
@@ -21,33 +21,47 @@ use Rattle.hip_script.specs.declared.line.Aside.{Aside}
 use Rattle.hip_script.specs.declared.line.Aside.TheVariants.{Show, Copied, Fields as FieldsOf}
 use Rattle.hip_script.specs.declared.line.Line.{Line}
 use Rattle.hip_script.specs.declared.line.Line.TheVariants.{Command as CommandLine, Aside as AsideLine}
+use Rattle.hip_script.specs.declared.said.Argument.{Argument}
+use Rattle.hip_script.specs.declared.said.Argument.TheVariants.{Number, Between, Bytes, DecodedBytes, Text, DecodedText, Char, Any, All}
+use Rattle.hip_script.specs.declared.said.Arguments.{Arguments}
 use Rattle.hip_script.specs.declared.said.Literal.{Literal}
 use Rattle.hip_script.specs.declared.said.Literal.TheVariants.{Plain, Decoded}
-use Rattle.hip_script.specs.declared.said.Quoted.{Quoted as Said_quoted}
-use Rattle.hip_script.specs.declared.said.Quoted.TheVariants.{Bytes, DecodedBytes, Text, DecodedText, Char, Any}
-use Rattle.hip_script.specs.declared.said.Rare.{Rare}
 use Rattle.hip_script.specs.declared.said.Said.{Said}
 use Rattle.hip_script.specs.declared.said.Span.{Span}
 use Rattle.hip_script.specs.declared.script.Script.{Script}
 
--- the contents of the buffers: the bytes of literals, the characters of sets, the ends that pieces are drawn from, and the arguments that
--- few lines have
+-- the contents of the buffers: the bytes of literals, the characters of sets, the ends that pieces are drawn from, and the arguments of
+-- lines that have several
 pub record Held : Type 0 where
   pub bytes : List ℕ
   pub chars : List ℕ
   pub ends : List End
-  pub rares : List Rare
+  pub arguments : List Arguments
 
 abbrev pub held : Buffers → Held
-held buffers = record { bytes = buffers.bytes.items; chars = buffers.chars.items; ends = buffers.ends.items; rares = buffers.rares.items }
+held buffers = record { bytes = buffers.bytes.items; chars = buffers.chars.items; ends = buffers.ends.items; arguments = buffers.arguments.items }
 
--- the rare things that have a number, counted from 1: the whole of a value and no ends where it is 0
-abbrev pub no_rare : Rare
-no_rare = record { low = Unbounded; high = Unbounded; ends = record { start = 0; end = 0 } }
+abbrev pub no_arguments : Arguments
+no_arguments = record { number = 0; low = Unbounded; high = Unbounded; quoted = Number 0; ends = record { start = 0; end = 0 } }
 
-abbrev pub rare_in : List Rare → ℕ → Rare
-rare_in rares zero = no_rare
-rare_in rares (suc i) = slice_index_or rares i no_rare
+-- all arguments of a line that has this one
+abbrev pub arguments_in : List Arguments → Argument → Arguments
+arguments_in listed (Number number) = record no_arguments { number = number }
+arguments_in listed (Between low high) = record no_arguments { low = Included low; high = Excluded high }
+arguments_in listed (All at) = slice_index_or listed at no_arguments
+arguments_in listed quoted = record no_arguments { quoted = quoted }
+
+-- an argument that is a position is one in the list
+abbrev pub IsListed : ℕ → Argument → Type 0
+IsListed len (All at) = at < len
+IsListed len argument = Unit {0}
+
+-- an argument is the value of a literal
+abbrev pub IsQuoted : Argument → Type 0
+IsQuoted (Number number) = ⊥
+IsQuoted (Between low high) = ⊥
+IsQuoted (All at) = ⊥
+IsQuoted quoted = Unit {0}
 
 -- a span lies in a list, and what stands there
 pub record IsSpan (len : ℕ) (span : Span) : Type 0 where
@@ -61,47 +75,52 @@ abbrev pub literal_in : List ℕ → Literal → List ℕ
 literal_in bytes (Plain text) = text.now
 literal_in bytes (Decoded span) = in_span bytes span
 
-abbrev pub quoted_in : Held → Said_quoted → Quoted
+abbrev pub quoted_in : Held → Argument → Quoted
 quoted_in held (Bytes bytes) = Plainly bytes.now
 quoted_in held (DecodedBytes span) = Plainly (in_span held.bytes span)
 quoted_in held (Text text) = Sought (TextOf text.now)
 quoted_in held (DecodedText span) = Sought (TextOf (in_span held.bytes span))
 quoted_in held (Char c) = Sought (CharOf c)
 quoted_in held (Any span) = Sought (AnyOf (in_span held.chars span))
+quoted_in held none = Plainly []
 
 abbrev pub LiteralWithin : List ℕ → Literal → Type 0
 LiteralWithin bytes (Plain text) = Unit {0}
 LiteralWithin bytes (Decoded span) = IsSpan (length bytes) span
 
-abbrev pub QuotedWithin : Held → Said_quoted → Type 0
-QuotedWithin held (Bytes bytes) = Unit {0}
+abbrev pub QuotedWithin : Held → Argument → Type 0
 QuotedWithin held (DecodedBytes span) = IsSpan (length held.bytes) span
-QuotedWithin held (Text text) = Unit {0}
 QuotedWithin held (DecodedText span) = IsSpan (length held.bytes) span × (is_utf8 (in_span held.bytes span) ≡ true)
-QuotedWithin held (Char c) = Unit {0}
 QuotedWithin held (Any span) = IsSpan (length held.chars) span
+QuotedWithin held argument = Unit {0}
 
--- the positions in a line's record lie within the buffers
+-- the positions in arguments, and those in a line's record, lie within the buffers
+pub record AreWithin (held : Held) (arguments : Arguments) : Type 0 where
+  pub quoted : QuotedWithin held arguments.quoted
+  pub ends : IsSpan (length held.ends) arguments.ends
+
 pub record IsWithin (held : Held) (said : Said) : Type 0 where
-  pub quoted : QuotedWithin held said.quoted
-  pub rare : said.rare ≤ length held.rares
-  pub ends : IsSpan (length held.ends) (rare_in held.rares said.rare).ends
+  pub listed : IsListed (length held.arguments) said.argument
+  pub arguments : AreWithin held (arguments_in held.arguments said.argument)
 
 -- the arguments in the record of a line
-abbrev pub fields_in : Held → Said → Fields
-fields_in held said = record {
+abbrev pub fields_with : Held → Said → Arguments → Fields
+fields_with held said arguments = record {
   source = said.source;
   target = said.target;
-  number = said.number;
+  number = arguments.number;
   byte = said.byte;
-  low = (rare_in held.rares said.rare).low;
-  high = (rare_in held.rares said.rare).high;
+  low = arguments.low;
+  high = arguments.high;
   side = said.side;
   end = said.end;
-  quoted = quoted_in held said.quoted;
+  quoted = quoted_in held arguments.quoted;
   way = said.way;
-  ends = in_span held.ends (rare_in held.rares said.rare).ends;
+  ends = in_span held.ends arguments.ends;
 }
+
+abbrev pub fields_in : Held → Said → Fields
+fields_in held said = fields_with held said (arguments_in held.arguments said.argument)
 
 abbrev pub says_in : Held → Said → Spoken
 says_in held said = spoken said.verb (fields_in held said)
@@ -135,11 +154,19 @@ pub record Grows (old new : Held) : Type 0 where
   pub chars : new.chars ≡ old.chars ++ more_chars
   pub more_ends : List End
   pub ends : new.ends ≡ old.ends ++ more_ends
-  pub more_rares : List Rare
-  pub rares : new.rares ≡ old.rares ++ more_rares
+  pub more_arguments : List Arguments
+  pub arguments : new.arguments ≡ old.arguments ++ more_arguments
+
+-- an argument has all of these, some of which were perhaps added to the list
+pub record StandsFor (arguments : Arguments) (old new : Held) (argument : Argument) : Type 0 where
+  pub more : List Arguments
+  pub added : new ≡ record old { arguments = old.arguments ++ more }
+  pub listed : IsListed (length new.arguments) argument
+  pub is : arguments_in new.arguments argument ≡ arguments
 
 -- the value of a literal was read into `quoted`
-pub record QuotesAs (said : Option Quoted) (old new : Held) (quoted : Said_quoted) : Type 0 where
+pub record QuotesAs (said : Option Quoted) (old new : Held) (quoted : Argument) : Type 0 where
+  pub is_quoted : IsQuoted quoted
   pub grows : Grows old new
   pub within : QuotedWithin new quoted
   pub is : said ≡ Some (quoted_in new quoted)

@@ -1,58 +1,82 @@
 //! The words of a line are read into its record, and into the buffers of what has no place of its own in the script.
-ghost use Rattle.std.specs.Prelude.{◌≡◌, ◌≤◌, ◌++◌, ℕ, List, false, map, true, None, Some, IfOk, OnOk, OnErr, IsErrOf, length};
+ghost use Rattle.std.specs.Prelude.{◌≡◌, ◌++◌, List, false, map, true, None, Some, IfOk, OnOk, OnErr, IsErrOf, length};
 ghost use Rattle.std.specs.Option.{option_map};
 ghost use Rattle.std.specs.Str.{chars, is_utf8};
 ghost use Rattle.hip_script.specs.Grammar.{follows_said, number_said, only, pattern_said, quoted_as, quoted_said, way_said, word_said, words_said};
-ghost use Rattle.hip_script.specs.Said.{AddsSpan, IsWithin, LiteralWithin, QuotesAs, ReadsFields, fields_in, held, literal_in, rare_in};
+ghost use Rattle.hip_script.specs.Said.{AddsSpan, IsListed, IsWithin, LiteralWithin, QuotesAs, ReadsFields, StandsFor, arguments_in, fields_in, held, literal_in};
 ghost use Rattle.hip_script.specs.Spoken.Quoted.{Sought};
 ghost use Rattle.hip_script.specs.Spoken.Pattern.{CharOf};
-ghost use Rattle.hip_script.specs.Words.{ends_of, letters_of, said_at};
+ghost use Rattle.hip_script.specs.Words.{ends_of, letters_of};
 
 use crate::fault::LineFault;
-use crate::said::{Literal, Quoted, Rare, Said, Span};
+use crate::said::{Argument, Arguments, Literal, Said, Span};
 use crate::verb::{ENDS, Follows, PATTERNS, Quote, SIDES, WAYS, Word};
 use crate::words::{Words, end};
 use hipstr::End;
 use std::alloc::Global;
+use std::ops::Bound;
 use std::str;
 
 /// The lists that the lines of a script refer to by positions.
 #[derive(Drop)]
-pub(crate) struct Buffers {
+pub(crate) struct Buffers<'l> {
     /// The bytes of literals that have escapes.
     pub(crate) bytes: Vec<u8>,
     /// The characters of all sets.
     pub(crate) chars: Vec<char>,
     /// The ends of all walks.
     pub(crate) ends: Vec<End>,
-    /// The arguments that few lines have, one after another.
-    pub(crate) rares: Vec<Rare>,
+    /// The arguments of lines that have several, or ends.
+    pub(crate) arguments: Vec<Arguments<'l>>,
 }
 
-impl Buffers {
+impl<'l> Buffers<'l> {
     /// Buffers of nothing.
     pub(crate) fn new(alloc: Global) -> Self {
         Buffers {
             bytes: Vec::new(alloc),
             chars: Vec::new(alloc),
             ends: Vec::new(alloc),
-            rares: Vec::new(alloc),
+            arguments: Vec::new(alloc),
         }
     }
 
-    /// The rare arguments under a number, counted from 1. Under 0 stand the whole of a value and no ends.
-    pub(crate) fn rare(&self, number: usize) -> Rare
-        requires { number ≤ length self.now.rares.items }
-        ensures { result ≡ rare_in self.now.rares.items number }
+    /// The arguments of a line, all that this one stands for.
+    #[inline(always)]
+    pub(crate) fn arguments(&self, argument: Argument<'l>) -> Arguments<'l>
+        requires { IsListed (length self.now.arguments.items) argument }
+        ensures { result ≡ arguments_in self.now.arguments.items argument.entry }
     {
-        if number == 0 {
-            return Rare::new();
+        match argument {
+            Argument::Number(number) => Arguments {
+                number,
+                ..Arguments::new()
+            },
+            Argument::Between(low, high) => Arguments {
+                low: Bound::Included(low),
+                high: Bound::Excluded(high),
+                ..Arguments::new()
+            },
+            Argument::All(at) => self.arguments.as_slice()[at],
+            quoted => Arguments {
+                quoted,
+                ..Arguments::new()
+            },
         }
-        self.rares.as_slice()[number - 1]
+    }
+
+    /// Lists the arguments of a line, and gives the one that stands for them.
+    fn list(&mut self, arguments: Arguments<'l>) -> Result<Argument<'l>, LineFault>
+        ensures ok { IfOk result (λ argument. StandsFor arguments.entry (held self.old) (held self.new) argument) }
+        ensures bad { IsErrOf result LineFault.NotACommand → ⊥ }
+    {
+        let at = self.arguments.len();
+        self.arguments.push(arguments)?;
+        Ok(Argument::All(at))
     }
 
     /// Reads the words of a line, one after another.
-    pub(crate) fn read_words<'l>(
+    pub(crate) fn read_words(
         &mut self,
         list: &[Word],
         words: &mut Words<'l>,
@@ -71,7 +95,7 @@ impl Buffers {
     }
 
     /// Reads a word, or those of a pattern or of a way.
-    fn read_word<'l>(
+    fn read_word(
         &mut self,
         word: Word,
         words: &mut Words<'l>,
@@ -86,7 +110,7 @@ impl Buffers {
         match word {
             Word::Source => put(words.number(), &mut said.source),
             Word::Target => put(words.number(), &mut said.target),
-            Word::Number => put(words.number(), &mut said.number),
+            Word::Number => self.read_number(words, said),
             Word::Byte => put(words.byte(), &mut said.byte),
             Word::Range => self.read_range(words, said),
             Word::Side => put(words.one_of(SIDES), &mut said.side),
@@ -98,8 +122,27 @@ impl Buffers {
         }
     }
 
+    /// Reads a number.
+    fn read_number(&mut self, words: &mut Words<'l>, said: &mut Said<'l>) -> Result<(), LineFault>
+        requires { IsWithin (held self.old) said.old }
+        ensures ok { OnOk result (ReadsFields (number_said (fields_in (held self.old) said.old) words.old)
+            words.new (held self.old) (held self.new) said.old said.new) }
+        ensures bad { IsErrOf result LineFault.NotACommand
+            → number_said (fields_in (held self.old) said.old) words.old ≡ None }
+    {
+        let number = words.number().ok_or(LineFault::NotACommand)?;
+        said.argument = match said.argument {
+            Argument::Number(_) => Argument::Number(number),
+            argument => self.list(Arguments {
+                number,
+                ..self.arguments(argument)
+            })?,
+        };
+        Ok(())
+    }
+
     /// Reads a literal.
-    fn read_quoted<'l>(
+    fn read_quoted(
         &mut self,
         quote: Quote,
         words: &mut Words<'l>,
@@ -112,12 +155,19 @@ impl Buffers {
             → quoted_said quote (fields_in (held self.old) said.old) words.old ≡ None }
     {
         let literal = words.literal(&mut self.bytes)?;
-        said.quoted = self.quoted(quote, literal)?;
+        let quoted = self.quoted(quote, literal)?;
+        said.argument = match said.argument {
+            Argument::Number(0) => quoted,
+            argument => self.list(Arguments {
+                quoted,
+                ..self.arguments(argument)
+            })?,
+        };
         Ok(())
     }
 
     /// The value of a literal, as `quote` asks for it.
-    fn quoted<'l>(&mut self, quote: Quote, literal: Literal<'l>) -> Result<Quoted<'l>, LineFault>
+    fn quoted<'q>(&mut self, quote: Quote, literal: Literal<'q>) -> Result<Argument<'q>, LineFault>
         requires { LiteralWithin self.old.bytes.items literal }
         ensures ok { IfOk result (λ quoted. QuotesAs (quoted_as quote (literal_in self.old.bytes.items literal.entry))
             (held self.old) (held self.new) quoted) }
@@ -125,33 +175,29 @@ impl Buffers {
     {
         match quote {
             Quote::Bytes => match literal {
-                Literal::Plain(bytes) => Ok(Quoted::Bytes(bytes)),
-                Literal::Decoded(span) => Ok(Quoted::DecodedBytes(span)),
+                Literal::Plain(bytes) => Ok(Argument::Bytes(bytes)),
+                Literal::Decoded(span) => Ok(Argument::DecodedBytes(span)),
             },
             Quote::Text => match literal {
-                Literal::Plain(bytes) => Ok(Quoted::Text(text_of(bytes)?)),
+                Literal::Plain(bytes) => Ok(Argument::Text(text_of(bytes)?)),
                 Literal::Decoded(span) => {
                     text_of(span.of(&self.bytes))?;
-                    Ok(Quoted::DecodedText(span))
+                    Ok(Argument::DecodedText(span))
                 }
             },
             Quote::Char => {
                 let c = only_char(text_of(literal.of(&self.bytes))?);
-                Ok(Quoted::Char(c.ok_or(LineFault::NotACommand)?))
+                Ok(Argument::Char(c.ok_or(LineFault::NotACommand)?))
             }
             Quote::Any => {
                 let text = text_of(literal.of(&self.bytes))?;
-                Ok(Quoted::Any(add_chars(&mut self.chars, text)?))
+                Ok(Argument::Any(add_chars(&mut self.chars, text)?))
             }
         }
     }
 
     /// Reads a pattern.
-    fn read_pattern<'l>(
-        &mut self,
-        words: &mut Words<'l>,
-        said: &mut Said<'l>,
-    ) -> Result<(), LineFault>
+    fn read_pattern(&mut self, words: &mut Words<'l>, said: &mut Said<'l>) -> Result<(), LineFault>
         requires { IsWithin (held self.old) said.old }
         ensures ok { OnOk result (ReadsFields (pattern_said (fields_in (held self.old) said.old) words.old)
             words.new (held self.old) (held self.new) said.old said.new) }
@@ -163,7 +209,7 @@ impl Buffers {
     }
 
     /// Reads how a text is taken apart.
-    fn read_way<'l>(&mut self, words: &mut Words<'l>, said: &mut Said<'l>) -> Result<(), LineFault>
+    fn read_way(&mut self, words: &mut Words<'l>, said: &mut Said<'l>) -> Result<(), LineFault>
         requires { IsWithin (held self.old) said.old }
         ensures ok { OnOk result (ReadsFields (way_said (fields_in (held self.old) said.old) words.old)
             words.new (held self.old) (held self.new) said.old said.new) }
@@ -176,7 +222,7 @@ impl Buffers {
     }
 
     /// Reads the arguments behind the name of a way.
-    fn read_following<'l>(
+    fn read_following(
         &mut self,
         follows: Follows,
         words: &mut Words<'l>,
@@ -192,14 +238,14 @@ impl Buffers {
             Follows::Nothing => Ok(()),
             Follows::APattern => self.read_pattern(words, said),
             Follows::CountAndPattern => {
-                put(words.number(), &mut said.number)?;
+                self.read_number(words, said)?;
                 self.read_pattern(words, said)
             }
         }
     }
 
     /// Reads the ends that pieces are drawn from: `-`, or letters `F` and `B`.
-    fn read_ends<'l>(&mut self, words: &mut Words<'l>, said: &mut Said<'l>) -> Result<(), LineFault>
+    fn read_ends(&mut self, words: &mut Words<'l>, said: &mut Said<'l>) -> Result<(), LineFault>
         requires { IsWithin (held self.old) said.old }
         ensures ok { OnOk result (ReadsFields (word_said Word.Ends (fields_in (held self.old) said.old) words.old)
             words.new (held self.old) (held self.new) said.old said.new) }
@@ -208,18 +254,15 @@ impl Buffers {
     {
         let word = words.next().ok_or(LineFault::NotACommand)?;
         let ends = add_ends(&mut self.ends, word)?;
-        let rare = self.rare(said.rare);
-        self.rares.push(Rare { ends, ..rare })?;
-        said.rare = self.rares.len();
+        said.argument = self.list(Arguments {
+            ends,
+            ..self.arguments(said.argument)
+        })?;
         Ok(())
     }
 
     /// Reads a range.
-    fn read_range<'l>(
-        &mut self,
-        words: &mut Words<'l>,
-        said: &mut Said<'l>,
-    ) -> Result<(), LineFault>
+    fn read_range(&mut self, words: &mut Words<'l>, said: &mut Said<'l>) -> Result<(), LineFault>
         requires { IsWithin (held self.old) said.old }
         ensures ok { OnOk result (ReadsFields (word_said Word.Range (fields_in (held self.old) said.old) words.old)
             words.new (held self.old) (held self.new) said.old said.new) }
@@ -227,9 +270,16 @@ impl Buffers {
             → word_said Word.Range (fields_in (held self.old) said.old) words.old ≡ None }
     {
         let (low, high) = words.range().ok_or(LineFault::NotACommand)?;
-        let rare = self.rare(said.rare);
-        self.rares.push(Rare { low, high, ..rare })?;
-        said.rare = self.rares.len();
+        said.argument = match (said.argument, low, high) {
+            (Argument::Number(0), Bound::Included(low), Bound::Excluded(high)) => {
+                Argument::Between(low, high)
+            }
+            _ => self.list(Arguments {
+                low,
+                high,
+                ..self.arguments(said.argument)
+            })?,
+        };
         Ok(())
     }
 }

@@ -1,10 +1,10 @@
 //! The commands of lines, with their literals.
 ghost use Rattle.std.specs.Prelude.{◌≡◌};
-ghost use Rattle.hip_script.specs.Said.{IsWithin, fields_in, held, line_says, quoted_in, says_in};
+ghost use Rattle.hip_script.specs.Said.{IsWithin, fields_in, held, line_says, says_in};
 ghost use Rattle.hip_script.specs.Spoken.{bytes_in, parting, pattern_in, separator_in};
 ghost use Rattle.hip_script.specs.Told.{how_says, pattern_says};
 
-use crate::said::{Quoted, Said};
+use crate::said::{Argument, Said};
 use crate::script::Script;
 use crate::verb::{Verb, Way};
 use hipstr::{Command, End, How, Pat};
@@ -36,71 +36,75 @@ impl<'l> Script<'l> {
         requires { IsWithin (held self.now.buffers) said.now }
         ensures { line_says result ≡ says_in (held self.now.buffers) said.now }
     {
+        let target = said.target;
         Line::Command(match said.verb {
-            Verb::New => Command::New(said.target),
-            Verb::Inline => Command::Inline(said.target, self.bytes(said)),
-            Verb::Borrow => Command::Borrow(said.target, self.bytes(said)),
-            Verb::Copy => Command::Copy(said.target, self.bytes(said)),
-            Verb::Room => Command::Room(said.target, said.number),
-            Verb::Clone => Command::Clone(said.source, said.target),
+            Verb::New => Command::New(target),
+            Verb::Inline => Command::Inline(target, self.bytes(said)),
+            Verb::Borrow => Command::Borrow(target, self.bytes(said)),
+            Verb::Copy => Command::Copy(target, self.bytes(said)),
+            Verb::Room => Command::Room(target, self.number(said)),
+            Verb::Clone => Command::Clone(said.source, target),
             Verb::Slice => {
-                let range = self.buffers.rare(said.rare);
-                Command::Slice(said.source, said.target, range.low, range.high)
+                let range = self.buffers.arguments(said.argument);
+                Command::Slice(said.source, target, range.low, range.high)
             }
-            Verb::Push => Command::Push(said.target, self.bytes(said)),
-            Verb::Pop => Command::Pop(said.target),
-            Verb::Truncate => Command::Truncate(said.target, said.number),
-            Verb::Clear => Command::Clear(said.target),
-            Verb::Shrink => Command::Shrink(said.target, said.number),
-            Verb::Upper => Command::Upper(said.target),
-            Verb::Lower => Command::Lower(said.target),
-            Verb::Set => Command::Set(said.target, said.number, said.byte),
-            Verb::Repeat => Command::Repeat(said.source, said.target, said.number),
-            Verb::Join => Command::Join(said.source, said.number, self.bytes(said), said.target),
-            Verb::Mutate => Command::Mutate(said.target, self.bytes(said)),
-            Verb::Owned => Command::Owned(said.target),
-            Verb::Text => Command::Text(said.target),
-            Verb::Bytes => Command::Bytes(said.target),
-            Verb::Trim => Command::Trim(said.source, said.target, said.side),
+            Verb::Push => Command::Push(target, self.bytes(said)),
+            Verb::Pop => Command::Pop(target),
+            Verb::Truncate => Command::Truncate(target, self.number(said)),
+            Verb::Clear => Command::Clear(target),
+            Verb::Shrink => Command::Shrink(target, self.number(said)),
+            Verb::Upper => Command::Upper(target),
+            Verb::Lower => Command::Lower(target),
+            Verb::Set => Command::Set(target, self.number(said), said.byte),
+            Verb::Repeat => Command::Repeat(said.source, target, self.number(said)),
+            Verb::Join => Command::Join(said.source, self.number(said), self.bytes(said), target),
+            Verb::Mutate => Command::Mutate(target, self.bytes(said)),
+            Verb::Owned => Command::Owned(target),
+            Verb::Text => Command::Text(target),
+            Verb::Bytes => Command::Bytes(target),
+            Verb::Trim => Command::Trim(said.source, target, said.side),
             Verb::TrimMatches => Command::TrimMatches(
                 said.source,
-                said.target,
+                target,
                 said.side,
                 self.pattern(said),
             ),
-            Verb::Strip => Command::Strip(said.source, said.target, said.end, self.pattern(said)),
-            Verb::Pieces => Command::Pieces(
-                said.source,
-                self.how(said),
-                self.ends(said),
-                said.target,
-            ),
+            Verb::Strip => Command::Strip(said.source, target, said.end, self.pattern(said)),
+            Verb::Pieces => Command::Pieces(said.source, self.how(said), self.ends(said), target),
             Verb::Once => Command::Once(
                 said.source,
-                said.target,
-                said.number,
+                target,
+                self.number(said),
                 said.end,
                 self.pattern(said),
             ),
-            Verb::Compare => Command::Compare(said.source, said.number),
-            Verb::ComparePath => Command::ComparePath(said.source, said.number),
+            Verb::Compare => Command::Compare(said.source, self.number(said)),
+            Verb::ComparePath => Command::ComparePath(said.source, self.number(said)),
             Verb::Len => Command::Len(said.source),
             Verb::Kind => Command::Kind(said.source),
             Verb::Capacity => Command::Capacity(said.source),
             Verb::Show => return Line::Aside(Aside::Show(said.source)),
             Verb::Copied => return Line::Aside(Aside::Copied),
-            Verb::Fields => return Line::Aside(Aside::Fields(said.source, separator(said))),
+            Verb::Fields => return Line::Aside(Aside::Fields(said.source, self.separator(said))),
         })
+    }
+
+    /// A line's number.
+    fn number(&self, said: &Said<'_>) -> usize
+        requires { IsWithin (held self.now.buffers) said.now }
+        ensures { result ≡ (fields_in (held self.now.buffers) said.now).number }
+    {
+        self.buffers.arguments(said.argument).number
     }
 
     /// The bytes of a line's literal.
     fn bytes<'s>(&'s self, said: &Said<'s>) -> &'s [u8]
         requires { IsWithin (held self.now.buffers) said.now }
-        ensures { result.now ≡ bytes_in (quoted_in (held self.now.buffers) said.now.quoted) }
+        ensures { result.now ≡ bytes_in (fields_in (held self.now.buffers) said.now).quoted }
     {
-        match said.quoted {
-            Quoted::Bytes(bytes) => bytes,
-            Quoted::DecodedBytes(span) => span.of(&self.buffers.bytes),
+        match self.buffers.arguments(said.argument).quoted {
+            Argument::Bytes(bytes) => bytes,
+            Argument::DecodedBytes(span) => span.of(&self.buffers.bytes),
             _ => &[],
         }
     }
@@ -108,17 +112,17 @@ impl<'l> Script<'l> {
     /// The pattern that a line looks for.
     fn pattern<'s>(&'s self, said: &Said<'s>) -> Pat<'s>
         requires { IsWithin (held self.now.buffers) said.now }
-        ensures { pattern_says result ≡ pattern_in (quoted_in (held self.now.buffers) said.now.quoted) }
+        ensures { pattern_says result ≡ pattern_in (fields_in (held self.now.buffers) said.now).quoted }
     {
-        match said.quoted {
-            Quoted::Bytes(_) | Quoted::DecodedBytes(_) => Pat::Text(""),
-            Quoted::Text(text) => Pat::Text(text),
-            Quoted::DecodedText(span) => match str::from_utf8(span.of(&self.buffers.bytes)) {
+        match self.buffers.arguments(said.argument).quoted {
+            Argument::Text(text) => Pat::Text(text),
+            Argument::DecodedText(span) => match str::from_utf8(span.of(&self.buffers.bytes)) {
                 Ok(text) => Pat::Text(text),
                 Err(_) => Pat::Text(""),
             },
-            Quoted::Char(c) => Pat::Char(c),
-            Quoted::Any(span) => Pat::Set(span.of(&self.buffers.chars)),
+            Argument::Char(c) => Pat::Char(c),
+            Argument::Any(span) => Pat::Set(span.of(&self.buffers.chars)),
+            _ => Pat::Text(""),
         }
     }
 
@@ -127,38 +131,40 @@ impl<'l> Script<'l> {
         requires { IsWithin (held self.now.buffers) said.now }
         ensures { result.now ≡ (fields_in (held self.now.buffers) said.now).ends }
     {
-        self.buffers.rare(said.rare).ends.of(&self.buffers.ends)
+        let ends = self.buffers.arguments(said.argument).ends;
+        ends.of(&self.buffers.ends)
     }
 
     /// How a line takes a text apart.
     fn how<'s>(&'s self, said: &Said<'s>) -> How<'s>
         requires { IsWithin (held self.now.buffers) said.now }
-        ensures { how_says result ≡ parting said.now.way said.now.number (pattern_in (quoted_in (held self.now.buffers) said.now.quoted)) }
+        ensures { how_says result ≡ parting said.now.way (fields_in (held self.now.buffers) said.now).number (pattern_in (fields_in (held self.now.buffers) said.now).quoted) }
     {
         let pattern = self.pattern(said);
         match said.way {
             Way::Split => How::Split(pattern),
             Way::Inclusive => How::Inclusive(pattern),
             Way::Terminator => How::Terminator(pattern),
-            Way::SplitN => How::SplitN(said.number, pattern),
+            Way::SplitN => How::SplitN(self.number(said), pattern),
             Way::Matches => How::Matches(pattern),
             Way::RSplit => How::RSplit(pattern),
             Way::RTerminator => How::RTerminator(pattern),
-            Way::RSplitN => How::RSplitN(said.number, pattern),
+            Way::RSplitN => How::RSplitN(self.number(said), pattern),
             Way::RMatches => How::RMatches(pattern),
             Way::Lines => How::Lines,
             Way::Words => How::Words,
             Way::AsciiWords => How::AsciiWords,
         }
     }
-}
 
-/// The character between fields.
-fn separator(said: &Said<'_>) -> char
-    ensures { (held : _) → result ≡ separator_in (quoted_in held said.now.quoted) }
-{
-    match said.quoted {
-        Quoted::Char(c) => c,
-        _ => ',',
+    /// The character between fields.
+    fn separator(&self, said: &Said<'_>) -> char
+        requires { IsWithin (held self.now.buffers) said.now }
+        ensures { result ≡ separator_in (fields_in (held self.now.buffers) said.now).quoted }
+    {
+        match self.buffers.arguments(said.argument).quoted {
+            Argument::Char(c) => c,
+            _ => ',',
+        }
     }
 }

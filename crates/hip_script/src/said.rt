@@ -49,9 +49,14 @@ impl<'l> Literal<'l> {
     }
 }
 
-/// The value of a literal. Each kind is a variant here, and not in an enum of its own, so that a line's record has 64 bytes and not 72.
+/// The one argument that most lines have besides slots: a number, a range, or the value of a literal. Each kind is a variant here, and not in
+/// an enum of its own, so that a line's record has 48 bytes.
 #[derive(Clone, Copy)]
-pub(crate) enum Quoted<'l> {
+pub(crate) enum Argument<'l> {
+    /// A number, 0 where a line has no such argument.
+    Number(usize),
+    /// The range from the first to before the second.
+    Between(usize, usize),
     /// Bytes that stand in the script as they are.
     Bytes(&'l [u8]),
     /// Bytes that were decoded.
@@ -64,34 +69,42 @@ pub(crate) enum Quoted<'l> {
     Char(char),
     /// Each of these characters.
     Any(Span),
+    /// All of these that the line has, by their position in the script's list.
+    All(usize),
 }
 
-/// The arguments that few lines have: a range, and the positions of the ends that pieces are drawn from.
+/// All that an [`Argument`] may stand for. What a line doesn't have is as in [`Arguments::new`].
 #[derive(Clone, Copy)]
-pub(crate) struct Rare {
+pub(crate) struct Arguments<'l> {
+    pub(crate) number: usize,
     pub(crate) low: Bound<usize>,
     pub(crate) high: Bound<usize>,
+    /// The value of a literal.
+    pub(crate) quoted: Argument<'l>,
+    /// The positions of the ends that pieces are drawn from.
     pub(crate) ends: Span,
 }
 
-impl Rare {
+impl Arguments<'_> {
     ghost use Rattle.std.specs.Prelude.{◌≡◌};
-    ghost use Rattle.hip_script.specs.Said.{no_rare};
+    ghost use Rattle.hip_script.specs.Said.{no_arguments};
 
-    /// The whole of a value, and no ends.
+    /// The number 0, the whole of a value, no literal and no ends.
     pub(crate) fn new() -> Self
-        ensures { result ≡ no_rare }
+        ensures { result ≡ no_arguments }
     {
-        Rare {
+        Arguments {
+            number: 0,
             low: Bound::Unbounded,
             high: Bound::Unbounded,
+            quoted: Argument::Number(0),
             ends: Span { start: 0, end: 0 },
         }
     }
 }
 
 /// A line that was read: its verb and its arguments. An argument that its verb doesn't ask for is as in [`Said::new`].
-/// There is one for each line of a script, so the arguments that few lines have are kept apart: larger records would take more page faults.
+/// There is one for each line of a script, so what few lines have lies in a list: larger records would take more page faults.
 #[derive(Clone, Copy)]
 pub(crate) struct Said<'l> {
     pub(crate) verb: Verb,
@@ -101,10 +114,7 @@ pub(crate) struct Said<'l> {
     pub(crate) way: Way,
     pub(crate) source: usize,
     pub(crate) target: usize,
-    pub(crate) number: usize,
-    pub(crate) quoted: Quoted<'l>,
-    /// The position of its rare arguments, counted from 1, or 0 where it has none.
-    pub(crate) rare: usize,
+    pub(crate) argument: Argument<'l>,
 }
 
 impl Said<'_> {
@@ -126,9 +136,7 @@ impl Said<'_> {
             way: Way::Lines,
             source: 0,
             target: 0,
-            number: 0,
-            quoted: Quoted::Bytes(&[]),
-            rare: 0,
+            argument: Argument::Number(0),
         }
     }
 }

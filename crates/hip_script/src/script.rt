@@ -12,29 +12,30 @@ use crate::said::Said;
 use crate::words::Words;
 use std::alloc::Global;
 
-/// The length of the shortest line that isn't empty, `pop 0` with its line feed.
-const SHORTEST_LINE: usize = 6;
+/// Room for one line is reserved at first for each so many bytes of a script. Only an empty line is that short.
+const BYTES_A_LINE: usize = 4;
 
 /// The greatest number of lines that room is reserved for at first.
-const AT_FIRST: usize = 65_536;
+const AT_FIRST: usize = 87_380;
 
 /// A script that was read: the records of its lines, and the buffers that these refer to.
 #[derive(Drop)]
 pub(crate) struct Script<'l> {
     pub(crate) lines: Vec<Said<'l>>,
-    pub(crate) buffers: Buffers,
+    pub(crate) buffers: Buffers<'l>,
 }
 
 impl<'l> Script<'l> {
     /// Reads a script. The first line that is no command is told by its number.
     ///
-    /// Room is reserved first for as many lines as the script can have, but for no more than `AT_FIRST`. Unused room costs no page, and a
-    /// block that large grows without a copy.
+    /// Room is reserved first for more lines than the script can have, but for no more than `AT_FIRST`. Unused room costs no page, and a block
+    /// that large grows without a copy. glibc keeps as much free room as twice the largest block that was freed: with less room here, each of
+    /// many scripts that are played one after another would get its pages anew.
     pub(crate) fn read(alloc: Global, input: &'l [u8]) -> Result<Self, PlayFault>
         ensures script { GivesScript result (script_of input.now) }
         ensures bad_line { (line : ℕ) → result ≡ Err (NotACommand line) → 0 < line }
     {
-        let most = (input.len() / SHORTEST_LINE).min(AT_FIRST);
+        let most = (input.len() / BYTES_A_LINE).min(AT_FIRST);
         let mut script = Script {
             lines: Vec::with_capacity(alloc, most + 1)?,
             buffers: Buffers::new(alloc),

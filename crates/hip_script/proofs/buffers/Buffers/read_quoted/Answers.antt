@@ -1,6 +1,17 @@
+use Rattle.std.proofs.Common.{refl, rules}
 use Rattle.hip_script.specs.Said.{held}
-use Rattle.hip_script.proofs.Quotes.{reads-quoted}
+use Rattle.hip_script.proofs.Quotes.{literal-alone, reads-quoted}
 use Rattle.hip_script.proofs.buffers.Buffers.read_quoted.Goals as goal
+use Rattle.hip_script.proofs.buffers.Buffers.read_quoted.Goals.{in-Number-eq0, in_default+in_ok-said-in_default}
 
 pub returns-clause-ok : goal.returns-clause-ok
-returns-clause-ok c = reads-quoted _ (held c.args.self.now) _ _ _ c.args.words.now _ _ _ c.requires c.in_ok-literal.ensures.ok c.in_ok-said.ensures.ok
+returns-clause-ok c =
+    let read = c.in_ok-literal.ensures.ok in
+    let value = c.in_ok-quoted.ensures.ok in
+    elim c.match-said.branch [
+      | in-Number-eq0 w ↦
+          rw (w.self-is, w.said-is) (reads-quoted _ (held c.args.self.now) _ _ _ _ _ c.args.words.now _ _ _ _ c.requires read value refl
+          (literal-alone _ _ _ (search rules) value.is_quoted))
+      | in_default+in_ok-said-in_default w ↦
+          rw (w.self-is, w.said-is) (reads-quoted _ (held c.args.self.now) _ _ _ _ _ c.args.words.now _ _ _ _ c.requires read value w.arguments.ensures w.in_ok-said-in_default.ensures.ok)
+    ]

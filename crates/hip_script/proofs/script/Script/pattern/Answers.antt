@@ -4,4 +4,4 @@ use Rattle.hip_script.proofs.script.Script.pattern.Goals as goal
 
 pub returns-in-Err : goal.returns-in-Err
 returns-in-Err c =
-    absurd (text-is_one (held c.args.self.now.buffers) _ c.in-DecodedText.span _ _ c.in-DecodedText.is c.requires.quoted c.deref.ensures.value c.of.ensures c.in-Err.ensures.cases.0)
+    absurd (text-is_one (held c.args.self.now.buffers) _ c.in-DecodedText.span _ _ c.in-DecodedText.is (rw c.arguments.ensures c.requires.arguments.quoted) c.deref.ensures.value c.of.ensures c.in-Err.ensures.cases.0)

@@ -1,4 +1,4 @@
-use Rattle.std.proofs.Common.{rules, ◌≡◌, ◌≤◌, length, get_or, true, Some, ap, ◌∙◌}
+use Rattle.std.proofs.Common.{rules, ◌≡◌, get_or, true, Some, ap, ◌∙◌}
 use Rattle.std.proofs.lemmas.List.{take_rest}
 use Rattle.std.specs.Char.{is_ascii_digit}
 use Rattle.hip_script.proofs.WordLaws.{digit-ends, digit-word}
