@@ -1,7 +1,7 @@
 //! Tests that are run on the texts of each backend. The proof that a text has the tests' calls costs seconds in each function that needs
-//! it, and more in one that is generic in the backend, so this one names them.
+//! it, so only `run_on` does, for any backend.
 use super::text::Text;
-use hip_text::{HipStr, Rc, Unique};
+use hip_text::{Backend, HipStr, Rc, Unique};
 use std::alloc::Global;
 use std::process::Abort;
 
@@ -11,6 +11,10 @@ pub trait Suite {
 
 /// Runs a suite on shared owners, and on owners of one handle each.
 pub(crate) fn run_on_each<S: Suite>(rt: &impl Abort, alloc: Global) {
-    S::run::<HipStr<'static, Rc>>(rt, alloc);
-    S::run::<HipStr<'static, Unique>>(rt, alloc);
+    run_on::<S, Rc>(rt, alloc);
+    run_on::<S, Unique>(rt, alloc);
+}
+
+fn run_on<S: Suite, B: Backend>(rt: &impl Abort, alloc: Global) {
+    S::run::<HipStr<'static, B>>(rt, alloc);
 }
