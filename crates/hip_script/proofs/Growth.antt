@@ -10,7 +10,7 @@ use Rattle.hip_script.specs.Spoken.Pattern.{TextOf, AnyOf}
 use Rattle.hip_script.specs.Spoken.Quoted.{Plainly, Sought}
 use Rattle.hip_script.specs.Words.{Left}
 use Rattle.hip_script.specs.declared.said.Argument.{Argument}
-use Rattle.hip_script.specs.declared.said.Argument.TheVariants.{Number, Between, Bytes, DecodedBytes, Text, DecodedText, Char, Any, All}
+use Rattle.hip_script.specs.declared.said.Argument.TheVariants.{Nothing, Between, Bytes, DecodedBytes, Text, DecodedText, Char, Any, All}
 use Rattle.hip_script.specs.declared.said.Arguments.{Arguments}
 use Rattle.hip_script.specs.declared.said.Said.{Said}
 use Rattle.hip_script.specs.declared.said.Span.{Span}
@@ -55,25 +55,16 @@ grows-then a b c first second = record {
   arguments = joined a.arguments b.arguments c.arguments first.more_arguments second.more_arguments first.arguments second.arguments;
 }
 
--- an item stays at its place when more are added, and the last one that was added stands at the end
+-- an item stays at its place when more are added
 place-added : (xs more : List Arguments) (i : ℕ) (d : Arguments) → i < length xs → get_or (xs ++ more) i d ≡ get_or xs i d
 place-added [] more i d inside = absurd (omega arith)
 place-added (x ∷ xs) more zero d inside = refl
 place-added (x ∷ xs) more (suc i) d inside = place-added xs more i d (omega arith)
 
-pub place-last : (xs : List Arguments) (x d : Arguments) → get_or (xs ++ x ∷ []) (length xs) d ≡ x
-place-last [] x d = refl
-place-last (y ∷ ys) x d = place-last ys x d
-
-pub place-same : (xs : List Arguments) (i : ℕ) (d e : Arguments) → i < length xs → get_or xs i d ≡ get_or xs i e
-place-same [] i d e inside = absurd (omega arith)
-place-same (x ∷ xs) zero d e inside = refl
-place-same (x ∷ xs) (suc i) d e inside = place-same xs i d e (omega arith)
-
 -- an argument says the same when more are listed
 arguments-grow : (old more : List Arguments) (argument : Argument) → IsListed (length old) argument
     → arguments_in (old ++ more) argument ≡ arguments_in old argument
-arguments-grow old more (Number number) inside = refl
+arguments-grow old more Nothing inside = refl
 arguments-grow old more (Between low high) inside = refl
 arguments-grow old more (Bytes bytes) inside = refl
 arguments-grow old more (DecodedBytes span) inside = refl
@@ -84,7 +75,7 @@ arguments-grow old more (Any span) inside = refl
 arguments-grow old more (All at) inside = place-added old more at no_arguments inside
 
 listed-grows : (old more : List Arguments) (argument : Argument) → IsListed (length old) argument → IsListed (length (old ++ more)) argument
-listed-grows old more (Number number) inside = tt
+listed-grows old more Nothing inside = tt
 listed-grows old more (Between low high) inside = tt
 listed-grows old more (Bytes bytes) inside = tt
 listed-grows old more (DecodedBytes span) inside = tt
@@ -96,7 +87,7 @@ listed-grows old more (All at) inside = simp length-append (omega arith)
 
 pub quoted-grows : (old new : Held) (quoted : Argument) → Grows old new → QuotedWithin old quoted
     → QuotedWithin new quoted × (quoted_in new quoted ≡ quoted_in old quoted)
-quoted-grows old new (Number number) grows within = (tt, refl)
+quoted-grows old new Nothing grows within = (tt, refl)
 quoted-grows old new (Between low high) grows within = (tt, refl)
 quoted-grows old new (All at) grows within = (tt, refl)
 quoted-grows old new (Bytes bytes) grows within = (tt, refl)

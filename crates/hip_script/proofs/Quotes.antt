@@ -9,23 +9,23 @@ use Rattle.std.specs.Str.{chars, is_utf8, IsUtf8}
 use Rattle.std.specs.declared.ops.Bound.{Bound}
 use Rattle.std.specs.declared.ops.Bound.TheVariants.{Included, Excluded}
 use denote.Bor.{Bor}
-use Rattle.hip_script.proofs.Growth.{are-within-grows, fields-grow, grows-none, grows-then, place-last, quoted-grows, with-grows, within-grows}
-use Rattle.hip_script.specs.Grammar.{follows_said, number_said, only, quoted_as, quoted_said}
+use Rattle.hip_script.proofs.Growth.{are-within-grows, fields-grow, grows-none, grows-then, quoted-grows, with-grows, within-grows}
+use Rattle.hip_script.specs.Grammar.{follows_said, only, quoted_as, quoted_said}
 use Rattle.hip_script.specs.Said.{AddsSpan, AreWithin, Grows, Held, IsListed, IsQuoted, IsSpan, IsWithin, LiteralIs, LiteralWithin, QuotedWithin, QuotesAs, ReadsFields, ReadsLiteral, StandsFor, arguments_in, fields_in, fields_with, in_span, literal_in, no_arguments, quoted_in}
 use Rattle.hip_script.specs.Spoken.{Fields, Quoted}
 use Rattle.hip_script.specs.Spoken.Pattern.{AnyOf, CharOf, TextOf}
 use Rattle.hip_script.specs.Spoken.Quoted.{Sought}
-use Rattle.hip_script.specs.Words.{Left, ends_of, literal_at, number_of, range_of, said_at, word_at}
+use Rattle.hip_script.specs.Words.{Left, ends_of, literal_at, range_of, said_at, word_at}
 use Rattle.hipstr.specs.declared.End.{End}
 use Rattle.hip_script.specs.declared.said.Argument.{Argument}
-use Rattle.hip_script.specs.declared.said.Argument.TheVariants.{Number, Between, Bytes, DecodedBytes, Text, DecodedText, Char, Any, All}
+use Rattle.hip_script.specs.declared.said.Argument.TheVariants.{Nothing, Between, Bytes, DecodedBytes, Text, DecodedText, Char, Any, All}
 use Rattle.hip_script.specs.declared.said.Arguments.{Arguments}
 use Rattle.hip_script.specs.declared.said.Literal.{Literal}
 use Rattle.hip_script.specs.declared.said.Literal.TheVariants.{Plain, Decoded}
 use Rattle.hip_script.specs.declared.said.Said.{Said}
 use Rattle.hip_script.specs.declared.said.Span.{Span}
 use Rattle.hip_script.specs.declared.verb.Follows.{Follows}
-use Rattle.hip_script.specs.declared.verb.Follows.TheVariants.{Nothing}
+use Rattle.hip_script.specs.declared.verb.Follows.TheVariants.{Nothing as NothingFollows}
 use Rattle.hip_script.specs.declared.verb.Quote.{Quote}
 use Rattle.hip_script.specs.declared.verb.Quote.TheVariants.{Bytes as bytes_quote, Text as text_quote, Char as char_quote, Any as any_quote}
 
@@ -125,7 +125,7 @@ reads-stands old between new before arguments argument read left grows stands wi
           ∙ ap (λ (a : Arguments). Some (fields_with new before a, left)) (sym stands.is);
     }
 
--- all arguments that a line had, and one that was listed for them
+-- an argument that has them all itself
 stands-alone : (arguments : Arguments) (held : Held) (argument : Argument) → IsListed (length held.arguments) argument
     → arguments_in held.arguments argument ≡ arguments → StandsFor arguments held held argument
 stands-alone arguments held argument listed is = record {
@@ -135,19 +135,10 @@ stands-alone arguments held argument listed is = record {
   is = is;
 }
 
-pub stands-listed : (arguments : Arguments) (held : Held) (new : List Arguments) (at : ℕ) → new ≡ held.arguments ++ arguments ∷ [] → at ≡ length held.arguments
-    → StandsFor arguments held (record held { arguments = new }) (All at)
-stands-listed arguments held new at added is = rw (added, is) (record {
-  more = arguments ∷ [];
-  added = refl;
-  listed = simp length-append (omega arith);
-  is = place-last held.arguments arguments no_arguments;
-})
-
 -- an argument that is the value of a literal says nothing else
 quoted-alone : (listed : List Arguments) (argument : Argument) → IsQuoted argument
     → IsListed (length listed) argument × (arguments_in listed argument ≡ record no_arguments { quoted = argument })
-quoted-alone listed (Number number) is = absurd is
+quoted-alone listed Nothing is = (tt, refl)
 quoted-alone listed (Between low high) is = absurd is
 quoted-alone listed (Bytes bytes) is = (tt, refl)
 quoted-alone listed (DecodedBytes span) is = (tt, refl)
@@ -157,30 +148,17 @@ quoted-alone listed (Char c) is = (tt, refl)
 quoted-alone listed (Any span) is = (tt, refl)
 quoted-alone listed (All at) is = absurd is
 
--- where a line has no other argument, a number, a range or a literal stands alone
-pub number-alone : (held : Held) (before : Argument) (old number : ℕ) → before ≡ Number old
-    → StandsFor (record (arguments_in held.arguments before) { number = number }) held held (Number number)
-number-alone held before old number is = rw is (stands-alone (record no_arguments { number = number }) held (Number number) tt refl)
-
-pub range-alone : (held : Held) (before : Argument) (first last : ℕ) (low high : Bound ℕ) → before ≡ Number 0 → low ≡ Included first → high ≡ Excluded last
+-- where a line has no other argument, a range or a literal stands alone
+pub range-alone : (held : Held) (before : Argument) (first last : ℕ) (low high : Bound ℕ) → before ≡ Nothing → low ≡ Included first → high ≡ Excluded last
     → StandsFor (record (arguments_in held.arguments before) { low = low; high = high }) held held (Between first last)
 range-alone held before first last low high is from to =
     rw (is, from, to) (stands-alone (record no_arguments { low = Included first; high = Excluded last }) held (Between first last) tt refl)
 
-pub literal-alone : (held : Held) (before quoted : Argument) → before ≡ Number 0 → IsQuoted quoted
+pub literal-alone : (held : Held) (before quoted : Argument) → before ≡ Nothing → IsQuoted quoted
     → StandsFor (record (arguments_in held.arguments before) { quoted = quoted }) held held quoted
 literal-alone held before quoted is literal =
     let alone = quoted-alone held.arguments quoted literal in
     rw is (stands-alone (record no_arguments { quoted = quoted }) held quoted alone.0 alone.1)
-
-pub reads-number : (held new : Held) (before : Said) (argument : Argument) (words left : Left) (number : ℕ) (arguments : Arguments) → IsWithin held before
-    → said_at number_of words ≡ Some (number, left) → arguments ≡ arguments_in held.arguments before.argument
-    → StandsFor (record arguments { number = number }) held new argument
-    → ReadsFields (number_said (fields_in held before) words) left held new before (record before { argument = argument })
-reads-number held new before argument words left number arguments within read is stands =
-    reads-stands held held new before (record arguments { number = number }) argument _ left (grows-none held) stands
-    (rw is (record { quoted = within.arguments.quoted; ends = within.arguments.ends }))
-    (rw (read, is) refl)
 
 pub reads-range : (held new : Held) (before : Said) (argument : Argument) (words left : Left) (low high : Bound ℕ) (arguments : Arguments) → IsWithin held before
     → said_at range_of words ≡ Some ((low, high), left) → arguments ≡ arguments_in held.arguments before.argument
@@ -230,7 +208,7 @@ reads-quoted quote held after new bytes_now before argument words left literal q
     (ap (quoted_as quote) (sym stand.0) ∙ quotes.is)
     ∙ ap (λ (f : Fields). Some (record f { quoted = quoted_in after quoted }, left)) (sym (fields-grow held after before grows within))))
 
-pub follows-nothing : (follows : Follows) (held : Held) (said : Said) (left : Left) → follows ≡ Nothing → IsWithin held said
+pub follows-nothing : (follows : Follows) (held : Held) (said : Said) (left : Left) → follows ≡ NothingFollows → IsWithin held said
     → ReadsFields (follows_said follows (fields_in held said) left) left held held said said
 follows-nothing follows held said left is within = rw is (record { grows = grows-none held; within = within; verb = refl; read_is = refl })
 

@@ -22,7 +22,7 @@ use Rattle.hip_script.specs.declared.line.Aside.TheVariants.{Show, Copied, Field
 use Rattle.hip_script.specs.declared.line.Line.{Line}
 use Rattle.hip_script.specs.declared.line.Line.TheVariants.{Command as CommandLine, Aside as AsideLine}
 use Rattle.hip_script.specs.declared.said.Argument.{Argument}
-use Rattle.hip_script.specs.declared.said.Argument.TheVariants.{Number, Between, Bytes, DecodedBytes, Text, DecodedText, Char, Any, All}
+use Rattle.hip_script.specs.declared.said.Argument.TheVariants.{Nothing, Between, Bytes, DecodedBytes, Text, DecodedText, Char, Any, All}
 use Rattle.hip_script.specs.declared.said.Arguments.{Arguments}
 use Rattle.hip_script.specs.declared.said.Literal.{Literal}
 use Rattle.hip_script.specs.declared.said.Literal.TheVariants.{Plain, Decoded}
@@ -42,11 +42,10 @@ abbrev pub held : Buffers → Held
 held buffers = record { bytes = buffers.bytes.items; chars = buffers.chars.items; ends = buffers.ends.items; arguments = buffers.arguments.items }
 
 abbrev pub no_arguments : Arguments
-no_arguments = record { number = 0; low = Unbounded; high = Unbounded; quoted = Number 0; ends = record { start = 0; end = 0 } }
+no_arguments = record { low = Unbounded; high = Unbounded; quoted = Nothing; ends = record { start = 0; end = 0 } }
 
 -- all arguments of a line that has this one
 abbrev pub arguments_in : List Arguments → Argument → Arguments
-arguments_in listed (Number number) = record no_arguments { number = number }
 arguments_in listed (Between low high) = record no_arguments { low = Included low; high = Excluded high }
 arguments_in listed (All at) = slice_index_or listed at no_arguments
 arguments_in listed quoted = record no_arguments { quoted = quoted }
@@ -56,9 +55,8 @@ abbrev pub IsListed : ℕ → Argument → Type 0
 IsListed len (All at) = at < len
 IsListed len argument = Unit {0}
 
--- an argument is the value of a literal
+-- an argument is the value of a literal, or none
 abbrev pub IsQuoted : Argument → Type 0
-IsQuoted (Number number) = ⊥
 IsQuoted (Between low high) = ⊥
 IsQuoted (All at) = ⊥
 IsQuoted quoted = Unit {0}
@@ -108,7 +106,7 @@ abbrev pub fields_with : Held → Said → Arguments → Fields
 fields_with held said arguments = record {
   source = said.source;
   target = said.target;
-  number = arguments.number;
+  number = said.number;
   byte = said.byte;
   low = arguments.low;
   high = arguments.high;

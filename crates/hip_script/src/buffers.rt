@@ -2,7 +2,7 @@
 ghost use Rattle.std.specs.Prelude.{◌≡◌, ◌++◌, List, false, map, true, None, Some, IfOk, OnOk, OnErr, IsErrOf, length};
 ghost use Rattle.std.specs.Option.{option_map};
 ghost use Rattle.std.specs.Str.{chars, is_utf8};
-ghost use Rattle.hip_script.specs.Grammar.{follows_said, number_said, only, pattern_said, quoted_as, quoted_said, way_said, word_said, words_said};
+ghost use Rattle.hip_script.specs.Grammar.{follows_said, only, pattern_said, quoted_as, quoted_said, way_said, word_said, words_said};
 ghost use Rattle.hip_script.specs.Said.{AddsSpan, IsListed, IsWithin, LiteralWithin, QuotesAs, ReadsFields, StandsFor, arguments_in, fields_in, held, literal_in};
 ghost use Rattle.hip_script.specs.Spoken.Quoted.{Sought};
 ghost use Rattle.hip_script.specs.Spoken.Pattern.{CharOf};
@@ -48,10 +48,6 @@ impl<'l> Buffers<'l> {
         ensures { result ≡ arguments_in self.now.arguments.items argument.entry }
     {
         match argument {
-            Argument::Number(number) => Arguments {
-                number,
-                ..Arguments::new()
-            },
             Argument::Between(low, high) => Arguments {
                 low: Bound::Included(low),
                 high: Bound::Excluded(high),
@@ -110,7 +106,7 @@ impl<'l> Buffers<'l> {
         match word {
             Word::Source => put(words.number(), &mut said.source),
             Word::Target => put(words.number(), &mut said.target),
-            Word::Number => self.read_number(words, said),
+            Word::Number => put(words.number(), &mut said.number),
             Word::Byte => put(words.byte(), &mut said.byte),
             Word::Range => self.read_range(words, said),
             Word::Side => put(words.one_of(SIDES), &mut said.side),
@@ -120,25 +116,6 @@ impl<'l> Buffers<'l> {
             Word::Way => self.read_way(words, said),
             Word::Ends => self.read_ends(words, said),
         }
-    }
-
-    /// Reads a number.
-    fn read_number(&mut self, words: &mut Words<'l>, said: &mut Said<'l>) -> Result<(), LineFault>
-        requires { IsWithin (held self.old) said.old }
-        ensures ok { OnOk result (ReadsFields (number_said (fields_in (held self.old) said.old) words.old)
-            words.new (held self.old) (held self.new) said.old said.new) }
-        ensures bad { IsErrOf result LineFault.NotACommand
-            → number_said (fields_in (held self.old) said.old) words.old ≡ None }
-    {
-        let number = words.number().ok_or(LineFault::NotACommand)?;
-        said.argument = match said.argument {
-            Argument::Number(_) => Argument::Number(number),
-            argument => self.list(Arguments {
-                number,
-                ..self.arguments(argument)
-            })?,
-        };
-        Ok(())
     }
 
     /// Reads a literal.
@@ -157,7 +134,7 @@ impl<'l> Buffers<'l> {
         let literal = words.literal(&mut self.bytes)?;
         let quoted = self.quoted(quote, literal)?;
         said.argument = match said.argument {
-            Argument::Number(0) => quoted,
+            Argument::Nothing => quoted,
             argument => self.list(Arguments {
                 quoted,
                 ..self.arguments(argument)
@@ -238,7 +215,7 @@ impl<'l> Buffers<'l> {
             Follows::Nothing => Ok(()),
             Follows::APattern => self.read_pattern(words, said),
             Follows::CountAndPattern => {
-                self.read_number(words, said)?;
+                put(words.number(), &mut said.number)?;
                 self.read_pattern(words, said)
             }
         }
@@ -271,7 +248,7 @@ impl<'l> Buffers<'l> {
     {
         let (low, high) = words.range().ok_or(LineFault::NotACommand)?;
         said.argument = match (said.argument, low, high) {
-            (Argument::Number(0), Bound::Included(low), Bound::Excluded(high)) => {
+            (Argument::Nothing, Bound::Included(low), Bound::Excluded(high)) => {
                 Argument::Between(low, high)
             }
             _ => self.list(Arguments {

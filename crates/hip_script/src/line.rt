@@ -42,7 +42,7 @@ impl<'l> Script<'l> {
             Verb::Inline => Command::Inline(target, self.bytes(said)),
             Verb::Borrow => Command::Borrow(target, self.bytes(said)),
             Verb::Copy => Command::Copy(target, self.bytes(said)),
-            Verb::Room => Command::Room(target, self.number(said)),
+            Verb::Room => Command::Room(target, said.number),
             Verb::Clone => Command::Clone(said.source, target),
             Verb::Slice => {
                 let range = self.buffers.arguments(said.argument);
@@ -50,14 +50,14 @@ impl<'l> Script<'l> {
             }
             Verb::Push => Command::Push(target, self.bytes(said)),
             Verb::Pop => Command::Pop(target),
-            Verb::Truncate => Command::Truncate(target, self.number(said)),
+            Verb::Truncate => Command::Truncate(target, said.number),
             Verb::Clear => Command::Clear(target),
-            Verb::Shrink => Command::Shrink(target, self.number(said)),
+            Verb::Shrink => Command::Shrink(target, said.number),
             Verb::Upper => Command::Upper(target),
             Verb::Lower => Command::Lower(target),
-            Verb::Set => Command::Set(target, self.number(said), said.byte),
-            Verb::Repeat => Command::Repeat(said.source, target, self.number(said)),
-            Verb::Join => Command::Join(said.source, self.number(said), self.bytes(said), target),
+            Verb::Set => Command::Set(target, said.number, said.byte),
+            Verb::Repeat => Command::Repeat(said.source, target, said.number),
+            Verb::Join => Command::Join(said.source, said.number, self.bytes(said), target),
             Verb::Mutate => Command::Mutate(target, self.bytes(said)),
             Verb::Owned => Command::Owned(target),
             Verb::Text => Command::Text(target),
@@ -74,12 +74,12 @@ impl<'l> Script<'l> {
             Verb::Once => Command::Once(
                 said.source,
                 target,
-                self.number(said),
+                said.number,
                 said.end,
                 self.pattern(said),
             ),
-            Verb::Compare => Command::Compare(said.source, self.number(said)),
-            Verb::ComparePath => Command::ComparePath(said.source, self.number(said)),
+            Verb::Compare => Command::Compare(said.source, said.number),
+            Verb::ComparePath => Command::ComparePath(said.source, said.number),
             Verb::Len => Command::Len(said.source),
             Verb::Kind => Command::Kind(said.source),
             Verb::Capacity => Command::Capacity(said.source),
@@ -87,14 +87,6 @@ impl<'l> Script<'l> {
             Verb::Copied => return Line::Aside(Aside::Copied),
             Verb::Fields => return Line::Aside(Aside::Fields(said.source, self.separator(said))),
         })
-    }
-
-    /// A line's number.
-    fn number(&self, said: &Said<'_>) -> usize
-        requires { IsWithin (held self.now.buffers) said.now }
-        ensures { result ≡ (fields_in (held self.now.buffers) said.now).number }
-    {
-        self.buffers.arguments(said.argument).number
     }
 
     /// The bytes of a line's literal.
@@ -145,11 +137,11 @@ impl<'l> Script<'l> {
             Way::Split => How::Split(pattern),
             Way::Inclusive => How::Inclusive(pattern),
             Way::Terminator => How::Terminator(pattern),
-            Way::SplitN => How::SplitN(self.number(said), pattern),
+            Way::SplitN => How::SplitN(said.number, pattern),
             Way::Matches => How::Matches(pattern),
             Way::RSplit => How::RSplit(pattern),
             Way::RTerminator => How::RTerminator(pattern),
-            Way::RSplitN => How::RSplitN(self.number(said), pattern),
+            Way::RSplitN => How::RSplitN(said.number, pattern),
             Way::RMatches => How::RMatches(pattern),
             Way::Lines => How::Lines,
             Way::Words => How::Words,

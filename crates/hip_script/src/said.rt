@@ -49,12 +49,12 @@ impl<'l> Literal<'l> {
     }
 }
 
-/// The one argument that most lines have besides slots: a number, a range, or the value of a literal. Each kind is a variant here, and not in
-/// an enum of its own, so that a line's record has 48 bytes.
+/// The one argument that most lines have besides numbers: a range, or the value of a literal. Each kind is a variant here, and not in an enum of
+/// its own, so that a line's record has 56 bytes.
 #[derive(Clone, Copy)]
 pub(crate) enum Argument<'l> {
-    /// A number, 0 where a line has no such argument.
-    Number(usize),
+    /// None.
+    Nothing,
     /// The range from the first to before the second.
     Between(usize, usize),
     /// Bytes that stand in the script as they are.
@@ -76,7 +76,6 @@ pub(crate) enum Argument<'l> {
 /// All that an [`Argument`] may stand for. What a line doesn't have is as in [`Arguments::new`].
 #[derive(Clone, Copy)]
 pub(crate) struct Arguments<'l> {
-    pub(crate) number: usize,
     pub(crate) low: Bound<usize>,
     pub(crate) high: Bound<usize>,
     /// The value of a literal.
@@ -89,15 +88,14 @@ impl Arguments<'_> {
     ghost use Rattle.std.specs.Prelude.{◌≡◌};
     ghost use Rattle.hip_script.specs.Said.{no_arguments};
 
-    /// The number 0, the whole of a value, no literal and no ends.
+    /// The whole of a value, no literal and no ends.
     pub(crate) fn new() -> Self
         ensures { result ≡ no_arguments }
     {
         Arguments {
-            number: 0,
             low: Bound::Unbounded,
             high: Bound::Unbounded,
-            quoted: Argument::Number(0),
+            quoted: Argument::Nothing,
             ends: Span { start: 0, end: 0 },
         }
     }
@@ -114,6 +112,7 @@ pub(crate) struct Said<'l> {
     pub(crate) way: Way,
     pub(crate) source: usize,
     pub(crate) target: usize,
+    pub(crate) number: usize,
     pub(crate) argument: Argument<'l>,
 }
 
@@ -136,7 +135,8 @@ impl Said<'_> {
             way: Way::Lines,
             source: 0,
             target: 0,
-            argument: Argument::Number(0),
+            number: 0,
+            argument: Argument::Nothing,
         }
     }
 }

@@ -12,11 +12,11 @@ use crate::said::Said;
 use crate::words::Words;
 use std::alloc::Global;
 
-/// Room for one line is reserved at first for each so many bytes of a script. Only an empty line is that short.
+/// The number of bytes of a script for which room for one line is reserved at first. Only an empty line is that short.
 const BYTES_A_LINE: usize = 4;
 
 /// The greatest number of lines that room is reserved for at first.
-const AT_FIRST: usize = 87_380;
+const AT_FIRST: usize = 74_897;
 
 /// A script that was read: the records of its lines, and the buffers that these refer to.
 #[derive(Drop)]

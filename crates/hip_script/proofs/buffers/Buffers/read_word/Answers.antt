@@ -16,6 +16,11 @@ returns-in-Target-clause-ok c =
     let set = λ (n : ℕ). record (fields_in (held c.args.self.now) c.args.said.now) { target = n } in
     rw c.in-Target.is (on_ok_weaker c.put-in-Target.result (λ is. puts set _ _ _ _ _ _ _ c.requires c.number-in-Target.ensures is refl refl refl) c.put-in-Target.ensures.ok)
 
+pub returns-in-Number-clause-ok : goal.returns-in-Number-clause-ok
+returns-in-Number-clause-ok c =
+    let set = λ (n : ℕ). record (fields_in (held c.args.self.now) c.args.said.now) { number = n } in
+    rw c.in-Number.is (on_ok_weaker c.put-in-Number.result (λ is. puts set _ _ _ _ _ _ _ c.requires c.number-in-Number.ensures is refl refl refl) c.put-in-Number.ensures.ok)
+
 pub returns-in-Byte-clause-ok : goal.returns-in-Byte-clause-ok
 returns-in-Byte-clause-ok c =
     let set = λ (n : ℕ). record (fields_in (held c.args.self.now) c.args.said.now) { byte = n } in
