@@ -1,7 +1,7 @@
 //! Scripts of all commands are played.
 use crate::digest::Digest;
 use crate::made::{Numbers, text_of};
-use hip_script::play::play;
+use hip_script::play::play_script;
 use hipstr::Rc;
 use std::alloc::{AllocError, Global};
 
@@ -163,7 +163,7 @@ pub(crate) fn play_all(
     for _ in 0..rounds {
         let script = text_of(alloc, numbers, stock.as_slice(), LISTS_OF_SCRIPT).ok()?;
         let mut written = Vec::new(alloc);
-        play::<Rc, _, _>(alloc, script.as_bytes(), &mut written).ok()?;
+        play_script::<Rc, _>(alloc, script.as_bytes(), &mut written).ok()?;
         digest.bytes(written.as_slice());
     }
     Some(())

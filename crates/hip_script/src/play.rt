@@ -7,7 +7,7 @@ ghost use Rattle.hip_script.specs.Performed.{Performs, PlaysLine, Tells};
 ghost use Rattle.hip_script.specs.Played.{FieldsText, IsPlayed, IsPlayedInPart, Reads, Written, fields_cost, printed_show};
 ghost use Rattle.hip_script.specs.Printed.{printed_answers};
 ghost use Rattle.hip_script.specs.Said.{IsWithin, held, says_in};
-ghost use Rattle.hip_script.specs.declared.fault.PlayFault.TheVariants.{NotACommand};
+ghost use Rattle.hip_script.specs.declared.fault.PlayFault.TheVariants.{NotACommand, ReadFailed};
 ghost use Rattle.hipstr.specs.Meter.{RisesAtMost};
 
 use crate::fault::{PlayFault, Stop, WriteFailed};
@@ -63,7 +63,21 @@ pub fn play_to<B: Backend, R: Read, W: Write>(
     if let Err(error) = reader.read_to_end(&mut input) {
         return Err(read_fault(&error));
     }
-    let script = Script::read(alloc, input.as_slice())?;
+    play_script::<B, _>(alloc, input.as_slice(), out)
+}
+
+/// Like [`play_to`], of a script that is in memory.
+pub fn play_script<B: Backend, W: Write>(
+    alloc: Global,
+    script: &[u8],
+    out: &mut W,
+) -> Result<(), PlayFault>
+    ensures read { Reads (script_of script.now) result }
+    ensures in_memory { result ≡ Err ReadFailed → ⊥ }
+    ensures written { Written B.SHARES (script_of script.now) (W.contents out.old) (W.contents out.new) result }
+    ensures bad_line { (line : ℕ) → result ≡ Err (NotACommand line) → 0 < line }
+{
+    let script = Script::read(alloc, script)?;
     match play_lines::<B, _>(alloc, &script, out) {
         Ok(()) => Ok(()),
         Err(Stop::WriteFailed) => Err(PlayFault::WriteFailed),
