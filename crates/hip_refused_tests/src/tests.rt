@@ -1,6 +1,5 @@
 mod calls;
 mod commands;
-mod errors;
 mod fields;
 mod handle;
 mod held;

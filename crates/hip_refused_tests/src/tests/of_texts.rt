@@ -104,7 +104,8 @@ impl<B: Backend> Handle for HipStr<'static, B> {
             | Conversion::IntoOsString
             | Conversion::IntoPathBuf
             | Conversion::TryIntoVec
-            | Conversion::FromUtf8Lossy => panic!(rt; "no call of texts"),
+            | Conversion::FromUtf8Lossy
+            | Conversion::CloneOfError => panic!(rt; "no call of texts"),
         }
     }
 

@@ -2,7 +2,7 @@
 //! are put together here.
 use super::support::{WELL, played, played_by};
 use hip_script::PlayFault;
-use hip_script::play::play_to;
+use hip_script::play::{play_script, play_to};
 use hipstr::{Rc, Unique};
 use std::alloc::Global;
 use std::process::Abort;
@@ -117,7 +117,7 @@ fn failure_around_the_buffer(rt: HostRuntime) -> Result<(), Fail> {
     Ok(())
 }
 
-/// A script from a lent reader to a lent writer, which has bytes already.
+/// A script from a lent reader, and one in memory, to a lent writer, which has bytes already.
 #[test]
 fn lent(rt: HostRuntime) -> Result<(), Fail> {
     let mut reader = &b"new 0\nlen 0\n"[..];
@@ -126,6 +126,11 @@ fn lent(rt: HostRuntime) -> Result<(), Fail> {
     assert_eq!(rt;
         (written.as_slice(), ended, reader.len()),
         (&b"> done\n0\n"[..], Ok(()), 0)
+    );
+    let ended = play_script::<Unique, _>(rt.alloc(), b"copy 0 \"ab\"\nlen 0\n", &mut written);
+    assert_eq!(rt;
+        (written.as_slice(), ended),
+        (&b"> done\n0\ndone\n2\n"[..], Ok(()))
     );
     Ok(())
 }
