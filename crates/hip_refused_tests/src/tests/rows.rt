@@ -1,4 +1,4 @@
-//! Long values that are shared, and room that is filled: no request is made, so none can be refused.
+//! Long values that are shared, the clone of an error, and room that is filled: no request is made, so none can be refused.
 use super::held::BROKEN;
 use super::refusing::{must, refuse, was_refused};
 use hipstr::bytes::HipByt;
@@ -92,7 +92,10 @@ fn error_cloned_takes_none(rt: HostRuntime) {
     let error = must(&rt, HipStr::from_utf8(broken).err().ok_or("it is UTF-8"));
     refuse(rt.alloc(), 1);
     let clone = must(&rt, error.clone(rt.alloc()));
-    assert_eq!(&rt; (was_refused(rt.alloc()), clone.as_bytes()), (false, BROKEN));
+    assert_eq!(&rt;
+        (was_refused(rt.alloc()), clone.as_bytes()),
+        (false, BROKEN)
+    );
 }
 
 /// Appends that fit, and a loan for writing, meet no refusal.
