@@ -1,4 +1,4 @@
-use Rattle.std.proofs.Common.{refl, rules}
+use Rattle.std.proofs.Common.{refl}
 use Rattle.hip_script.specs.Said.{held}
 use Rattle.hip_script.proofs.Quotes.{literal-alone, reads-quoted}
 use Rattle.hip_script.proofs.buffers.Buffers.read_quoted.Goals as goal

@@ -1,4 +1,4 @@
-use Rattle.std.proofs.Common.{refl, rules}
+use Rattle.std.proofs.Common.{refl}
 use Rattle.std.proofs.lemmas.Option.{MatchOption-at_some}
 use Rattle.hip_script.specs.Said.{held}
 use Rattle.hip_script.proofs.Quotes.{range-alone, reads-range}
