@@ -4,6 +4,7 @@
 //! - `refusing`: the orders, and the loop over them.
 //! - `lists`: lists of commands, and each command by itself. `commands` are the tables of them.
 //! - `types`: the calls of each type, in tables.
+//! - `errors`: the error of bytes that aren't a text.
 //! - `walks`: walks over the pieces of a text.
 //! - `fields`: records of fields, gathered and drawn.
 //! - `plays`: a script.

@@ -1,5 +1,6 @@
 mod calls;
 mod commands;
+mod errors;
 mod fields;
 mod handle;
 mod held;

@@ -69,7 +69,6 @@ pub enum Conversion {
     IntoPathBuf,
     TryIntoVec,
     FromUtf8Lossy,
-    CloneOfError,
 }
 
 /// A call that makes a handle of what it takes over.

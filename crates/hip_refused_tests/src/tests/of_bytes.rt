@@ -99,13 +99,6 @@ impl<B: Backend> Handle for HipByt<'static, B> {
                 let text = HipStr::from_utf8_lossy(alloc, self)?;
                 Ok(text.len() == bytes.len() || text.len() == bytes.len().saturating_add(2))
             }
-            Conversion::CloneOfError => match HipStr::from_utf8(self) {
-                Ok(text) => Ok(text.as_bytes() == bytes),
-                Err(error) => match error.clone(alloc) {
-                    Ok(clone) => Ok(clone.as_bytes() == bytes && error.as_bytes() == bytes),
-                    Err(AllocError) => Err(error.into_bytes()),
-                },
-            },
             Conversion::IntoString
             | Conversion::IntoStringCopied
             | Conversion::IntoOsString

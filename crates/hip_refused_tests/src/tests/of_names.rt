@@ -91,8 +91,7 @@ impl<B: Backend> Handle for HipOsStr<'static, B> {
             | Conversion::IntoCow
             | Conversion::IntoPathBuf
             | Conversion::TryIntoVec
-            | Conversion::FromUtf8Lossy
-            | Conversion::CloneOfError => panic!(rt; "no call of OS strings"),
+            | Conversion::FromUtf8Lossy => panic!(rt; "no call of OS strings"),
         }
     }
 
@@ -232,8 +231,7 @@ impl<B: Backend> Handle for HipPath<'static, B> {
             | Conversion::IntoStringCopied
             | Conversion::IntoCow
             | Conversion::TryIntoVec
-            | Conversion::FromUtf8Lossy
-            | Conversion::CloneOfError => panic!(rt; "no call of paths"),
+            | Conversion::FromUtf8Lossy => panic!(rt; "no call of paths"),
         }
     }
 

@@ -83,8 +83,7 @@ impl<B: Backend> Handle for Allocated<B> {
             | Conversion::IntoCow
             | Conversion::IntoOsString
             | Conversion::IntoPathBuf
-            | Conversion::FromUtf8Lossy
-            | Conversion::CloneOfError => panic!(rt; "no call of owners"),
+            | Conversion::FromUtf8Lossy => panic!(rt; "no call of owners"),
         }
     }
 

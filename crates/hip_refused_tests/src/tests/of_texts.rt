@@ -104,8 +104,7 @@ impl<B: Backend> Handle for HipStr<'static, B> {
             | Conversion::IntoOsString
             | Conversion::IntoPathBuf
             | Conversion::TryIntoVec
-            | Conversion::FromUtf8Lossy
-            | Conversion::CloneOfError => panic!(rt; "no call of texts"),
+            | Conversion::FromUtf8Lossy => panic!(rt; "no call of texts"),
         }
     }
 

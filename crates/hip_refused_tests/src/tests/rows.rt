@@ -1,5 +1,4 @@
-//! Long values that are shared, the clone of an error, and room that is filled: no request is made, so none can be refused.
-use super::held::BROKEN;
+//! Long values that are shared, and room that is filled: no request is made, so none can be refused.
 use super::refusing::{must, refuse, was_refused};
 use hipstr::bytes::HipByt;
 use hipstr::string::{HipStr, TextCuts};
@@ -82,19 +81,6 @@ fn nothing_pushed_on_a_clone_takes_none(rt: HostRuntime) {
     assert_eq!(&rt;
         (clone.as_slice(), clone.kind(), letters.as_slice()),
         (LETTERS, Kind::Allocated, LETTERS)
-    );
-}
-
-/// The clone of an error whose bytes are shared.
-#[test]
-fn error_cloned_takes_none(rt: HostRuntime) {
-    let broken = must(&rt, HipByt::<Rc>::from_slice(rt.alloc(), BROKEN));
-    let error = must(&rt, HipStr::from_utf8(broken).err().ok_or("it is UTF-8"));
-    refuse(rt.alloc(), 1);
-    let clone = must(&rt, error.clone(rt.alloc()));
-    assert_eq!(&rt;
-        (was_refused(rt.alloc()), clone.as_bytes()),
-        (false, BROKEN)
     );
 }
 

@@ -60,7 +60,6 @@ const OF_BYTES: &[Call] = &[
     Call::Conversion(Conversion::IntoVec),
     Call::Conversion(Conversion::IntoVecCopied),
     Call::Conversion(Conversion::FromUtf8Lossy),
-    Call::Conversion(Conversion::CloneOfError),
     Call::Taking(Taking::FromVec),
     Call::Making(Making::FromSlice),
 ];
