@@ -1,6 +1,6 @@
 -- Vectors that are computed lane by lane, and lists that they are stored to.
-use Rattle.std.proofs.Common.{◌≡◌, ℕ, ◌+◌, ◌≤◌, eqb, Bool, true, cond, List, [], ◌∷◌, ◌++◌, map, take, drop, length, Fits, w8, refl, sym, ap, ap₂, ◌∙◌, arith}
-use Rattle.std.proofs.lemmas.Bool.{agree_below, agree_below_at, eqb-true}
+use Rattle.std.proofs.Common.{◌≡◌, ℕ, zero, suc, ◌+◌, ◌≤◌, eqb, nat_lt, Bool, true, cond, List, [], ◌∷◌, ◌++◌, map, take, drop, length, Fits, w8, refl, sym, ap, ap₂, ◌∙◌, arith}
+use Rattle.std.proofs.lemmas.Bool.{agree_below, agree_below_at, eqb-true, lt-ltb}
 use Rattle.std.proofs.lemmas.Simd.{map-map, length-chunk, put_chunk_is, take_more_put_chunk}
 use Rattle.std.proofs.lemmas.List.{length-map, length-append, length-take-le, append_assoc, drop-drop, drop_at}
 use lib.Lanes.{chunk, top, sel_l, put_chunk, Each1}
@@ -36,3 +36,22 @@ module _ (g : ℕ → ℕ) (xs : List ℕ) (i n : ℕ) (ys : List ℕ) (room : i
       ap (drop (i + n)) (put_chunk_is i xs ys (omega (arith, many)) ∙ sym (append_assoc (take i xs) ys (drop (length ys) (drop i xs))))
       ∙ drop_at (take i xs ++ ys) _ (i + n) (omega (arith, many, length-append (take i xs) ys, length-take-le i xs (omega arith)))
       ∙ drop-drop (length ys) i xs ∙ ap (λ k. drop (i + k) xs) many
+
+-- m positions from i on
+abbrev pub up : ℕ → ℕ → List ℕ
+up i zero = []
+up i (suc m) = i ∷ up (suc i) m
+
+-- whether each of m positions from i on is below len
+abbrev pub below : ℕ → ℕ → ℕ → List Bool
+below len i m = map (λ j. top 7 (cond (nat_lt j len) 255 0)) (up i m)
+
+-- the lanes at positions below len stay
+pub front_kept : (len i m k : ℕ) (xs ys : List ℕ) → i + k ≤ len → k ≤ m → length xs ≡ m → length ys ≡ m
+    → take k (sel_l (below len i m) xs ys) ≡ take k xs
+front_kept len i m zero xs ys reach within long also = refl
+front_kept len i zero (suc k) xs ys reach within long also = absurd (omega arith)
+front_kept len i (suc m) (suc k) [] ys reach within long also = absurd (omega arith)
+front_kept len i (suc m) (suc k) (x ∷ xs) [] reach within long also = absurd (omega arith)
+front_kept len i (suc m) (suc k) (x ∷ xs) (y ∷ ys) reach within long also =
+    ap₂ (λ z l. z ∷ l) (ap (λ b. cond (top 7 (cond b 255 0)) x y) (lt-ltb i len (omega arith))) (front_kept len (suc i) m k xs ys (omega arith) (omega arith) (omega arith) (omega arith))

@@ -5,7 +5,7 @@ ghost use Rattle.hip_raw.specs.Appended.{OnDone, OnMemory, OnRefused, OnShared};
 ghost use Rattle.hip_raw.specs.Meter.{RisesAtLeast, RisesAtMost, RisesBy, append_copies, pot};
 
 use crate::appended::Appended;
-use crate::meter::{Meter, fill_at};
+use crate::meter::{Meter, fill_at, fill_counted};
 use crate::room::Room;
 use cells::{Base, Cells, Deed, allocate, deallocate};
 use std::alloc::{AllocError, Global};
@@ -195,6 +195,23 @@ impl Buffer {
     {
         self.add_zeros(keep, addition.len());
         fill_at(self.as_mut_slice(), keep, addition, meter);
+    }
+
+    /// Puts these bytes, for which there is room, in place of all. Only places past the list are set to zero first.
+    #[inline]
+    pub(crate) fn rewrite(&mut self, bytes: &[u8], meter: &mut Meter)
+        requires { length bytes.now ≤ self.old.capacity }
+        ensures items { self.new.items ≡ bytes.now }
+        ensures capacity { self.new.capacity ≡ self.old.capacity }
+        ensures counted { RisesAtMost meter.old meter.new (length bytes.now) }
+    {
+        let len = self.len;
+        if len < bytes.len() {
+            self.add_zeros(len, bytes.len() - len);
+        } else {
+            self.truncate(bytes.len());
+        }
+        fill_counted(self.as_mut_slice(), bytes, meter);
     }
 
     /// Cuts to `keep` bytes and puts the addition behind them. Room is reserved before anything changes.

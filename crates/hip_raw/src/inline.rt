@@ -1,9 +1,9 @@
 //! Bytes that lie in the handle itself.
-ghost use Rattle.std.specs.Prelude.{⊤, ◌≡◌, ◌+◌, ◌≤◌, ◌==◌, ◌++◌, ◌↔◌, [], length, replicate, take, IsSome, IfSome, IfNone};
+ghost use Rattle.std.specs.Prelude.{⊤, ◌≡◌, ◌+◌, ◌-◌, ◌≤◌, ◌==◌, ◌++◌, ◌↔◌, [], length, replicate, slice_range, take, IsSome, IfSome, IfNone};
 ghost use Rattle.std.specs.Borrow.{sem};
 ghost use Rattle.hip_raw.specs.Meter.{RisesAtMost, count_from};
 
-use crate::meter::{Copying, Meter, fill};
+use crate::meter::{Copying, LANE, Meter, fill, fill_front};
 use cells::Cells;
 use length::Length;
 use std::alloc::AllocError;
@@ -114,6 +114,53 @@ impl<const N: usize, L: Length<N>> Inline<N, L> {
     {
         let mut inline = Self::empty();
         inline.push_slice_unchecked_metered(bytes, meter);
+        inline
+    }
+
+    /// The part of a list from `start` up to `end`, of at most `N` bytes, counted. Up to sixteen bytes of a list that goes on behind them
+    /// are moved at once.
+    #[inline(always)]
+    pub fn part_unchecked_metered(list: &[u8], start: usize, end: usize, meter: &mut Meter) -> Self
+        requires ordered { start ≤ end }
+        requires in_bounds { end ≤ length list.now }
+        requires fits { end - start ≤ N }
+        ensures items { result ≡ slice_range list.now start end }
+        ensures counted { RisesAtMost meter.old meter.new (end - start) }
+        ensures exact { meter.new ≡ count_from meter.old (end - start) }
+    {
+        let len = end - start;
+        if len <= LANE && LANE <= N && LANE <= list.len() - start {
+            return Self::front_metered(&list[start..], len, meter);
+        }
+        Self::new_unchecked_metered(&list[start..end], meter)
+    }
+
+    /// The part from `start` up to `end`, counted.
+    #[inline(always)]
+    pub fn slice_unchecked_metered(&self, start: usize, end: usize, meter: &mut Meter) -> Self
+        requires ordered { start ≤ end }
+        requires in_bounds { end ≤ length self.now }
+        ensures items { result ≡ slice_range self.now start end }
+        ensures counted { RisesAtMost meter.old meter.new (end - start) }
+        ensures exact { meter.new ≡ count_from meter.old (end - start) }
+    {
+        Self::part_unchecked_metered(&self.row.cells.items, start, end, meter)
+    }
+
+    // The first `len` bytes of a list that goes on behind them.
+    #[inline(always)]
+    fn front_metered(list: &[u8], len: usize, meter: &mut Meter) -> Self
+        requires short { len ≤ LANE }
+        requires goes_on { LANE ≤ length list.now }
+        requires fits { LANE ≤ N }
+        ensures items { result ≡ take len list.now }
+        ensures counted { RisesAtMost meter.old meter.new len }
+        ensures exact { meter.new ≡ count_from meter.old len }
+    {
+        let mut inline = Self::empty();
+        let room = &mut inline.row.cells.items[..];
+        fill_front(room, list, len, meter);
+        inline.row.len = L::of(len);
         inline
     }
 

@@ -67,8 +67,8 @@ impl Default for Meter {
     }
 }
 
-/// Copies `from` over `to` and counts its bytes. All bytes that the product copies go through it, some of them by `fill_at`, but those of an
-/// [`Inline`](crate::Inline) that is cloned: its array is copied whole, as by a move, and its length is counted.
+/// Copies `from` over `to` and counts its bytes. All bytes that the product copies go through it, some of them by `fill_at` or `fill_front`,
+/// but those of an [`Inline`](crate::Inline) that is cloned: its array is copied whole, as by a move, and its length is counted.
 #[inline(always)]
 pub fn fill_counted(to: &mut [u8], from: &[u8], meter: &mut Meter)
     requires { length to.old ≡ length from.now }
@@ -175,6 +175,39 @@ pub(crate) fn fill_at(room: &mut [u8], at: usize, bytes: &[u8], meter: &mut Mete
     let end = at + bytes.len();
     fill(&mut room[at..end], bytes, Copying::ByLanes, meter);
     end
+}
+
+/// The number of bytes that [`fill_front`] reads at once.
+pub(crate) const LANE: usize = 16;
+
+// The positions of a lane.
+const POSITIONS: [u8; LANE] = [0, 1, 2, 3, 4, 5, 6, 7, 8, 9, 10, 11, 12, 13, 14, 15];
+
+// The first `len` bytes of a lane, and zeros behind them.
+#[inline(always)]
+fn front_of(lane: u8x16, len: usize) -> u8x16
+    requires { len ≤ LANE }
+    ensures front { take len result ≡ take len lane }
+    ensures whole { length result ≡ LANE }
+{
+    let is_front = u8x16::from_array(POSITIONS).simd_lt(u8x16::splat(len as u8));
+    is_front.select(lane, u8x16::splat(0))
+}
+
+// [`fill_counted`] of the front of room by the first `len` bytes of a list that goes on behind them, with no branch by their number: a
+// lane is read, and the bytes behind them become zeros before it is written.
+#[inline(always)]
+pub(crate) fn fill_front(room: &mut [u8], list: &[u8], len: usize, meter: &mut Meter)
+    requires short { len ≤ LANE }
+    requires goes_on { LANE ≤ length list.now }
+    requires room { LANE ≤ length room.old }
+    ensures items { take len room.new ≡ take len list.now }
+    ensures len { length room.new ≡ length room.old }
+    ensures counted { RisesAtMost meter.old meter.new len }
+    ensures exact { meter.new ≡ count_from meter.old len }
+{
+    front_of(u8x16::from_slice(list), len).copy_to_slice(room);
+    meter.count(len);
 }
 
 /// Appends these bytes to a vector. The new room is made of zeros and then filled. A refused vector stays as it was.

@@ -133,7 +133,7 @@ impl Backend for Unique {
         if emptied.capacity() < vec.capacity() {
             return Self::own(alloc, vec, meter);
         }
-        emptied.put(0, vec.as_slice(), meter);
+        emptied.rewrite(vec.as_slice(), meter);
         Ok(Unique { buffer: emptied })
     }
 

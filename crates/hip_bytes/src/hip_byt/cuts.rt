@@ -58,15 +58,14 @@ impl<'b, B: Backend> HipByt<'b, B> {
     {
         let repr = match &self.bare.repr {
             Repr::Inline(inline) => {
-                let bytes = &inline.as_slice()[start..end];
-                Repr::Inline(Inline::new_unchecked_metered(bytes, meter))
+                Repr::Inline(inline.slice_unchecked_metered(start, end, meter))
             }
             Repr::Borrowed(borrowed) => {
                 Repr::Borrowed(Borrowed::new(&borrowed.as_slice()[start..end]))
             }
             Repr::Allocated(allocated) if end - start <= INLINE_CAPACITY => {
-                let bytes = &allocated.as_slice()[start..end];
-                Repr::Inline(Inline::new_unchecked_metered(bytes, meter))
+                let bytes = allocated.as_slice();
+                Repr::Inline(Inline::part_unchecked_metered(bytes, start, end, meter))
             }
             Repr::Allocated(allocated) => {
                 Repr::Allocated(allocated.slice_unchecked_metered(alloc, start..end, meter)?)

@@ -66,6 +66,43 @@ fn inline_of_each_length(rt: HostRuntime) {
     }
 }
 
+const LETTERS: &[u8; 40] = b"abcdefghijklmnopqrstuvwxyzABCDEFGHIJKLMN";
+
+/// The parts of a list from each position on, and of a handle's bytes, of each length that fits: near its end and far from it.
+#[test]
+fn inline_parts(rt: HostRuntime) {
+    let letters = LETTERS.as_slice();
+    for start in 0..41usize {
+        for end in start..(start + 23).min(40) + 1 {
+            let mut meter = Meter::new();
+            let part = Inline::<23>::part_unchecked_metered(letters, start, end, &mut meter);
+            has(
+                &rt,
+                &part,
+                &letters[start..end],
+                &meter,
+                (end - start) as u128,
+            );
+        }
+    }
+    let whole = Inline::<23>::new_unchecked(&letters[..23]);
+    for start in 0..24usize {
+        for end in start..24 {
+            let mut meter = Meter::new();
+            let part = whole.slice_unchecked_metered(start, end, &mut meter);
+            has(
+                &rt,
+                &part,
+                &letters[start..end],
+                &meter,
+                (end - start) as u128,
+            );
+        }
+    }
+    let four = Inline::<4>::part_unchecked_metered(letters, 2, 6, &mut Meter::new());
+    equals(&rt, &four.as_slice(), &b"cdef".as_slice());
+}
+
 #[test]
 fn inline_zeros(rt: HostRuntime) {
     let five = Inline::<23>::zeroed(5);
