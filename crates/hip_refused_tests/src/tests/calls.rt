@@ -1,7 +1,7 @@
 //! Calls of handles, by what they take and answer: what a refusal leaves, and what it hands back.
 use super::handle::{Change, Conversion, Copying, Handle, Lending, Making, Taking, Telling};
 use super::held::{BYTES, Held, bytes_of};
-use super::refusing::{each, is_refusing, must, refuse, was_refused};
+use super::refusing::{each, equals, must, must_hold, must_meet, refuse, was_refused};
 use std::alloc::Global;
 use std::process::Abort;
 
@@ -37,8 +37,7 @@ struct Trial {
 
 /// Asserts that a handle is as it was.
 fn is_kept<H: Handle>(rt: &impl Abort, handle: &H, bytes: &[u8], before: Place) {
-    let (now, place) = handle.seen();
-    assert!(rt; now == bytes && place == before);
+    equals(rt, &handle.seen(), &(bytes, before));
 }
 
 /// Asserts that a handle is as another.
@@ -72,7 +71,7 @@ fn made<H: Handle>(rt: &impl Abort, alloc: Global, trial: Trial) -> (H, Option<H
 /// Asserts that a clone, if there is one, has its bytes.
 fn is_untouched<H: Handle>(rt: &impl Abort, clone: Option<H>, bytes: &[u8]) {
     if let Some(clone) = clone {
-        assert!(rt; clone.seen().0 == bytes);
+        equals(rt, &clone.seen().0, &bytes);
     }
 }
 
@@ -84,10 +83,10 @@ fn changed<H: Handle>(rt: &impl Abort, alloc: Global, trial: Trial, change: Chan
     let is_done = handle.change(rt, alloc, change);
     let refused = was_refused(alloc);
     if is_done {
-        assert!(rt; other.change(rt, alloc, change));
+        must_hold(rt, other.change(rt, alloc, change));
         is_same(rt, &handle, &other);
     } else {
-        assert!(rt; refused);
+        must_hold(rt, refused);
         is_kept(rt, &handle, trial.bytes, before);
     }
     is_untouched(rt, clone, trial.bytes);
@@ -103,7 +102,7 @@ fn copied<H: Handle>(rt: &impl Abort, alloc: Global, trial: Trial, copying: Copy
     let refused = was_refused(alloc);
     match copy {
         Ok(copy) => is_same(rt, &copy, &wanted),
-        Err(_) => assert!(rt; refused),
+        Err(_) => must_hold(rt, refused),
     }
     is_kept(rt, &handle, trial.bytes, before);
     refused
@@ -123,9 +122,9 @@ fn converted<H: Handle>(rt: &impl Abort, alloc: Global, trial: Trial, to: Conver
     let outcome = handle.convert(rt, alloc, to, trial.bytes);
     let refused = was_refused(alloc);
     match outcome {
-        Ok(is_same) => assert!(rt; is_same),
+        Ok(is_same) => must_hold(rt, is_same),
         Err(back) => {
-            assert!(rt; refused | is_never);
+            must_hold(rt, refused | is_never);
             is_kept(rt, &back, trial.bytes, before);
         }
     }
@@ -140,8 +139,12 @@ fn taken<H: Handle>(rt: &impl Abort, alloc: Global, taking: Taking, k: usize) ->
     let outcome = H::take(rt, alloc, taking, vec);
     let refused = was_refused(alloc);
     match outcome {
-        Ok(handle) => assert!(rt; handle.seen().0 == BYTES),
-        Err(back) => assert!(rt; refused && back.as_slice() == BYTES && back.capacity() == room),
+        Ok(handle) => equals(rt, &handle.seen().0, &BYTES),
+        Err(back) => equals(
+            rt,
+            &(refused, back.as_slice(), back.capacity()),
+            &(true, BYTES, room),
+        ),
     }
     refused
 }
@@ -154,7 +157,7 @@ fn makes<H: Handle>(rt: &impl Abort, alloc: Global, making: Making, k: usize) ->
     let refused = was_refused(alloc);
     match outcome {
         Ok(handle) => is_same(rt, &handle, &wanted),
-        Err(is_memory) => assert!(rt; refused & is_memory),
+        Err(is_memory) => must_hold(rt, refused & is_memory),
     }
     refused
 }
@@ -165,7 +168,7 @@ fn told<H: Handle>(rt: &impl Abort, alloc: Global, trial: Trial, telling: Tellin
     refuse(alloc, trial.k);
     let is_told = handle.tell(rt, alloc, telling);
     let refused = was_refused(alloc);
-    assert!(rt; is_told | refused);
+    must_hold(rt, is_told | refused);
     is_kept(rt, &handle, trial.bytes, before);
     refused
 }
@@ -180,13 +183,13 @@ fn lent<H: Handle>(rt: &impl Abort, alloc: Global, trial: Trial, lending: Lendin
     let outcome = handle.lend(rt, alloc, lending);
     let refused = was_refused(alloc);
     match outcome {
-        Ok(()) => assert!(rt; handle.seen().0 == trial.bytes),
+        Ok(()) => equals(rt, &handle.seen().0, &trial.bytes),
         Err(None) => {
-            assert!(rt; refused);
+            must_hold(rt, refused);
             is_kept(rt, &handle, trial.bytes, before);
         }
         Err(Some(back)) => {
-            assert!(rt; refused && back.as_slice() == trial.bytes);
+            equals(rt, &(refused, back.as_slice()), &(true, trial.bytes));
             is_kept(rt, &handle, b"", EMPTY);
         }
     }
@@ -223,11 +226,7 @@ fn of<H: Handle>(rt: &impl Abort, alloc: Global, call: Call) -> usize {
 fn are_on_both<S: Handle, U: Handle>(rt: &impl Abort, alloc: Global, calls: &[Call]) {
     for (i, call) in calls.iter().enumerate() {
         let met = of::<S>(rt, alloc, *call).saturating_add(of::<U>(rt, alloc, *call));
-        assert!(rt;
-            met > 0 || !is_refusing(alloc),
-            "call {i} of a table of {}",
-            calls.len()
-        );
+        must_meet(rt, alloc, i, met);
     }
 }
 

@@ -1,6 +1,6 @@
 //! The error of bytes that aren't a text, which has the bytes: its clone takes the memory that theirs takes.
 use super::held::{BROKEN, EACH_HELD, Held, bytes_of};
-use super::refusing::{each, is_refusing, must, refuse, was_refused};
+use super::refusing::{each, equals, is_refusing, must, refuse, was_refused};
 use hipstr::bytes::HipByt;
 use hipstr::string::{FromUtf8Error, HipStr};
 use hipstr::{Backend, Rc, Unique};
@@ -29,7 +29,7 @@ fn is_cloned<B: Backend>(rt: &impl Abort, alloc: Global, held: Held, k: usize) -
     refuse(alloc, k);
     let cloned = cloned(&error, alloc);
     let refused = was_refused(alloc);
-    assert_eq!(rt; cloned, (!refused).then_some(true));
+    equals(rt, &cloned, &(!refused).then_some(true));
     refused
 }
 
@@ -46,10 +46,10 @@ fn met<B: Backend>(rt: &impl Abort, alloc: Global) -> usize {
 #[test]
 fn clones_of_errors_where_nothing_is_shared(rt: HostRuntime) {
     let met = met::<Unique>(&rt, rt.alloc());
-    assert!(&rt; (met > 0) == is_refusing(rt.alloc()));
+    equals(&rt, &(met > 0), &is_refusing(rt.alloc()));
 }
 
 #[test]
 fn clones_of_errors_where_owners_are_shared_take_none(rt: HostRuntime) {
-    assert_eq!(&rt; met::<Rc>(&rt, rt.alloc()), 0);
+    equals(&rt, &met::<Rc>(&rt, rt.alloc()), &0);
 }

@@ -1,6 +1,6 @@
 //! Records of fields: a refusal of memory is told just where a request was refused, and the text is as it was.
 use super::held::{EACH_HELD, Held, text_of};
-use super::refusing::{each, refuse, was_refused};
+use super::refusing::{each, equals, refuse, was_refused};
 use hip_fields::reader::Records;
 use hip_fields::records;
 use hipstr::pattern::Ranges;
@@ -31,8 +31,10 @@ fn is_kept<B: Backend>(
     kind: Kind,
     capacity: usize,
 ) {
-    assert!(rt;
-        text.as_str() == letters(held) && text.kind() == kind && text.capacity() == capacity
+    equals(
+        rt,
+        &(text.as_str(), text.kind(), text.capacity()),
+        &(letters(held), kind, capacity),
     );
 }
 
@@ -43,7 +45,7 @@ fn gathered<B: Backend>(rt: &impl Abort, alloc: Global, held: Held, k: usize) ->
     refuse(alloc, k);
     let gathered = records(alloc, &text, ',');
     let refused = was_refused(alloc);
-    assert!(rt; gathered.is_err() == refused, "at request {k}");
+    equals(rt, &(k, gathered.is_err()), &(k, refused));
     is_kept(rt, &text, held, kind, capacity);
     refused
 }
@@ -75,9 +77,16 @@ fn drawn<B: Backend>(rt: &impl Abort, alloc: Global, held: Held, k: usize) -> bo
     let second = draw(alloc, &mut records);
     let third = draw(alloc, &mut records);
     let refused = was_refused(alloc);
-    assert!(rt;
-        first.is_some() && second.is_some() && third.is_none() && (first == second) != refused,
-        "at request {k}"
+    equals(
+        rt,
+        &(
+            k,
+            first.is_some(),
+            second.is_some(),
+            third.is_none(),
+            first == second,
+        ),
+        &(k, true, true, true, !refused),
     );
     is_kept(rt, &text, held, kind, capacity);
     refused

@@ -3,7 +3,7 @@ use super::commands::{
     Session, TEXTS, each_command, held_by, on_bytes, on_bytes_too, on_texts, three_pieces, ways,
 };
 use super::held::EACH_HELD;
-use super::refusing::{each, is_refusing, must, refuse, was_refused};
+use super::refusing::{each, equals, must, must_hold, must_meet, refuse, was_refused};
 use hipstr::{Answer, Backend, Command, Kind, Meter, Pool, Rc, Reason, Slot, Unique, run};
 use std::alloc::{AllocError, Global};
 use std::process::Abort;
@@ -92,7 +92,7 @@ fn are_same<B: Backend>(rt: &impl Abort, pool: &Pool<'_, B>, other: &Pool<'_, B>
     for i in 0..SLOTS {
         let slot = must(rt, pool.slot(i).ok_or("no slot"));
         let wanted = must(rt, other.slot(i).ok_or("no slot"));
-        assert!(rt; is_alike(slot, wanted, i, apart), "in slot {i}");
+        must_hold(rt, is_alike(slot, wanted, i, apart));
     }
 }
 
@@ -122,16 +122,14 @@ fn is_list_without<B: Backend>(
     let refusal = answers
         .iter()
         .position(|answer| *answer == Answer::Refused(Reason::Memory));
-    assert!(rt; refused | refusal.is_none());
+    must_hold(rt, refused | refusal.is_none());
     let at = refusal.unwrap_or(usize::MAX);
     let rest = without(rt, alloc, session.commands, at);
     let mut meter = Meter::new();
     let mut other = pool_of::<B>(rt, alloc, session, &mut meter);
     let wanted = answers_of(rt, alloc, &mut other, rest.as_slice(), &mut meter);
-    assert!(rt;
-        without(rt, alloc, answers, at).as_slice() == wanted.as_slice(),
-        "without command {at}"
-    );
+    let given = without(rt, alloc, answers, at);
+    equals(rt, &given.as_slice(), &wanted.as_slice());
     let apart = if refused {
         apart_by(session.commands, at)
     } else {
@@ -152,7 +150,7 @@ fn is_run<B: Backend>(rt: &impl Abort, alloc: Global, session: Session<'_>, k: u
         Err(AllocError) => {
             let other = pool_of::<B>(rt, alloc, session, &mut Meter::new());
             are_same(rt, &pool, &other, Apart::Nothing);
-            assert!(rt; refused && meter.copied() == before);
+            equals(rt, &(refused, meter.copied()), &(true, before));
         }
     }
     refused
@@ -172,7 +170,7 @@ fn by_themselves(
     texts: &[Command<'static>],
     commands: &[Command<'static>],
 ) {
-    for command in commands {
+    for (i, command) in commands.iter().enumerate() {
         let alone = [*command];
         for held in EACH_HELD {
             let session = Session {
@@ -180,8 +178,7 @@ fn by_themselves(
                 texts,
                 commands: alone.as_slice(),
             };
-            let met = on_both(rt, alloc, session);
-            assert!(rt; met > 0 || !is_refusing(alloc));
+            must_meet(rt, alloc, i, on_both(rt, alloc, session));
         }
     }
 }
@@ -213,7 +210,7 @@ fn is_made<B: Backend>(rt: &impl Abort, alloc: Global, k: usize) -> bool {
     refuse(alloc, k);
     let pool = Pool::<B>::new(alloc, SLOTS);
     let refused = was_refused(alloc);
-    assert!(rt; pool.is_err() == refused);
+    equals(rt, &pool.is_err(), &refused);
     refused
 }
 

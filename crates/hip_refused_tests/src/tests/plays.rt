@@ -1,5 +1,5 @@
 //! A script, played to a writer that doesn't allocate: whatever request is refused, that is the fault that is told.
-use super::refusing::{each, refuse, was_refused};
+use super::refusing::{each, equals, must_hold, refuse, was_refused};
 use hip_script::PlayFault;
 use hip_script::play::play;
 use hipstr::{Backend, Rc, Unique};
@@ -24,8 +24,11 @@ fn is_played<B: Backend>(rt: &impl Abort, alloc: Global, k: usize) -> bool {
     } else {
         Ok(())
     };
-    assert_eq!(rt; ended, wanted, "at request {k}");
-    assert!(rt; ANSWERS.starts_with(written) && (refused || written == ANSWERS));
+    equals(rt, &(k, ended), &(k, wanted));
+    must_hold(
+        rt,
+        ANSWERS.starts_with(written) & (refused | (written == ANSWERS)),
+    );
     refused
 }
 

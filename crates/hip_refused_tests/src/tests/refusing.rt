@@ -1,6 +1,7 @@
 //! Orders to refuse a request for memory. They are requests themselves, for more than any block can have, so that the C library refuses
 //! them where nothing reads them.
 use std::alloc::Global;
+use std::fmt;
 use std::process::Abort;
 
 const GREATEST: usize = isize::MAX as usize;
@@ -44,4 +45,19 @@ pub(crate) fn must<T, E: Drop>(rt: &impl Abort, outcome: Result<T, E>) -> T {
         Ok(value) => value,
         Err(_) => panic!(rt; "a call was refused"),
     }
+}
+
+/// Asserts this.
+pub(crate) fn must_hold(rt: &impl Abort, is_so: bool) {
+    assert!(rt; is_so);
+}
+
+/// Asserts that two values are equal.
+pub(crate) fn equals<T: PartialEq + fmt::Debug>(rt: &impl Abort, found: &T, wanted: &T) {
+    assert_eq!(rt; *found, *wanted);
+}
+
+/// Asserts that requests of a row of a table were refused, where any are.
+pub(crate) fn must_meet(rt: &impl Abort, alloc: Global, row: usize, refusals: usize) {
+    assert!(rt; refusals > 0 || !is_refusing(alloc), "row {row}");
 }

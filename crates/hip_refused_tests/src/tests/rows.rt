@@ -1,5 +1,5 @@
 //! Long values that are shared, and room that is filled: no request is made, so none can be refused.
-use super::refusing::{must, refuse, was_refused};
+use super::refusing::{equals, must, must_hold, refuse, was_refused};
 use hipstr::bytes::HipByt;
 use hipstr::string::{HipStr, TextCuts};
 use hipstr::{Backend, Kind, Meter, Rc, Unique};
@@ -50,9 +50,10 @@ fn cut<B: Backend>(rt: &impl Abort, alloc: Global, text: &HipStr<'_, B>) -> u128
             .or(Err("no range")),
     );
     let pieces = drawn(text, alloc, &mut meter);
-    assert_eq!(rt;
-        (clone.len(), slice.len(), slice.kind(), pieces),
-        (3100, 2900, Kind::Allocated, (100, 1, 101))
+    equals(
+        rt,
+        &(clone.len(), slice.len(), slice.kind(), pieces),
+        &(3100, 2900, Kind::Allocated, (100, 1, 101)),
     );
     meter.copied()
 }
@@ -63,9 +64,9 @@ fn long_values_shared_take_none(rt: HostRuntime) {
     let text = many::<Rc>(&rt, rt.alloc());
     refuse(rt.alloc(), 1);
     let copied = cut(&rt, rt.alloc(), &text);
-    assert_eq!(&rt; (was_refused(rt.alloc()), copied), (false, 0));
+    equals(&rt, &(was_refused(rt.alloc()), copied), &(false, 0));
     let text = many::<Unique>(&rt, rt.alloc());
-    assert!(&rt; cut(&rt, rt.alloc(), &text) <= 9_000);
+    must_hold(&rt, cut(&rt, rt.alloc(), &text) <= 9_000);
 }
 
 const LETTERS: &[u8] = b"abcdefghijklmnopqrstuvwxyz";
@@ -77,10 +78,15 @@ fn nothing_pushed_on_a_clone_takes_none(rt: HostRuntime) {
     let mut clone = must(&rt, letters.clone(rt.alloc()));
     refuse(rt.alloc(), 1);
     must(&rt, clone.push_slice(rt.alloc(), b""));
-    assert!(&rt; !was_refused(rt.alloc()));
-    assert_eq!(&rt;
-        (clone.as_slice(), clone.kind(), letters.as_slice()),
-        (LETTERS, Kind::Allocated, LETTERS)
+    equals(
+        &rt,
+        &(
+            was_refused(rt.alloc()),
+            clone.as_slice(),
+            clone.kind(),
+            letters.as_slice(),
+        ),
+        &(false, LETTERS, Kind::Allocated, LETTERS),
     );
 }
 
@@ -93,8 +99,9 @@ fn room_filled_takes_none(rt: HostRuntime) {
     must(&rt, handle.push_slice(rt.alloc(), &[b'x'; 30]));
     must(&rt, handle.push_slice(rt.alloc(), &[b'y'; 34]));
     let lent = must(&rt, handle.to_mut_slice(rt.alloc())).len();
-    assert_eq!(&rt;
-        (was_refused(rt.alloc()), lent, handle.capacity()),
-        (false, 64, room)
+    equals(
+        &rt,
+        &(was_refused(rt.alloc()), lent, handle.capacity()),
+        &(false, 64, room),
     );
 }

@@ -2,7 +2,7 @@
 ghost use Rattle.std.specs.Iterator.{IsFinite};
 
 use super::held::{EACH_HELD, Held, PART, TEXT, text_of};
-use super::refusing::{each, is_refusing, must, refuse, was_refused};
+use super::refusing::{each, equals, is_refusing, must, must_hold, refuse, was_refused};
 use hipstr::pattern::{RangesBack, Split};
 use hipstr::string::{HipStr, IterWrapper, TextCuts, Unnumbered};
 use hipstr::{Backend, Rc, Unique};
@@ -135,8 +135,10 @@ fn is_walked<B: Backend>(rt: &impl Abort, alloc: Global, held: Held, walk: Walk,
     refuse(alloc, k);
     let given = walked(&text, alloc, walk);
     let refused = was_refused(alloc);
-    assert!(rt;
-        wanted.errors == 0 && given.items == wanted.items && given.errors == refused as usize
+    equals(
+        rt,
+        &(wanted.errors, given.items, given.errors),
+        &(0, wanted.items, refused as usize),
     );
     refused
 }
@@ -149,7 +151,7 @@ fn are_walked<B: Backend>(rt: &impl Abort, alloc: Global, i: usize, walk: Walk) 
         refusals = refusals.saturating_add(met);
     }
     let takes_memory = !B::SHARES && is_refusing(alloc);
-    assert!(rt; (refusals > 0) == takes_memory, "walk {i}");
+    equals(rt, &(i, refusals > 0), &(i, takes_memory));
 }
 
 #[test]
@@ -200,7 +202,7 @@ fn is_passed(rt: &impl Abort, alloc: Global, k: usize) -> bool {
     let is_so = is_piece(first, 0, refused & (k == 1))
         & is_piece(second, 1, refused & (k == 2))
         & is_piece(third, 2, refused & (k == 3));
-    assert!(rt; is_so & pieces.next().is_none());
+    must_hold(rt, is_so & pieces.next().is_none());
     refused
 }
 
@@ -208,5 +210,5 @@ fn is_passed(rt: &impl Abort, alloc: Global, k: usize) -> bool {
 fn refused_piece_is_passed(rt: HostRuntime) {
     let met = each(|k| is_passed(&rt, rt.alloc(), k));
     let wanted = if is_refusing(rt.alloc()) { 3 } else { 0 };
-    assert_eq!(&rt; met, wanted);
+    equals(&rt, &met, &wanted);
 }

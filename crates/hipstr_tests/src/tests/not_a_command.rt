@@ -1,5 +1,5 @@
 //! The message for a line that is no command, and the exit status.
-use super::support::{must, must_refuse};
+use super::support::{equals, must, must_refuse};
 use hip_script::play::play;
 use hipstr::Rc;
 use std::alloc::Global;
@@ -18,9 +18,10 @@ fn is_told(rt: &impl Abort, alloc: Global, script: &str, line: &str) {
     let ended = play::<Rc, _, _>(alloc, script.as_bytes(), &mut printed);
     let fault = must_refuse(rt, ended);
     let told = must(rt, format!(in alloc; "{fault}"));
-    assert_eq!(rt;
-        (told.as_str(), fault.status(), printed.is_empty()),
-        (line, 2, true)
+    equals(
+        rt,
+        &(told.as_str(), fault.status(), printed.is_empty()),
+        &(line, 2, true),
     );
 }
 

@@ -4,7 +4,7 @@ use super::sessions::{
     Row, Session, borrowed_pieces, cases, cuts, empty, four_pushes, many_bytes, pieces, pushed,
     pushed_slice, room_for_24, set_on_shared, shrunk, texts, writes,
 };
-use super::support::must;
+use super::support::{equals, must, must_hold};
 use super::ways::{Taken, Way, all};
 use hipstr::{
     Answer, Backend, Command, End, Kind, LocalHipByt, Meter, Pool, Rc, Reason, Slot, Unique, run,
@@ -39,7 +39,7 @@ fn answers<'b, B: Backend>(
         must(rt, wanted.push(*answer));
     }
     let answers = answers_to(rt, alloc, pool, commands.as_slice(), meter);
-    assert_eq!(rt; answers.as_slice(), wanted.as_slice());
+    equals(rt, &answers.as_slice(), &wanted.as_slice());
 }
 
 fn plays<B: Backend>(rt: &impl Abort, alloc: Global, session: Session) {
@@ -48,10 +48,10 @@ fn plays<B: Backend>(rt: &impl Abort, alloc: Global, session: Session) {
     answers(rt, alloc, &mut pool, session.rows, &mut Meter::new());
     for (i, bytes, is_lent) in session.left {
         let slot = must(rt, pool.slot(*i).ok_or("no slot"));
-        assert_eq!(rt;
-            (slot.as_bytes(), slot.kind() == Kind::Borrowed),
-            (*bytes, *is_lent),
-            "in slot {i}"
+        equals(
+            rt,
+            &(*i, slot.as_bytes(), slot.kind() == Kind::Borrowed),
+            &(*i, *bytes, *is_lent),
         );
     }
 }
@@ -76,7 +76,7 @@ fn costs<B: Backend>(rt: &impl Abort, alloc: Global) {
         (Command::Clone(0, 2), Answer::Done),
     ];
     answers(rt, alloc, &mut pool, &rows, &mut meter);
-    assert_eq!(rt; meter.copied(), if B::SHARES { 49 } else { 99 });
+    equals(rt, &meter.copied(), &if B::SHARES { 49 } else { 99 });
 }
 
 /// While a clone lives, the two share one vector, which neither hands out.
@@ -87,7 +87,7 @@ fn shares_its_vector(rt: &impl Abort, alloc: Global) {
     let handle = must(rt, handle.into_vec(alloc).err().ok_or("a clone lives"));
     drop(clone);
     let vec = must(rt, handle.into_vec(alloc).or(Err("the only handle")));
-    assert_eq!(rt; vec.as_slice(), letters);
+    equals(rt, &vec.as_slice(), &letters);
 }
 
 fn capacity_of<B: Backend>(rt: &impl Abort, alloc: Global, pool: &mut Pool<B>) -> usize {
@@ -104,9 +104,9 @@ fn in_place<B: Backend>(rt: &impl Abort, alloc: Global) {
     let mut pool = must(rt, Pool::<B>::new(alloc, 1));
     let mut meter = Meter::new();
     answers(rt, alloc, &mut pool, pushed(), &mut meter);
-    assert_eq!(rt; meter.copied(), 60);
+    equals(rt, &meter.copied(), &60);
     answers(rt, alloc, &mut pool, shrunk(), &mut meter);
-    assert!(rt; capacity_of(rt, alloc, &mut pool) < 200);
+    equals(rt, &(capacity_of(rt, alloc, &mut pool) < 200), &true);
 }
 
 /// A push past the room that is there moves the bytes that are kept once, to twice the room that is needed.
@@ -120,15 +120,16 @@ fn doubles(rt: &impl Abort, alloc: Global) {
         (Command::Push(0, &[b'y'; 30]), Answer::Done),
     ];
     answers(rt, alloc, &mut pool, &rows, &mut meter);
-    assert_eq!(rt; meter.copied(), 60);
+    equals(rt, &meter.copied(), &60);
     let room = capacity_of(rt, alloc, &mut pool);
     let beyond = must(rt, many.get(..room.saturating_sub(59)).ok_or("more room"));
     let row = [(Command::Push(0, beyond), Answer::Done)];
     answers(rt, alloc, &mut pool, &row, &mut meter);
     let doubled = capacity_of(rt, alloc, &mut pool);
-    assert_eq!(rt;
-        (meter.copied(), doubled / 2 > room),
-        (room as u128 + 61, true)
+    equals(
+        rt,
+        &(meter.copied(), doubled / 2 > room),
+        &(room as u128 + 61, true),
     );
 }
 
@@ -140,18 +141,20 @@ fn grows_one_by_one(rt: &impl Abort, alloc: Global) {
     for _ in 0..2_500 {
         answers(rt, alloc, &mut pool, four_pushes(), &mut meter);
     }
-    assert!(rt; meter.copied() <= 30_000);
+    must_hold(rt, &meter.copied(), meter.copied() <= 30_000);
     answers(rt, alloc, &mut pool, many_bytes(), &mut meter);
 }
 
 fn pools<B: Backend>(rt: &impl Abort, alloc: Global) {
     let mut pool = must(rt, Pool::<B>::new(alloc, 3));
-    assert_eq!(rt;
-        (pool.len(), pool.is_empty(), pool.slot(3).is_none()),
-        (3, false, true)
+    equals(
+        rt,
+        &(pool.len(), pool.is_empty(), pool.slot(3).is_none()),
+        &(3, false, true),
     );
-    assert!(rt; answers_to(rt, alloc, &mut pool, &[], &mut Meter::new()).is_empty());
-    assert!(rt; must(rt, Pool::<B>::new(alloc, 0)).is_empty());
+    let answers = answers_to(rt, alloc, &mut pool, &[], &mut Meter::new());
+    let none = must(rt, Pool::<B>::new(alloc, 0));
+    equals(rt, &(answers.is_empty(), none.is_empty()), &(true, true));
 }
 
 /// Whether a slot holds this piece, borrowed as its text is, or nothing where there is none.
@@ -189,7 +192,7 @@ fn is_cut<B: Backend>(rt: &impl Abort, alloc: Global, cut: Cut) -> bool {
 
 fn are_cut<B: Backend>(rt: &impl Abort, alloc: Global, cuts: &[Cut]) {
     for (i, cut) in cuts.iter().enumerate() {
-        assert!(rt; is_cut::<B>(rt, alloc, *cut), "{}, row {i}", cut.0);
+        must_hold(rt, &(i, cut.0), is_cut::<B>(rt, alloc, *cut));
     }
 }
 
@@ -263,10 +266,8 @@ fn takes_each_apart<B: Backend>(rt: &impl Abort, alloc: Global, taken: Taken, sc
     let (text, ways) = taken;
     for (i, way) in ways.iter().enumerate() {
         for count in 0..7 {
-            assert!(rt;
-                takes_apart::<B>(rt, alloc, text, *way, &script[..count]),
-                "{text}, way {i}, {script:?}"
-            );
+            let is_so = takes_apart::<B>(rt, alloc, text, *way, &script[..count]);
+            must_hold(rt, &(text, i, &script[..count]), is_so);
         }
     }
 }

@@ -1,4 +1,5 @@
 //! The ends of a test.
+use std::fmt;
 use std::process::Abort;
 
 /// The value, or the end of the test where it was refused. A test with no way out but this is a straight line, and cheap to prove.
@@ -15,4 +16,14 @@ pub(crate) fn must_refuse<T: Drop, E>(rt: &impl Abort, outcome: Result<T, E>) ->
         Ok(_) => panic!(rt; "a call wasn't refused"),
         Err(error) => error,
     }
+}
+
+/// Asserts that two values are equal.
+pub(crate) fn equals<T: PartialEq + fmt::Debug>(rt: &impl Abort, found: &T, wanted: &T) {
+    assert_eq!(rt; *found, *wanted);
+}
+
+/// Asserts this of a row.
+pub(crate) fn must_hold<R: fmt::Debug>(rt: &impl Abort, row: &R, is_so: bool) {
+    assert!(rt; is_so, "of {row:?}");
 }

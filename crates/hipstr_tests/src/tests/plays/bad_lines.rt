@@ -1,5 +1,5 @@
 //! Scripts that are refused, on either backend.
-use super::support::played;
+use super::support::{ends, played};
 use hip_script::PlayFault;
 use hipstr::{Backend, Rc, Unique};
 use std::alloc::Global;
@@ -74,12 +74,8 @@ const BAD_SCRIPTS: &[(&str, usize)] = &[
 /// Plays the scripts on a backend: nothing is printed, and the line is told.
 fn refused<B: Backend>(rt: &impl Abort, alloc: Global) {
     for (script, line) in BAD_SCRIPTS {
-        let (written, ended) = played::<B>(alloc, script);
-        assert_eq!(rt;
-            (ended, written.is_empty()),
-            (Err(PlayFault::NotACommand(*line)), true),
-            "{script:?}"
-        );
+        let wanted = Err(PlayFault::NotACommand(*line));
+        ends(rt, script, &played::<B>(alloc, script), (b"", wanted));
     }
 }
 

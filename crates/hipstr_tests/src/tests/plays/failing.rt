@@ -1,5 +1,6 @@
 //! Failing and slow readers and writers, and the texts of faults.
-use super::support::{FIRST_ANSWERS, FIRST_RUN, WELL, played_by};
+use super::super::support::equals;
+use super::support::{FIRST_ANSWERS, FIRST_RUN, WELL, ends, played_by};
 use hip_script::PlayFault;
 use hip_script::play::play;
 use hipstr::{Backend, Rc, Unique};
@@ -18,24 +19,24 @@ const PIECES_ANSWERS: &str = "done\ndone\n4\ntext \"d\"\nborrowed\n";
 /// Plays a script from a reader that gives one byte a call, and fails at its `k`-th call alone: at any up to the one that finds the end
 /// nothing is run, and nothing written.
 fn is_read<B: Backend>(rt: &impl Abort, alloc: Global, script: &str, answers: &str, k: usize) {
-    let (written, ended) = played_by::<B>(alloc, script.as_bytes(), (1, k as u64), WELL);
-    let wanted: (Result<(), PlayFault>, &[u8]) = if 0 < k && k <= script.len() + 1 {
-        (Err(PlayFault::ReadFailed), b"")
+    let played = played_by::<B>(alloc, script.as_bytes(), (1, k as u64), WELL);
+    let wanted: (&[u8], Result<(), PlayFault>) = if 0 < k && k <= script.len() + 1 {
+        (b"", Err(PlayFault::ReadFailed))
     } else {
-        (Ok(()), answers.as_bytes())
+        (answers.as_bytes(), Ok(()))
     };
-    assert_eq!(rt; (ended, written.as_slice()), wanted, "at call {k}");
+    ends(rt, &k, &played, wanted);
 }
 
 /// Plays a script into a writer that takes one byte a call, and fails at its `k`-th call alone: nothing is written after a failure.
 fn is_written<B: Backend>(rt: &impl Abort, alloc: Global, script: &str, answers: &str, k: usize) {
-    let (written, ended) = played_by::<B>(alloc, script.as_bytes(), WELL, (1, k as u64));
+    let played = played_by::<B>(alloc, script.as_bytes(), WELL, (1, k as u64));
     let wanted = if 0 < k && k <= answers.len() {
-        (Err(PlayFault::WriteFailed), &answers.as_bytes()[..k - 1])
+        (&answers.as_bytes()[..k - 1], Err(PlayFault::WriteFailed))
     } else {
-        (Ok(()), answers.as_bytes())
+        (answers.as_bytes(), Ok(()))
     };
-    assert_eq!(rt; (ended, written.as_slice()), wanted, "at call {k}");
+    ends(rt, &k, &played, wanted);
 }
 
 /// Failures at each call, and past the last.
@@ -58,11 +59,8 @@ fn failing_calls(rt: HostRuntime) {
 
 #[test]
 fn failed_read_before_bad_line(rt: HostRuntime) {
-    let (written, ended) = played_by::<Rc>(rt.alloc(), b"bad\n", (100, 2), WELL);
-    assert_eq!(rt;
-        (ended, written.is_empty()),
-        (Err(PlayFault::ReadFailed), true)
-    );
+    let played = played_by::<Rc>(rt.alloc(), b"bad\n", (100, 2), WELL);
+    ends(&rt, &"bad", &played, (b"", Err(PlayFault::ReadFailed)));
 }
 
 /// A reader that finds no memory.
@@ -80,16 +78,18 @@ impl Read for Starved {
 fn starved_reader(rt: HostRuntime) {
     let mut out = Vec::new(rt.alloc());
     let ended = play::<Rc, _, _>(rt.alloc(), Starved, &mut out);
-    assert_eq!(rt; (ended, out.is_empty()), (Err(PlayFault::Memory), true));
+    ends(
+        &rt,
+        &"nothing",
+        &(out, ended),
+        (b"", Err(PlayFault::Memory)),
+    );
 }
 
 #[test]
 fn writer_that_takes_nothing(rt: HostRuntime) {
-    let (written, ended) = played_by::<Rc>(rt.alloc(), FIRST_RUN.as_bytes(), WELL, (0, 0));
-    assert_eq!(rt;
-        (ended, written.is_empty()),
-        (Err(PlayFault::WriteFailed), true)
-    );
+    let played = played_by::<Rc>(rt.alloc(), FIRST_RUN.as_bytes(), WELL, (0, 0));
+    ends(&rt, &FIRST_RUN, &played, (b"", Err(PlayFault::WriteFailed)));
 }
 
 /// More answers than the buffer holds, and then a failure: what was written stays.
@@ -98,11 +98,15 @@ fn failure_in_mid_stream(rt: HostRuntime) -> Result<(), Fail> {
     let script = "new 0\n".repeat(rt.alloc(), 4000)?;
     let answers = "done\n".repeat(rt.alloc(), 4000)?;
     let (written, ended) = played_by::<Rc>(rt.alloc(), script.as_bytes(), WELL, (5000, 3));
-    assert_eq!(rt;
-        (ended, written.is_empty()),
-        (Err(PlayFault::WriteFailed), false)
+    equals(
+        &rt,
+        &(
+            ended,
+            written.is_empty(),
+            answers.as_bytes().starts_with(written.as_slice()),
+        ),
+        &(Err(PlayFault::WriteFailed), false, true),
     );
-    assert!(rt; answers.as_bytes().starts_with(written.as_slice()));
     Ok(())
 }
 
@@ -120,7 +124,7 @@ fn faults() -> &'static [(PlayFault, &'static str, u8)] {
 fn fault_lines(rt: HostRuntime) -> Result<(), Fail> {
     for (fault, line, status) in faults() {
         let text = format!(in rt.alloc(); "{fault}")?;
-        assert_eq!(rt; (text.as_str(), fault.status()), (*line, *status));
+        equals(&rt, &(text.as_str(), fault.status()), &(*line, *status));
     }
     Ok(())
 }

@@ -1,6 +1,7 @@
 //! Scripts longer than what is run or written at once: numbers, literals and answers of each length on both sides of a limit, whose values
 //! are put together here.
-use super::support::{WELL, played, played_by};
+use super::super::support::equals;
+use super::support::{WELL, ends, played, played_by};
 use hip_script::PlayFault;
 use hip_script::play::{play_script, play_to};
 use hipstr::{Rc, Unique};
@@ -76,8 +77,12 @@ fn literals(rt: HostRuntime) -> Result<(), Fail> {
             } else {
                 (answers.as_bytes(), Ok(()))
             };
-            let (written, ended) = played::<Rc>(rt.alloc(), script.as_str());
-            assert_eq!(rt; (written.as_slice(), ended), wanted, "{script}");
+            ends(
+                &rt,
+                &script,
+                &played::<Rc>(rt.alloc(), script.as_str()),
+                wanted,
+            );
         }
     }
     Ok(())
@@ -107,12 +112,9 @@ fn failure_around_the_buffer(rt: HostRuntime) -> Result<(), Fail> {
     let script = format!(in rt.alloc(); "{first}{numbers}")?;
     let answers = format!(in rt.alloc(); "done\ndone\ndone\ndone\n{printed}")?;
     for k in 8180..8204 {
-        let (written, ended) = played_by::<Rc>(rt.alloc(), script.as_bytes(), WELL, (1, k as u64));
-        assert_eq!(rt;
-            (written.as_slice(), ended),
-            (&answers.as_bytes()[..k - 1], Err(PlayFault::WriteFailed)),
-            "at call {k}"
-        );
+        let played = played_by::<Rc>(rt.alloc(), script.as_bytes(), WELL, (1, k as u64));
+        let front = &answers.as_bytes()[..k - 1];
+        ends(&rt, &k, &played, (front, Err(PlayFault::WriteFailed)));
     }
     Ok(())
 }
@@ -123,25 +125,24 @@ fn lent(rt: HostRuntime) -> Result<(), Fail> {
     let mut reader = &b"new 0\nlen 0\n"[..];
     let mut written = Vec::from_slice(rt.alloc(), b"> ")?;
     let ended = play_to::<Unique, _, _>(rt.alloc(), &mut reader, &mut written);
-    assert_eq!(rt;
-        (written.as_slice(), ended, reader.len()),
-        (&b"> done\n0\n"[..], Ok(()), 0)
+    equals(
+        &rt,
+        &(written.as_slice(), ended, reader.len()),
+        &(&b"> done\n0\n"[..], Ok(()), 0),
     );
     let ended = play_script::<Unique, _>(rt.alloc(), b"copy 0 \"ab\"\nlen 0\n", &mut written);
-    assert_eq!(rt;
-        (written.as_slice(), ended),
-        (&b"> done\n0\ndone\n2\n"[..], Ok(()))
+    ends(
+        &rt,
+        &"in memory",
+        &(written, ended),
+        (b"> done\n0\ndone\n2\n", Ok(())),
     );
     Ok(())
 }
 
 /// A script prints these answers on either backend.
 fn prints(rt: &impl Abort, alloc: Global, script: &str, answers: &str) {
-    for (written, ended) in [played::<Rc>(alloc, script), played::<Unique>(alloc, script)] {
-        assert_eq!(rt;
-            (written.as_slice(), ended),
-            (answers.as_bytes(), Ok(())),
-            "{script}"
-        );
-    }
+    let wanted = (answers.as_bytes(), Ok(()));
+    ends(rt, &script, &played::<Rc>(alloc, script), wanted);
+    ends(rt, &script, &played::<Unique>(alloc, script), wanted);
 }

@@ -1,5 +1,5 @@
 //! Scripts and what they print, on either backend.
-use super::support::{FIRST_ANSWERS, FIRST_RUN, played};
+use super::support::{FIRST_ANSWERS, FIRST_RUN, ends, played};
 use hipstr::{Backend, Rc, Unique};
 use std::alloc::Global;
 use std::process::Abort;
@@ -10,11 +10,11 @@ type Row = (&'static str, &'static str);
 /// Plays scripts on a backend, and compares what they print.
 fn print<B: Backend>(rt: &impl Abort, alloc: Global, rows: &[Row]) {
     for (script, answers) in rows {
-        let (written, ended) = played::<B>(alloc, script);
-        assert_eq!(rt;
-            (written.as_slice(), ended),
+        ends(
+            rt,
+            script,
+            &played::<B>(alloc, script),
             (answers.as_bytes(), Ok(())),
-            "{script}"
         );
     }
 }

@@ -3,11 +3,27 @@ use hip_script::PlayFault;
 use hip_script::play::play;
 use hipstr::{Backend, Fuse};
 use std::alloc::Global;
+use std::fmt;
+use std::process::Abort;
 
 pub(crate) const FIRST_RUN: &str =
     "copy 0 \"Hello John\"\nslice 0 1 6..\nnew 0\npush 1 \"!\"\nlen 1\nshow 1\n";
 
 pub(crate) const FIRST_ANSWERS: &str = "done\ndone\ndone\ndone\n5\nbytes \"John!\"\n";
+
+/// The output of a script, and how it ends.
+pub(crate) type Played = (Vec<u8>, Result<(), PlayFault>);
+
+/// Asserts that a script of this row wrote this, and ended so.
+pub(crate) fn ends<R: fmt::Debug>(
+    rt: &impl Abort,
+    row: &R,
+    played: &Played,
+    wanted: (&[u8], Result<(), PlayFault>),
+) {
+    let (written, ended) = played;
+    assert_eq!(rt; (written.as_slice(), *ended), wanted, "of {row:?}");
+}
 
 /// The output of a script, and how it ends. `reads` and `writes` are each the number of bytes a call at most, and the one call that fails.
 pub(crate) fn played_by<B: Backend>(
@@ -15,7 +31,7 @@ pub(crate) fn played_by<B: Backend>(
     script: &[u8],
     reads: (usize, u64),
     writes: (usize, u64),
-) -> (Vec<u8>, Result<(), PlayFault>) {
+) -> Played {
     let mut taken = Vec::new(alloc);
     let reader = Fuse::new(script, reads.0, reads.1);
     let writer = Fuse::new(&mut taken, writes.0, writes.1);
@@ -27,6 +43,6 @@ pub(crate) fn played_by<B: Backend>(
 pub(crate) const WELL: (usize, u64) = (usize::MAX, 0);
 
 /// The output of a script, and how it ends.
-pub(crate) fn played<B: Backend>(alloc: Global, script: &str) -> (Vec<u8>, Result<(), PlayFault>) {
+pub(crate) fn played<B: Backend>(alloc: Global, script: &str) -> Played {
     played_by::<B>(alloc, script.as_bytes(), WELL, WELL)
 }

@@ -1,4 +1,5 @@
 //! Numbers of words, and how many different texts there are then. A word that was interned is found again by a text of another kind.
+use super::super::support::must_hold;
 use hip_uses::intern::{InternFault, Interner};
 use hipstr::string::HipStr;
 use hipstr::{Backend, Meter, Rc, Unique};
@@ -84,8 +85,8 @@ fn numbers_words<B: Backend>(alloc: Global, text: &str, numbers: &[u32], count: 
 fn different_words_have_numbers(rt: HostRuntime) {
     let alloc = rt.alloc();
     for (words, wanted, count) in ROWS {
-        assert!(rt; numbers::<Rc>(alloc, words, wanted, count), "{words:?}");
-        assert!(rt; numbers::<Unique>(alloc, words, wanted, count), "{words:?}");
+        must_hold(&rt, &words, numbers::<Rc>(alloc, words, wanted, count));
+        must_hold(&rt, &words, numbers::<Unique>(alloc, words, wanted, count));
     }
 }
 
@@ -93,10 +94,11 @@ fn different_words_have_numbers(rt: HostRuntime) {
 fn words_of_texts_have_numbers(rt: HostRuntime) {
     let alloc = rt.alloc();
     for (text, wanted, count) in TEXTS {
-        assert!(rt; numbers_words::<Rc>(alloc, text, wanted, count), "{text:?}");
-        assert!(rt;
+        must_hold(&rt, &text, numbers_words::<Rc>(alloc, text, wanted, count));
+        must_hold(
+            &rt,
+            &text,
             numbers_words::<Unique>(alloc, text, wanted, count),
-            "{text:?}"
         );
     }
 }

@@ -1,5 +1,5 @@
 //! Two queues of two messages each: at `0` and `1` that subscriber receives, any other character is published.
-use super::support::is;
+use super::support::prints;
 use hip_uses::queue::{PublishFault, Queue, publish};
 use hipstr::bytes::HipByt;
 use hipstr::{Backend, Meter, Rc, Unique};
@@ -63,7 +63,7 @@ fn shown<B: Backend>(alloc: Global, steps: &str) -> Result<String, AllocError> {
 fn each_subscriber_receives_what_was_published(rt: HostRuntime) {
     let alloc = rt.alloc();
     for (steps, wanted) in ROWS {
-        assert!(rt; is(&shown::<Rc>(alloc, steps), wanted), "of {steps:?}");
-        assert!(rt; is(&shown::<Unique>(alloc, steps), wanted), "of {steps:?}");
+        prints(&rt, steps, &shown::<Rc>(alloc, steps), wanted);
+        prints(&rt, steps, &shown::<Unique>(alloc, steps), wanted);
     }
 }

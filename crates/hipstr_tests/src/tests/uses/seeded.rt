@@ -1,4 +1,5 @@
 //! Maps whose hashers are seeded: texts get the same numbers, and names the same values, by each of three seeds.
+use super::super::support::{must, must_hold};
 use hip_uses::intern::Interner;
 use hip_uses::packed::Packed;
 use hip_uses::template::{Values, fill, parse};
@@ -8,7 +9,6 @@ use std::alloc::{AllocError, Global};
 use std::hash::{BuildHasher, RandomState};
 use std::io;
 use std::io::ErrorKind;
-use std::process::Abort;
 use std::random::RandomSource;
 
 /// A source that gives one byte again and again, or fails.
@@ -40,6 +40,11 @@ fn numbers<S: BuildHasher + Drop>(alloc: Global, hash_builder: S) -> Option<Vec<
     interner.intern_words(alloc, &HipStr::borrowed(TEXT)).ok()
 }
 
+/// Whether the words of the text have their numbers.
+fn is_numbered<S: BuildHasher + Drop>(alloc: Global, hash_builder: S) -> bool {
+    numbers(alloc, hash_builder).is_some_and(|found| found.as_slice() == NUMBERS.as_slice())
+}
+
 /// A template that is filled by two values.
 fn filled<S: BuildHasher + Drop>(alloc: Global, hash_builder: S) -> Result<bool, AllocError> {
     let mut values = Values::<Rc, S>::with_hasher(alloc, hash_builder);
@@ -56,21 +61,13 @@ fn filled<S: BuildHasher + Drop>(alloc: Global, hash_builder: S) -> Result<bool,
 fn any_seed_gives_the_same_numbers(rt: HostRuntime) {
     let alloc = rt.alloc();
     for seed in SEEDS {
-        let state = RandomState::new(&Given(Some(seed))).expect(&rt, "a given seed");
-        let found = numbers(alloc, state).expect(&rt, "memory for the numbers");
-        assert!(rt;
-            found.as_slice() == NUMBERS.as_slice(),
-            "by the seed {seed}"
-        );
+        let state = must(&rt, RandomState::new(&Given(Some(seed))));
+        must_hold(&rt, &("plain", seed), is_numbered(alloc, state));
         let packed = Packed {
             hash_builder: state,
         };
-        let found = numbers(alloc, packed).expect(&rt, "memory for the numbers");
-        assert!(rt;
-            found.as_slice() == NUMBERS.as_slice(),
-            "packed, by the seed {seed}"
-        );
-        assert!(rt; filled(alloc, state) == Ok(true), "by the seed {seed}");
+        must_hold(&rt, &("packed", seed), is_numbered(alloc, packed));
+        must_hold(&rt, &("filled", seed), filled(alloc, state) == Ok(true));
     }
 }
 

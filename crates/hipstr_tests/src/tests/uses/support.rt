@@ -1,10 +1,21 @@
 //! The comparison of what was printed.
 use std::alloc::AllocError;
+use std::process::Abort;
 
 /// Whether this was printed.
-pub(crate) fn is(printed: &Result<String, AllocError>, wanted: &str) -> bool {
+fn is(printed: &Result<String, AllocError>, wanted: &str) -> bool {
     match printed {
         Ok(printed) => printed.as_str() == wanted,
         Err(AllocError) => false,
     }
+}
+
+/// Asserts that this was printed of a text.
+pub(crate) fn prints(
+    rt: &impl Abort,
+    text: &str,
+    printed: &Result<String, AllocError>,
+    wanted: &str,
+) {
+    assert!(rt; is(printed, wanted), "of {text:?}");
 }

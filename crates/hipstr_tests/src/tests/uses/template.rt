@@ -1,5 +1,6 @@
 //! Templates, filled with `name` and `greeting`.
-use super::support::is;
+use super::super::support::must_hold;
+use super::support::prints;
 use hip_uses::template::{Hole, Template, TemplateFault, Values, fill, parse};
 use hipstr::string::HipStr;
 use hipstr::{Backend, Rc, Unique};
@@ -49,8 +50,8 @@ fn shown<B: Backend>(alloc: Global, text: &str) -> Result<String, AllocError> {
 fn fills_holes(rt: HostRuntime) {
     let alloc = rt.alloc();
     for (text, wanted) in ROWS {
-        assert!(rt; is(&shown::<Rc>(alloc, text), wanted), "of {text:?}");
-        assert!(rt; is(&shown::<Unique>(alloc, text), wanted), "of {text:?}");
+        prints(&rt, text, &shown::<Rc>(alloc, text), wanted);
+        prints(&rt, text, &shown::<Unique>(alloc, text), wanted);
     }
 }
 
@@ -70,11 +71,13 @@ fn put_together<B: Backend>(
     fill(alloc, &template, &values)
 }
 
+fn is_put_together<B: Backend>(alloc: Global) -> bool {
+    put_together::<B>(alloc).is_ok_and(|text| text.str_eq("Ada: Good evening, Ada!"))
+}
+
 #[test]
 fn fills_what_was_put_together(rt: HostRuntime) {
     let alloc = rt.alloc();
-    assert!(rt; put_together::<Rc>(alloc).is_ok_and(|text| text.str_eq("Ada: Good evening, Ada!")));
-    assert!(rt;
-        put_together::<Unique>(alloc).is_ok_and(|text| text.str_eq("Ada: Good evening, Ada!"))
-    );
+    must_hold(&rt, &"on `Rc`", is_put_together::<Rc>(alloc));
+    must_hold(&rt, &"on `Unique`", is_put_together::<Unique>(alloc));
 }

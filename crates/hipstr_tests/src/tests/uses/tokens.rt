@@ -1,5 +1,5 @@
 //! Tokens, as `START CLASS TEXT` a line.
-use super::support::is;
+use super::support::prints;
 use hip_uses::tokens::tokens;
 use hipstr::string::HipStr;
 use hipstr::{Backend, Meter, Rc, Unique};
@@ -36,7 +36,7 @@ fn shown<B: Backend>(alloc: Global, text: &str) -> Result<String, AllocError> {
 fn cuts_runs(rt: HostRuntime) {
     let alloc = rt.alloc();
     for (text, wanted) in ROWS {
-        assert!(rt; is(&shown::<Rc>(alloc, text), wanted), "of {text:?}");
-        assert!(rt; is(&shown::<Unique>(alloc, text), wanted), "of {text:?}");
+        prints(&rt, text, &shown::<Rc>(alloc, text), wanted);
+        prints(&rt, text, &shown::<Unique>(alloc, text), wanted);
     }
 }
