@@ -1,5 +1,5 @@
 //! The meter, and the function by which bytes are copied.
-ghost use Rattle.std.specs.Prelude.{◌≡◌, ◌+◌, ◌-◌, ◌^◌, ◌<◌, ◌≤◌, ◌++◌, drop, length, take, vec_len, vec_capacity, IfOk, IsOk, OnOk, OnErr};
+ghost use Rattle.std.specs.Prelude.{◌≡◌, ◌+◌, ◌-◌, ◌^◌, ◌<◌, ◌≤◌, ◌++◌, drop, length, replicate, take, vec_len, vec_capacity, IfOk, IsOk, OnOk, OnErr};
 ghost use Rattle.hip_raw.specs.Meter.{RisesAtLeast, RisesAtMost, count_from};
 
 use std::alloc::{AllocError, Global};
@@ -187,8 +187,7 @@ const POSITIONS: [u8; LANE] = [0, 1, 2, 3, 4, 5, 6, 7, 8, 9, 10, 11, 12, 13, 14,
 #[inline(always)]
 fn front_of(lane: u8x16, len: usize) -> u8x16
     requires { len ≤ LANE }
-    ensures front { take len result ≡ take len lane }
-    ensures whole { length result ≡ LANE }
+    ensures { result ≡ take len lane ++ replicate (LANE - len) 0 }
 {
     let is_front = u8x16::from_array(POSITIONS).simd_lt(u8x16::splat(len as u8));
     is_front.select(lane, u8x16::splat(0))
