@@ -67,8 +67,9 @@ impl Default for Meter {
     }
 }
 
-/// Copies `from` over `to` and counts its bytes. All bytes that the product copies go through it, some of them by `fill_at` or `fill_front`,
-/// but those of an [`Inline`](crate::Inline) that is cloned: its array is copied whole, as by a move, and its length is counted.
+/// Copies `from` over `to` and counts its bytes. All bytes that the product copies go through it, some of them by `fill_at`, or are counted
+/// as it counts them by `fill_front`, but those of an [`Inline`](crate::Inline) that is cloned: its array is copied whole, as by a move, and
+/// its length is counted.
 #[inline(always)]
 pub fn fill_counted(to: &mut [u8], from: &[u8], meter: &mut Meter)
     requires { length to.old ≡ length from.now }
