@@ -204,6 +204,7 @@ impl Buffer {
         ensures items { self.new.items ≡ bytes.now }
         ensures capacity { self.new.capacity ≡ self.old.capacity }
         ensures counted { RisesAtMost meter.old meter.new (length bytes.now) }
+        ensures copied { RisesAtLeast meter.old meter.new (length bytes.now) }
     {
         let len = self.len;
         if len < bytes.len() {

@@ -67,9 +67,8 @@ impl Default for Meter {
     }
 }
 
-/// Copies `from` over `to` and counts its bytes. All bytes that the product copies go through it, some of them by `fill_at`, or are counted
-/// as it counts them by `fill_front`, but those of an [`Inline`](crate::Inline) that is cloned: its array is copied whole, as by a move, and
-/// its length is counted.
+/// Copies `from` over `to` and counts its bytes. All bytes that the product copies go through it, some of them by `fill_at`, or through
+/// `fill_front`. A clone of an [`Inline`](crate::Inline) alone copies its array whole, as by a move, and counts its length.
 #[inline(always)]
 pub fn fill_counted(to: &mut [u8], from: &[u8], meter: &mut Meter)
     requires { length to.old ≡ length from.now }
@@ -201,8 +200,7 @@ pub(crate) fn fill_front(room: &mut [u8], list: &[u8], len: usize, meter: &mut M
     requires short { len ≤ LANE }
     requires goes_on { LANE ≤ length list.now }
     requires room { LANE ≤ length room.old }
-    ensures items { take len room.new ≡ take len list.now }
-    ensures len { length room.new ≡ length room.old }
+    ensures items { room.new ≡ (take len list.now ++ replicate (LANE - len) 0) ++ drop LANE room.old }
     ensures counted { RisesAtMost meter.old meter.new len }
     ensures exact { meter.new ≡ count_from meter.old len }
 {

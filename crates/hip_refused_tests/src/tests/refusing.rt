@@ -47,7 +47,7 @@ pub(crate) fn must<T, E: Drop>(rt: &impl Abort, outcome: Result<T, E>) -> T {
     }
 }
 
-/// Asserts this.
+/// Asserts that a condition holds.
 pub(crate) fn must_hold(rt: &impl Abort, is_so: bool) {
     assert!(rt; is_so);
 }

@@ -23,7 +23,7 @@ pub(crate) fn equals<T: PartialEq + fmt::Debug>(rt: &impl Abort, found: &T, want
     assert_eq!(rt; *found, *wanted);
 }
 
-/// Asserts this of a row.
+/// Asserts that a condition holds for a row.
 pub(crate) fn must_hold<R: fmt::Debug>(rt: &impl Abort, row: &R, is_so: bool) {
     assert!(rt; is_so, "of {row:?}");
 }

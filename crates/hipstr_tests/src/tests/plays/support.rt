@@ -14,7 +14,7 @@ pub(crate) const FIRST_ANSWERS: &str = "done\ndone\ndone\ndone\n5\nbytes \"John!
 /// The output of a script, and how it ends.
 pub(crate) type Played = (Vec<u8>, Result<(), PlayFault>);
 
-/// Asserts that a script of this row wrote this, and ended so.
+/// Asserts the output of a row's script, and how it ended.
 pub(crate) fn ends<R: fmt::Debug>(
     rt: &impl Abort,
     row: &R,

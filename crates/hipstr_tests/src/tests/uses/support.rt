@@ -10,7 +10,7 @@ fn is(printed: &Result<String, AllocError>, wanted: &str) -> bool {
     }
 }
 
-/// Asserts that this was printed of a text.
+/// Asserts the output for a text.
 pub(crate) fn prints(
     rt: &impl Abort,
     text: &str,
