@@ -1,5 +1,5 @@
 -- Vectors that are computed lane by lane, and lists that they are stored to.
-use Rattle.std.proofs.Common.{◌≡◌, ℕ, zero, suc, ◌+◌, ◌-◌, ◌≤◌, eqb, nat_lt, Bool, true, cond, List, [], ◌∷◌, ◌++◌, map, take, drop, length, replicate, Fits, w8, refl, sym, ap, ap₂, ◌∙◌, arith}
+use Rattle.std.proofs.Common.{◌≡◌, ℕ, zero, suc, ◌+◌, ◌≤◌, eqb, nat_lt, Bool, true, cond, List, [], ◌∷◌, ◌++◌, map, take, drop, length, Fits, w8, refl, sym, ap, ap₂, ◌∙◌, arith}
 use Rattle.std.proofs.lemmas.Bool.{agree_below, agree_below_at, eqb-true, le-ltb, lt-ltb}
 use Rattle.std.proofs.lemmas.Simd.{map-map, length-chunk, put_chunk_is, take_more_put_chunk}
 use Rattle.std.proofs.lemmas.List.{length-map, length-append, length-take-le, append_assoc, drop-drop, drop_at}
@@ -46,18 +46,21 @@ up i (suc m) = i ∷ up (suc i) m
 abbrev pub below : ℕ → ℕ → ℕ → List Bool
 below len i m = map (λ j. top 7 (cond (nat_lt j len) 255 0)) (up i m)
 
--- from len on all lanes become zeros
-past_front : (len i m : ℕ) (xs : List ℕ) → len ≤ i → length xs ≡ m → sel_l (below len i m) xs (replicate m 0) ≡ replicate m 0
-past_front len i zero xs le long = refl
-past_front len i (suc m) [] le long = absurd (omega arith)
-past_front len i (suc m) (x ∷ xs) le long =
-    ap₂ (λ z l. z ∷ l) (ap (λ b. cond (top 7 (cond b 255 0)) x 0) (le-ltb i len (omega arith))) (past_front len (suc i) m xs (omega arith) (omega arith))
+-- the lanes at positions from len on are those of ys
+past_front : (len i m : ℕ) (xs ys : List ℕ) → len ≤ i → length xs ≡ m → length ys ≡ m → sel_l (below len i m) xs ys ≡ ys
+past_front len i zero xs [] le long level = refl
+past_front len i zero xs (y ∷ ys) le long level = absurd (omega arith)
+past_front len i (suc m) [] ys le long level = absurd (omega arith)
+past_front len i (suc m) (x ∷ xs) [] le long level = absurd (omega arith)
+past_front len i (suc m) (x ∷ xs) (y ∷ ys) le long level =
+    ap₂ (λ z l. z ∷ l) (ap (λ b. cond (top 7 (cond b 255 0)) x y) (le-ltb i len (omega arith))) (past_front len (suc i) m xs ys (omega arith) (omega arith) (omega arith))
 
--- the lanes at positions below len stay
-pub front_is : (len i m k : ℕ) (xs : List ℕ) → i + k ≡ len → k ≤ m → length xs ≡ m
-    → sel_l (below len i m) xs (replicate m 0) ≡ take k xs ++ replicate (m - k) 0
-front_is len i m zero xs reach within long = past_front len i m xs (omega arith) long ∙ ap (λ j. replicate j 0) (omega arith)
-front_is len i zero (suc k) xs reach within long = absurd (omega arith)
-front_is len i (suc m) (suc k) [] reach within long = absurd (omega arith)
-front_is len i (suc m) (suc k) (x ∷ xs) reach within long =
-    ap₂ (λ z l. z ∷ l) (ap (λ b. cond (top 7 (cond b 255 0)) x 0) (lt-ltb i len (omega arith))) (front_is len (suc i) m k xs (omega arith) (omega arith) (omega arith) ∙ ap (λ j. take k xs ++ replicate j 0) (omega arith))
+-- the lanes at positions below len are those of xs
+pub front_is : (len i m k : ℕ) (xs ys : List ℕ) → i + k ≡ len → k ≤ m → length xs ≡ m → length ys ≡ m
+    → sel_l (below len i m) xs ys ≡ take k xs ++ drop k ys
+front_is len i m zero xs ys reach within long level = past_front len i m xs ys (omega arith) long level
+front_is len i zero (suc k) xs ys reach within long level = absurd (omega arith)
+front_is len i (suc m) (suc k) [] ys reach within long level = absurd (omega arith)
+front_is len i (suc m) (suc k) (x ∷ xs) [] reach within long level = absurd (omega arith)
+front_is len i (suc m) (suc k) (x ∷ xs) (y ∷ ys) reach within long level =
+    ap₂ (λ z l. z ∷ l) (ap (λ b. cond (top 7 (cond b 255 0)) x y) (lt-ltb i len (omega arith))) (front_is len (suc i) m k xs ys (omega arith) (omega arith) (omega arith) (omega arith))

@@ -3,7 +3,7 @@ ghost use Rattle.std.specs.Prelude.{⊤, ◌≡◌, ◌+◌, ◌-◌, ◌≤◌,
 ghost use Rattle.std.specs.Borrow.{sem};
 ghost use Rattle.hip_raw.specs.Meter.{RisesAtMost, count_from};
 
-use crate::meter::{Copying, LANE, Meter, fill, fill_front};
+use crate::meter::{Copying, LANE, Meter, fill};
 use cells::Cells;
 use length::Length;
 use std::alloc::AllocError;
@@ -159,7 +159,7 @@ impl<const N: usize, L: Length<N>> Inline<N, L> {
     {
         let mut inline = Self::empty();
         let room = &mut inline.row.cells.items[..];
-        fill_front(room, list, len, meter);
+        fill(room, list, len, Copying::AtOnce, meter);
         inline.row.len = L::of(len);
         inline
     }
@@ -230,10 +230,10 @@ impl<const N: usize, L: Length<N>> Inline<N, L> {
         ensures exact { meter.new ≡ count_from meter.old (length addition.now) }
     {
         let start = self.row.len.get();
-        let end = start + addition.len();
+        let len = addition.len();
         let room = &mut self.row.cells.items[..];
-        fill(&mut room[start..end], addition, Copying::Inlined, meter);
-        self.row.len = L::of(end);
+        fill(&mut room[start..], addition, len, Copying::Inlined, meter);
+        self.row.len = L::of(start + len);
     }
 
     /// Appends the first `count` bytes again, for which there is room, counted.
@@ -248,7 +248,7 @@ impl<const N: usize, L: Length<N>> Inline<N, L> {
         let start = self.row.len.get();
         let room = &mut self.row.cells.items[..];
         let (front, back) = room.split_at_mut(start);
-        fill(&mut back[..count], &front[..count], Copying::Inlined, meter);
+        fill(back, front, count, Copying::Inlined, meter);
         self.row.len = L::of(start + count);
     }
 

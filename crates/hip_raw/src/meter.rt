@@ -1,5 +1,5 @@
 //! The meter, and the function by which bytes are copied.
-ghost use Rattle.std.specs.Prelude.{◌≡◌, ◌+◌, ◌-◌, ◌^◌, ◌<◌, ◌≤◌, ◌++◌, drop, length, replicate, take, vec_len, vec_capacity, IfOk, IsOk, OnOk, OnErr};
+ghost use Rattle.std.specs.Prelude.{◌≡◌, ◌+◌, ◌-◌, ◌^◌, ◌<◌, ◌≤◌, ◌++◌, drop, length, take, vec_len, vec_capacity, IfOk, IsOk, OnOk, OnErr};
 ghost use Rattle.hip_raw.specs.Meter.{RisesAtLeast, RisesAtMost, count_from};
 
 use std::alloc::{AllocError, Global};
@@ -67,8 +67,8 @@ impl Default for Meter {
     }
 }
 
-/// Copies `from` over `to` and counts its bytes. All bytes that the product copies go through it, some of them by `fill_at`, or through
-/// `fill_front`. A clone of an [`Inline`](crate::Inline) alone copies its array whole, as by a move, and counts its length.
+/// Copies `from` over `to` and counts its bytes. All bytes that the product copies go through it, some of them by its form `fill`. A clone
+/// of an [`Inline`](crate::Inline) alone copies its array whole, as by a move, and counts its length.
 #[inline(always)]
 pub fn fill_counted(to: &mut [u8], from: &[u8], meter: &mut Meter)
     requires { length to.old ≡ length from.now }
@@ -76,7 +76,7 @@ pub fn fill_counted(to: &mut [u8], from: &[u8], meter: &mut Meter)
     ensures counted { RisesAtMost meter.old meter.new (length from.now) }
     ensures exact { meter.new ≡ count_from meter.old (length from.now) }
 {
-    fill(to, from, Copying::ByLanes, meter);
+    fill(to, from, from.len(), Copying::ByLanes, meter);
 }
 
 // How bytes are copied.
@@ -87,21 +87,27 @@ pub(crate) enum Copying {
     Inlined,
     // Up to 64 bytes by lanes, which costs less than a call of the C library, and more by a call.
     ByLanes,
+    // Up to a lane, by one load and one store, with no branch by the number of bytes. The list and the room go on behind them.
+    AtOnce,
 }
 
-// [`fill_counted`] in one of these ways.
+// [`fill_counted`] of the front of room by the first `len` bytes of a list, in one of these ways.
 #[inline(always)]
-pub(crate) fn fill(to: &mut [u8], from: &[u8], copying: Copying, meter: &mut Meter)
-    requires { length to.old ≡ length from.now }
-    ensures items { to.new ≡ from.now }
-    ensures counted { RisesAtMost meter.old meter.new (length from.now) }
-    ensures exact { meter.new ≡ count_from meter.old (length from.now) }
+pub(crate) fn fill(room: &mut [u8], list: &[u8], len: usize, copying: Copying, meter: &mut Meter)
+    requires there { len ≤ length list.now }
+    requires fits { len ≤ length room.old }
+    requires lane { copying ≡ Copying.AtOnce →
+        (len ≤ LANE) × ((LANE ≤ length list.now) × (LANE ≤ length room.old)) }
+    ensures items { room.new ≡ take len list.now ++ drop len room.old }
+    ensures counted { RisesAtMost meter.old meter.new len }
+    ensures exact { meter.new ≡ count_from meter.old len }
 {
     match copying {
-        Copying::Inlined => to.copy_from_slice(from),
-        Copying::ByLanes => copy_by_lanes(to, from),
+        Copying::Inlined => room[..len].copy_from_slice(&list[..len]),
+        Copying::ByLanes => copy_by_lanes(&mut room[..len], &list[..len]),
+        Copying::AtOnce => move_within_lane(room, list, len),
     }
-    meter.count(from.len());
+    meter.count(len);
 }
 
 // A copy by a call. Its code asks first whether both overlap, which takes 250 bytes, so it stands once.
@@ -162,6 +168,25 @@ fn move_front<const N: usize>(to: &mut [u8], from: &[u8])
     Simd::<u8, N>::from_slice(from).copy_to_slice(to);
 }
 
+/// The number of bytes that are moved at once by [`Copying::AtOnce`].
+pub(crate) const LANE: usize = 16;
+
+// The positions of a lane.
+const POSITIONS: [u8; LANE] = [0, 1, 2, 3, 4, 5, 6, 7, 8, 9, 10, 11, 12, 13, 14, 15];
+
+// Moves the first `len` bytes, by one load and one store: a lane is read, and the bytes behind them give way to those of the room.
+#[inline(always)]
+fn move_within_lane(room: &mut [u8], list: &[u8], len: usize)
+    requires short { len ≤ LANE }
+    requires goes_on { LANE ≤ length list.now }
+    requires room { LANE ≤ length room.old }
+    ensures { room.new ≡ take len list.now ++ drop len room.old }
+{
+    let is_moved = u8x16::from_array(POSITIONS).simd_lt(u8x16::splat(len as u8));
+    let blended = is_moved.select(u8x16::from_slice(list), u8x16::from_slice(room));
+    blended.copy_to_slice(room);
+}
+
 // [`fill_counted`] at a position of longer room, by lanes where the bytes are few. The answer says where they end.
 #[inline(always)]
 pub(crate) fn fill_at(room: &mut [u8], at: usize, bytes: &[u8], meter: &mut Meter) -> usize
@@ -172,40 +197,8 @@ pub(crate) fn fill_at(room: &mut [u8], at: usize, bytes: &[u8], meter: &mut Mete
     ensures counted { RisesAtMost meter.old meter.new (length bytes.now) }
     ensures copied { RisesAtLeast meter.old meter.new (length bytes.now) }
 {
-    let end = at + bytes.len();
-    fill(&mut room[at..end], bytes, Copying::ByLanes, meter);
-    end
-}
-
-/// The number of bytes that [`fill_front`] reads at once.
-pub(crate) const LANE: usize = 16;
-
-// The positions of a lane.
-const POSITIONS: [u8; LANE] = [0, 1, 2, 3, 4, 5, 6, 7, 8, 9, 10, 11, 12, 13, 14, 15];
-
-// The first `len` bytes of a lane, and zeros behind them.
-#[inline(always)]
-fn front_of(lane: u8x16, len: usize) -> u8x16
-    requires { len ≤ LANE }
-    ensures { result ≡ take len lane ++ replicate (LANE - len) 0 }
-{
-    let is_front = u8x16::from_array(POSITIONS).simd_lt(u8x16::splat(len as u8));
-    is_front.select(lane, u8x16::splat(0))
-}
-
-// [`fill_counted`] of the front of room by the first `len` bytes of a list that goes on behind them, with no branch by their number: a
-// lane is read, and the bytes behind them become zeros before it is written.
-#[inline(always)]
-pub(crate) fn fill_front(room: &mut [u8], list: &[u8], len: usize, meter: &mut Meter)
-    requires short { len ≤ LANE }
-    requires goes_on { LANE ≤ length list.now }
-    requires room { LANE ≤ length room.old }
-    ensures items { room.new ≡ (take len list.now ++ replicate (LANE - len) 0) ++ drop LANE room.old }
-    ensures counted { RisesAtMost meter.old meter.new len }
-    ensures exact { meter.new ≡ count_from meter.old len }
-{
-    front_of(u8x16::from_slice(list), len).copy_to_slice(room);
-    meter.count(len);
+    fill(&mut room[at..], bytes, bytes.len(), Copying::ByLanes, meter);
+    at + bytes.len()
 }
 
 /// Appends these bytes to a vector. The new room is made of zeros and then filled. A refused vector stays as it was.
@@ -265,7 +258,7 @@ pub fn extend_within(vec: &mut Vec<u8>, addition: &[u8], meter: &mut Meter)
 {
     let start = vec.len();
     vec.resize(start + addition.len(), 0).unwrap();
-    fill(vec.slice_mut(start..), addition, Copying::ByLanes, meter);
+    fill_counted(vec.slice_mut(start..), addition, meter);
 }
 
 /// A new vector of these bytes.
