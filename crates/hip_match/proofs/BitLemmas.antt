@@ -1,7 +1,7 @@
 -- The lowest and the highest bit of a number.
 use Rattle.std.proofs.Common.{◌≡◌, ◌≢◌, ◌∙◌, ℕ, zero, suc, ◌+◌, ◌-◌, ◌*◌, ◌/◌, ◌%◌, ◌^◌, ◌<◌, ◌≤◌, Bool, true, false, cond, bit_and, ap, sym, refl, arith, ⊎_elim, shr-shr}
-use Rattle.std.proofs.Math.Nat.{add-mul, mod-eq_of_lt, mul-le-mul_right, two-pow-succ}
-use Rattle.std.proofs.lemmas.Nat.{div-add-mod', pow-add, pow_pos}
+use Rattle.std.proofs.Math.Nat.{mod-eq_of_lt, two-pow-succ}
+use Rattle.std.proofs.lemmas.Nat.{div-add-mod', pow_pos}
 use Rattle.std.proofs.lemmas.Bool.{cases_lt}
 use Rattle.std.proofs.lemmas.Nat.Bits.{bit_at_lowest, bit_at-suc, bit_at-zero, bit_at_above, bit_at_and, bit_at_cat_high, bit_at_cat_low, bit_at-lt, bit_at_ones, bit_at_ones_above, bit_at_xor, bit_at-pow_same, bit_at-pow_other}
 use Rattle.std.proofs.Math.Pow.{pow-lt}
@@ -12,10 +12,6 @@ use Rattle.hip_match.specs.Bits.{IsHighest, IsLowest}
 pub set : (b : Bool) (n : ℕ) → n ≡ cond b 1 0 → n ≡ 1 → b ≡ true
 set true n is one = refl
 set false n is one = absurd (omega arith)
-
-pub unset : (b : Bool) (n : ℕ) → n ≡ cond b 1 0 → n ≡ 0 → b ≡ false
-unset true n is none = absurd (omega arith)
-unset false n is none = refl
 
 pub some : (m r : ℕ) → bit_at m r ≡ 1 → 0 < m
 some m r one = ⊎_elim (λ (lt : 0 < m). lt) (λ (ge : m ≤ 0). let none : m ≡ 0 = omega arith in absurd (omega (arith, one, ap (λ x. bit_at x r) none, bit_at-zero r))) (cases_lt 0 m)
@@ -125,26 +121,3 @@ up_below m by k small low = bit-mod (m * 2 ^ by) k (omega arith) ∙ ap (λ x. b
 
 pub up_moved : (m by k : ℕ) → by ≤ k → k < 64 → bit_at (m * 2 ^ by % 2 ^ 64) k ≡ bit_at m (k - by)
 up_moved m by k ge low = bit-mod (m * 2 ^ by) k low ∙ ap (λ x. bit_at x k) (omega arith) ∙ bit_at_cat_high m by 0 k (pow_pos by) ge
-
--- ---- joined
-
-joined-room : (low high by n : ℕ) → by ≤ n → low < 2 ^ by → high < 2 ^ (n - by) → high * 2 ^ by + low < 2 ^ n
-joined-room low high by n le few many =
-    let room : (high + 1) * 2 ^ by ≤ 2 ^ (n - by) * 2 ^ by = mul-le-mul_right (2 ^ by) (omega arith) in
-    let more : (high + 1) * 2 ^ by ≡ high * 2 ^ by + 1 * 2 ^ by = add-mul high 1 (2 ^ by) in
-    let back : n - by + by ≡ n = omega arith in
-    let whole : 2 ^ (n - by) * 2 ^ by ≡ 2 ^ n = sym (pow-add 2 (n - by) by) ∙ ap (λ (k : ℕ). 2 ^ k) back in
-    omega (arith, room, more, whole)
-
-module _ (low high by : ℕ) (small : by < 64) (few : low < 2 ^ by) (many : high < 2 ^ (64 - by)) where
-  joined-is : high * 2 ^ by % 2 ^ 64 + low ≡ high * 2 ^ by + low
-  joined-is = let fits = joined-room low high by 64 (omega arith) few many in ap (λ (x : ℕ). x + low) (mod-eq_of_lt (omega (arith, fits)))
-
-  pub joined-fits : (n : ℕ) → by ≤ n → high < 2 ^ (n - by) → high * 2 ^ by % 2 ^ 64 + low < 2 ^ n
-  joined-fits n le lt = omega (arith, joined-is, joined-room low high by n le few lt)
-
-  pub joined-low : (k : ℕ) → k < by → bit_at (high * 2 ^ by % 2 ^ 64 + low) k ≡ bit_at low k
-  joined-low k lt = ap (λ (x : ℕ). bit_at x k) joined-is ∙ bit_at_cat_low high by low k lt
-
-  pub joined-high : (k : ℕ) → by ≤ k → bit_at (high * 2 ^ by % 2 ^ 64 + low) k ≡ bit_at high (k - by)
-  joined-high k ge = ap (λ (x : ℕ). bit_at x k) joined-is ∙ bit_at_cat_high high by low k few ge

@@ -1,60 +1,40 @@
 -- From the lanes of one load to the bytes of a list.
-use Rattle.std.proofs.Common.{◌≡◌, ℕ, suc, ◌+◌, ◌-◌, ◌*◌, ◌/◌, ◌%◌, ◌^◌, ◌<◌, ◌≤◌, ◌||◌, Bool, true, false, not, cond, List, [], ◌∷◌, map, length, get_or, replicate, Fits, w8, w64, bit_and, bit_or, ap, sym, ◌∙◌, refl, arith}
-use Rattle.std.proofs.Math.Nat.{mod-lt}
-use Rattle.std.proofs.lemmas.Bool.{agree_below, agree_below_at}
-use Rattle.std.proofs.lemmas.Nat.{pow_pos}
-use Rattle.std.proofs.lemmas.Nat.Bits.{bit_at_not}
+use Rattle.std.proofs.Common.{◌≡◌, ℕ, suc, ◌+◌, ◌*◌, ◌/◌, ◌%◌, ◌^◌, ◌<◌, ◌≤◌, Bool, true, false, cond, List, [], ◌∷◌, map, length, get_or, replicate, Fits, w8, bit_and, ap, sym, ◌∙◌, refl, arith}
 use Rattle.std.proofs.lemmas.Nat.{and_le_r}
-use Rattle.std.proofs.lemmas.Simd.{Each1-all, Each1-zip2, Each2-splat, SwzOk, SwzOk-from_below, bit_mask_l, get_or-chunk, get_or-swz_l_below, length-chunk, length-swz_l, length-zip2, map-map, mask_l-lt, mask_l-mod, swz_l, zip2_of_maps}
+use Rattle.std.proofs.lemmas.Simd.{Each1-all, Each1-zip2, Each2-splat, SwzOk, SwzOk-from_below, bit_mask_l, get_or-chunk, get_or-swz_l_below, length-chunk, length-swz_l, length-zip2, map-map, mask_l-lt, mask_l-mod, swz_l}
 use Rattle.std.proofs.lemmas.List.{ext_get_or, length-map, get_or-map}
 use Rattle.std.specs.Int.{bit_at}
+use Rattle.hip_match.specs.Marks.{AreMarks}
+use Rattle.hip_match.proofs.MarkLemmas.{lanes-are}
 use lib.Lanes.{Each1, chunk, mask_l, top, zip2}
 
--- lane by lane, z is f of the n bytes from i on, and its lanes are set just where the bytes pass the test
-pub marked : (test : ℕ → Bool) (xs : List ℕ) (i n : ℕ) (z : List ℕ) (f : ℕ → ℕ) → i + n ≤ length xs → n ≤ 64
-    → ((k : ℕ) → Fits w8 (get_or xs k 0)) → z ≡ map f (chunk i n xs) → ((x : ℕ) → x < 256 → top 7 (f x) ≡ test x)
-    → (k : ℕ) → k < n → bit_at (mask_l (map (top 7) z) % 2 ^ 64) k ≡ cond (test (get_or xs (i + k) 0)) 1 0
-marked test xs i n z f room few fits lanes all k inside =
-    let set : ℕ → Bool = λ x. top 7 (f x) in
-    let v = chunk i n xs in
-    let long : length v ≡ n = length-chunk i n xs room in
-    let mask_is : mask_l (map (top 7) z) % 2 ^ 64 ≡ mask_l (map set v) =
-    ap (λ l. mask_l (map (top 7) l) % 2 ^ 64) lanes ∙ ap (λ l. mask_l l % 2 ^ 64) (map-map (top 7) f v)
-    ∙ mask_l-mod (map set v) 64 (omega (arith, length-map v set, long)) in
-    let at_bit : get_or (map set v) k false ≡ test (get_or xs (i + k) 0) =
-    get_or-map set v k 0 false (omega (arith, long)) ∙ ap set (get_or-chunk i n xs k 0 inside) ∙ all (get_or xs (i + k) 0) (fits (i + k)).fits in
-    ap (λ m. bit_at m k) mask_is ∙ bit_mask_l (map set v) k ∙ ap (λ b. cond b 1 0) at_bit
-
--- a test of closed terms is tried at each byte
-pub at_each : (set test : ℕ → Bool) → agree_below set test 256 ≡ true → (x : ℕ) → x < 256 → set x ≡ test x
-at_each set test all x low = agree_below_at set test 256 x all low
-
--- lanes that were computed from v, joined by f
-pub join : (f : ℕ → ℕ → ℕ) (g h : ℕ → ℕ) (v xs ys : List ℕ) → xs ≡ map g v → ys ≡ map h v → zip2 f xs ys ≡ map (λ x. f (g x) (h x)) v
-join f g h v xs ys left right = zip2_of_maps f g h v left right
-
--- a lane of a comparison, and of two
-pub top_of : (b : Bool) → top 7 (cond b 255 0) ≡ b
-top_of true = refl
-top_of false = refl
-
-pub top_or : (b c : Bool) → top 7 (bit_or (cond b 255 0) (cond c 255 0)) ≡ (b || c)
-top_or true true = refl
-top_or true false = refl
-top_or false true = refl
-top_or false false = refl
-
--- the marks of the others
-pub turned : (test : Bool) (m k : ℕ) → k < 64 → bit_at (m % 2 ^ 64) k ≡ cond (not test) 1 0 → bit_at (18446744073709551615 - m % 2 ^ 64) k ≡ cond test 1 0
-turned true m k low is = bit_at_not w64 (m % 2 ^ 64) k (mod-lt m (pow_pos 64)) low ∙ omega (arith, is)
-turned false m k low is = bit_at_not w64 (m % 2 ^ 64) k (mod-lt m (pow_pos 64)) low ∙ omega (arith, is)
-
 -- the mask of sixteen lanes has sixteen bits
-pub few_lanes : (v z : List ℕ) (f : ℕ → ℕ) → length v ≡ 16 → z ≡ map f v → mask_l (map (top 7) z) % 2 ^ 64 < 65536
+few_lanes : (v z : List ℕ) (f : ℕ → ℕ) → length v ≡ 16 → z ≡ map f v → mask_l (map (top 7) z) % 2 ^ 64 < 65536
 few_lanes v z f long is =
     let n : length (map (top 7) z) ≡ 16 = length-map z (top 7) ∙ ap length is ∙ length-map v f ∙ long in
     let room : 2 ^ length (map (top 7) z) ≡ 65536 = ap (λ (k : ℕ). 2 ^ k) n in
     omega (arith, mask_l-lt (map (top 7) z), mask_l-mod (map (top 7) z) 64 (omega (arith, n)), room)
+
+-- lane by lane, z is f of the sixteen bytes from i on, and its lanes are set just where the bytes pass the test
+pub marked : (test : ℕ → Bool) (xs : List ℕ) (i : ℕ) (z : List ℕ) (f : ℕ → ℕ) → i + 16 ≤ length xs
+    → ((k : ℕ) → Fits w8 (get_or xs k 0)) → z ≡ map f (chunk i 16 xs) → ((x : ℕ) → x < 256 → top 7 (f x) ≡ test x)
+    → AreMarks test xs i (i + 16) (i + 64) (mask_l (map (top 7) z) % 2 ^ 64)
+marked test xs i z f room fits lanes all =
+    let set : ℕ → Bool = λ x. top 7 (f x) in
+    let v = chunk i 16 xs in
+    let long : length v ≡ 16 = length-chunk i 16 xs room in
+    let mask_is : mask_l (map (top 7) z) % 2 ^ 64 ≡ mask_l (map set v) =
+    ap (λ l. mask_l (map (top 7) l) % 2 ^ 64) lanes ∙ ap (λ l. mask_l l % 2 ^ 64) (map-map (top 7) f v)
+    ∙ mask_l-mod (map set v) 64 (omega (arith, length-map v set, long)) in
+    lanes-are test xs i _ (few_lanes v z f long lanes) (λ k inside.
+    let at_bit : get_or (map set v) k false ≡ test (get_or xs (i + k) 0) =
+    get_or-map set v k 0 false (omega (arith, long)) ∙ ap set (get_or-chunk i 16 xs k 0 inside) ∙ all (get_or xs (i + k) 0) (fits (i + k)).fits in
+    ap (λ m. bit_at m k) mask_is ∙ bit_mask_l (map set v) k ∙ ap (λ b. cond b 1 0) at_bit)
+
+-- a lane of a comparison
+pub top_of : (b : Bool) → top 7 (cond b 255 0) ≡ b
+top_of true = refl
+top_of false = refl
 
 -- ---- look-ups in a table of sixteen
 

@@ -1,42 +1,23 @@
 -- Marks of a test: the bits of one number, and the places that they tell.
-use Rattle.std.proofs.Common.{◌≡◌, ◌≢◌, ◌∙◌, ℕ, ◌+◌, ◌-◌, ◌<◌, ◌≤◌, ◌&&◌, Bool, true, false, cond, max, List, Option, None, Some, length, drop, take, take_all, ap, sym, subst, refl, arith, ⊎_elim, bit_or, get_or-drop, length-drop}
-use Rattle.std.specs.Prelude.{nat_lt, nat_le, slice_index}
-use Rattle.std.proofs.lemmas.Bool.{and_parts, cases_lt, cases_Bool, false≢true}
-use Rattle.std.proofs.lemmas.Bool.Decides.{nat_tests}
-use Rattle.std.proofs.lemmas.Nat.Bits.{bit_at-zero, bit_at_above, bit_at_or}
+use Rattle.std.proofs.Common.{◌≡◌, ◌≢◌, ◌∙◌, ℕ, ◌+◌, ◌-◌, ◌<◌, ◌≤◌, Bool, true, cond, List, Option, None, Some, length, drop, take, take_all, ap, sym, subst, arith, ⊎_elim, bit_or, get_or-drop, length-drop}
+use Rattle.std.specs.Prelude.{slice_index}
+use Rattle.std.proofs.lemmas.Bool.{cases_lt, cases_Bool, false≢true}
+use Rattle.std.proofs.lemmas.Nat.Bits.{bit_at-lt, bit_at-zero, bit_at_above, bit_at_or}
 use Rattle.std.specs.Int.{bit_at}
 use Rattle.std.specs.Option.{option_map}
 use Rattle.memchr.specs.Find.{IsFirst, IsFirstByte, IsLast, Nowhere, Passes}
 use Rattle.hip_match.specs.Bits.{IsHighest, IsLowest}
-use Rattle.hip_match.specs.Marks.{Ahead, AreBefore, AreBlock, AreFew, AreLanes, AreUpTo, Behind}
+use Rattle.hip_match.specs.Marks.{Ahead, AreMarks, Behind}
 
--- ---- a bit that tells a test
-
-yes : (b : Bool) (n : ℕ) → n ≡ cond b 1 0 → n ≡ 1 → b ≡ true
-yes true n is one = refl
-yes false n is one = absurd (omega arith)
-
-no : (b : Bool) (n : ℕ) → n ≡ cond b 1 0 → n ≡ 0 → b ≡ false
-no true n is none = absurd (omega arith)
-no false n is none = refl
-
-one_of : (b c : Bool) (m n : ℕ) → m ≡ cond b 1 0 → n ≡ cond c 1 0 → (d : Bool) → (b ≡ true → d ≡ true) → (c ≡ true → d ≡ true) → (d ≡ true → b ≡ false → c ≡ true)
-    → max m n ≡ cond d 1 0
-one_of true c m n is_b is_c true left right either = omega (arith, is_b, bound c n is_c)
-  where
-    bound : (c : Bool) (n : ℕ) → n ≡ cond c 1 0 → n ≤ 1
-    bound true n is = omega arith
-    bound false n is = omega arith
-one_of true c m n is_b is_c false left right either = absurd (false≢true (left refl))
-one_of false true m n is_b is_c true left right either = omega (arith, is_b, is_c)
-one_of false true m n is_b is_c false left right either = absurd (false≢true (right refl))
-one_of false false m n is_b is_c true left right either = absurd (false≢true (either refl refl))
-one_of false false m n is_b is_c false left right either = omega (arith, is_b, is_c)
+-- ---- marks of another text, or of another test, that pass alike
+pub alike : (test same : ℕ → Bool) (t u : List ℕ) (from to end m : ℕ) → ((p : ℕ) → p < to → same (slice_index u p) ≡ test (slice_index t p))
+    → AreMarks test t from to end m → AreMarks same u from to end m
+alike test same t u from to end m is h = record {
+  told = λ k low one. let was = h.told k low one in (was.0, was.1, is _ (omega (arith, was.1, was.0)) ∙ was.2);
+  marked = λ p lo hi pass. h.marked p lo hi (sym (is p hi) ∙ pass);
+}
 
 module _ (test : ℕ → Bool) (t : List ℕ) where
-  fails : (k : ℕ) → ¬ Passes test t k → test (slice_index t k) ≡ false
-  fails k none = ⊎_elim (λ (pass : test (slice_index t k) ≡ true). absurd (none pass)) (λ fail. fail) (cases_Bool (test (slice_index t k)))
-
   first-of-rest : (from : ℕ) → from ≤ length t → (r : Option ℕ) → IsFirstByte test (drop from t) r → IsFirst (Passes test t) from (length t) (option_map (λ i. from + i) r)
   first-of-rest from le None none = λ k lo hi pass.
       none (k - from) (omega arith) (omega (arith, length-drop from t)) (ap test (get_or-drop from t (k - from) 0) ∙ ap (λ i. test (slice_index t i)) (omega arith) ∙ pass)
@@ -57,347 +38,258 @@ module _ (test : ℕ → Bool) (t : List ℕ) where
       let whole : take (length t - from) (drop from t) ≡ drop from t = take_all (length t - from) (drop from t) (omega (arith, length-drop from t)) in
       first-of-rest from le r (subst (λ (l : List ℕ). IsFirstByte test l r) whole found)
 
-  -- ---- blocks
+  -- ---- one number
 
-  pub block-is : (at a b c d f g m : ℕ) → AreLanes test t at a → AreLanes test t (at + 16) b → AreLanes test t (at + 32) c → AreLanes test t (at + 48) d
-      → ((k : ℕ) → k < 16 → bit_at f k ≡ bit_at a k) → ((k : ℕ) → 16 ≤ k → bit_at f k ≡ bit_at b (k - 16))
-      → ((k : ℕ) → k < 16 → bit_at g k ≡ bit_at c k) → ((k : ℕ) → 16 ≤ k → bit_at g k ≡ bit_at d (k - 16))
-      → ((k : ℕ) → k < 32 → bit_at m k ≡ bit_at f k) → ((k : ℕ) → 32 ≤ k → bit_at m k ≡ bit_at g (k - 32))
-      → AreBlock test t at m
-  block-is at a b c d f g m at_a at_b at_c at_d f_low f_high g_low g_high m_low m_high k low =
-      let At : ℕ → ℕ = λ i. cond (test (slice_index t i)) 1 0 in
-      ⊎_elim
-      (λ (front : k < 32). m_low k front ∙ ⊎_elim
-      (λ (lt : k < 16). f_low k lt ∙ at_a k lt)
-      (λ (ge : 16 ≤ k). f_high k ge ∙ at_b (k - 16) (omega arith) ∙ ap At (omega arith))
-      (cases_lt k 16))
-      (λ (back : 32 ≤ k). m_high k back ∙ ⊎_elim
-      (λ (lt : k - 32 < 16). g_low (k - 32) lt ∙ at_c (k - 32) lt ∙ ap At (omega arith))
-      (λ (ge : 16 ≤ k - 32). g_high (k - 32) ge ∙ at_d (k - 32 - 16) (omega arith) ∙ ap At (omega arith))
-      (cases_lt (k - 32) 16))
-      (cases_lt k 32)
-
-  -- sixteen places, moved to where they stand
-  pub lanes-moved : (at m n : ℕ) → at < 64 → AreLanes test t at m → m < 65536 → ((k : ℕ) → k < at → bit_at n k ≡ 0) → ((k : ℕ) → at ≤ k → k < 64 → bit_at n k ≡ bit_at m (k - at))
-      → AreFew test t at (at + 16) n
-  lanes-moved at m n few marks small below moved k low = ⊎_elim
-      (λ (before : k < at).
-      let out : nat_le at k ≡ false = grind (arith, nat_tests) in
-      below k before ∙ ap (λ b. cond (b && (nat_lt k (at + 16) && test (slice_index t k))) 1 0) (sym out))
-      (λ (ge : at ≤ k).
-      let in_it : nat_le at k ≡ true = grind (arith, nat_tests) in
-      moved k ge low ∙ ⊎_elim
-      (λ (lt : k - at < 16).
-      let inside : nat_lt k (at + 16) ≡ true = grind (arith, nat_tests) in
-      marks (k - at) lt ∙ ap (λ i. cond (test (slice_index t i)) 1 0) (omega arith)
-      ∙ (λ i. cond (sym in_it i && (sym inside i && test (slice_index t k))) 1 0))
-      (λ (past : 16 ≤ k - at).
-      let out : nat_lt k (at + 16) ≡ false = grind (arith, nat_tests) in
-      bit_at_above m 16 (k - at) small past ∙ (λ i. cond (sym in_it i && (sym out i && test (slice_index t k))) 1 0))
-      (cases_lt (k - at) 16))
-      (cases_lt k at)
-
-  -- two stretches that meet are one
-  pub few-joined : (from to start end m n : ℕ) → from ≤ start → start ≤ to → to ≤ end → AreFew test t from to m → AreFew test t start end n → AreFew test t from end (bit_or m n)
-  few-joined from to start end m n lo meet hi ms ns k low =
-      bit_at_or m n k ∙ one_of _ _ _ _ (ms k low) (ns k low) _ (λ h. grind (arith, nat_tests)) (λ h. grind (arith, nat_tests)) (λ h h'. grind (arith, nat_tests))
-
-  pub block-before : (at m : ℕ) → AreBlock test t at m → AreBefore test t at (at + 64) m
-  block-before at m block k low =
-      let in_it : nat_le (at + 64) (at + 64 + k) ≡ true = grind (arith, nat_tests) in
-      block k low ∙ ap (λ i. cond (test (slice_index t i)) 1 0) (omega arith) ∙ ap (λ b. cond (b && test (slice_index t (at + 64 + k - 64))) 1 0) (sym in_it)
-
-  -- ---- ahead
-
-  pub ahead-new : (from : ℕ) → from ≤ length t → Ahead test t from from 0
-  ahead-new from within = record {
-    within = within;
-    between = λ k lo hi. absurd (omega arith);
-    beyond = λ k lo hi. absurd (omega arith);
-    left = λ k low. let out : nat_le (from + 64) (from + k) ≡ false = grind (arith, nat_tests) in bit_at-zero k ∙ ap (λ b. cond (b && test (slice_index t (from + k - 64))) 1 0) (sym out);
+  -- the lanes of one load
+  pub lanes-are : (at m : ℕ) → m < 65536 → ((k : ℕ) → k < 16 → bit_at m k ≡ cond (test (slice_index t (at + k))) 1 0) → AreMarks test t at (at + 16) (at + 64) m
+  lanes-are at m few bits = record {
+    told = λ k low one. ⊎_elim
+        (λ (in_it : k < 16).
+        let here : at + 64 + k - 64 ≡ at + k = omega arith in (
+          omega arith,
+          omega arith,
+          ⊎_elim
+              (λ (pass : test (slice_index t (at + k)) ≡ true). ap (λ i. test (slice_index t i)) here ∙ pass)
+              (λ fail. absurd (omega (arith, one, bits k in_it, ap {B = ℕ} (λ b. cond b 1 0) fail)))
+              (cases_Bool (test (slice_index t (at + k)))),
+        ))
+        (λ (out : 16 ≤ k). absurd (omega (arith, one, bit_at_above m 16 k few out)))
+        (cases_lt k 16);
+    marked = λ p lo hi pass.
+        let there : at + (p - at) ≡ p = omega arith in
+        let here : p + 64 - (at + 64) ≡ p - at = omega arith in
+        (omega arith, omega arith, ap (bit_at m) here ∙ bits (p - at) (omega arith) ∙ ap (λ i. cond (test (slice_index t i)) 1 0) there ∙ ap (λ b. cond b 1 0) pass);
   }
 
-  module _ (from next m : ℕ) (h : Ahead test t from next m) where
-    -- the place of a bit that isn't set
-    at_bit : (p : ℕ) → from ≤ p → p < next → next ≤ p + 64 → bit_at m (p + 64 - next) ≡ 0 → ¬ Passes test t p
-    at_bit p lo hi near none pass =
-        let k = p + 64 - next in
-        let here : next + k - 64 ≡ p = omega arith in
-        let in_it : nat_le (from + 64) (next + k) ≡ true = grind (arith, nat_tests) in
-        let fail = no _ _ (h.left k (omega arith)) none in
-        false≢true (sym fail ∙ ap (λ b. b && test (slice_index t (next + k - 64))) in_it ∙ ap (λ i. test (slice_index t i)) here ∙ pass)
+  -- bit k of a block tells of the place `at + k`
+  pub bit-is : (at m k : ℕ) → AreMarks test t at (at + 64) (at + 64) m → k < 64 → bit_at m k ≡ cond (test (slice_index t (at + k))) 1 0
+  bit-is at m k h low = ⊎_elim
+      (λ (pass : test (slice_index t (at + k)) ≡ true).
+      let here : at + k + 64 - (at + 64) ≡ k = omega arith in
+      ap (bit_at m) (sym here) ∙ (h.marked (at + k) (omega arith) (omega arith) pass).2 ∙ ap (λ b. cond b 1 0) (sym pass))
+      (λ fail.
+      let here : at + 64 + k - 64 ≡ at + k = omega arith in
+      ⊎_elim (λ (none : bit_at m k < 1). omega (arith, ap {B = ℕ} (λ b. cond b 1 0) fail))
+      (λ (some : 1 ≤ bit_at m k).
+      let one : bit_at m k ≡ 1 = omega (arith, bit_at-lt m k) in
+      absurd (false≢true (sym fail ∙ ap (λ i. test (slice_index t i)) (sym here) ∙ (h.told k low one).2)))
+      (cases_lt (bit_at m k) 1))
+      (cases_Bool (test (slice_index t (at + k))))
 
-    pub ahead-none : m ≡ 0 → Nowhere (Passes test t) from next
-    ahead-none none k lo hi =
-        ⊎_elim (λ (far : k < next - 64). h.between k lo far)
-        (λ (near : next - 64 ≤ k). at_bit k lo hi (omega arith) (ap (λ x. bit_at x (k + 64 - next)) none ∙ bit_at-zero (k + 64 - next)))
-        (cases_lt k (next - 64))
+  pub empty : (from end : ℕ) → AreMarks test t from from end 0
+  empty from end = record { told = λ k low one. absurd (omega (arith, one, bit_at-zero k)); marked = λ p lo hi pass. absurd (omega arith) }
 
-    -- the next places are read
-    pub ahead-loaded : (later n : ℕ) → m ≡ 0 → next ≤ later → later ≤ next + 64 → later ≤ length t → AreBefore test t next later n → Ahead test t from later n
-    ahead-loaded later n none le near within marks = record {
-      within = within;
-      between = λ k lo hi. ahead-none none k lo (omega arith);
-      beyond = λ k lo hi. h.beyond k (omega arith) hi;
-      left = λ k low. marks k low ∙ ap (λ b. cond b 1 0) (same k);
+  module _ (from to end m : ℕ) (h : AreMarks test t from to end m) where
+    pub none : m ≡ 0 → Nowhere (Passes test t) from to
+    none clear p lo hi pass = absurd (omega (arith, (h.marked p lo hi pass).2, ap (λ x. bit_at x (p + 64 - end)) clear, bit_at-zero (p + 64 - end)))
+
+    -- moved up
+    pub moved : (by less n : ℕ) → by + less ≡ end → to ≤ less → ((k : ℕ) → k < by → bit_at n k ≡ 0) → ((k : ℕ) → by ≤ k → k < 64 → bit_at n k ≡ bit_at m (k - by)) → AreMarks test t from to less n
+    moved by less n is room below up = record {
+      told = λ k low one. ⊎_elim (λ (lt : k < by). absurd (omega (arith, one, below k lt)))
+          (λ (ge : by ≤ k).
+          let was = h.told (k - by) (omega arith) (sym (up k ge low) ∙ one) in
+          let here : end + (k - by) - 64 ≡ less + k - 64 = omega arith in
+          (omega (arith, was.0), omega (arith, was.1), ap (λ i. test (slice_index t i)) (sym here) ∙ was.2))
+          (cases_lt k by);
+      marked = λ p lo hi pass.
+          let was = h.marked p lo hi pass in
+          let here : p + 64 - less - by ≡ p + 64 - end = omega arith in
+          (omega (arith, was.0), omega arith, up (p + 64 - less) (omega (arith, was.0)) (omega arith) ∙ ap (bit_at m) here ∙ was.2);
     }
-      where
-        same : (k : ℕ) → (nat_le (next + 64) (later + k) && test (slice_index t (later + k - 64))) ≡ (nat_le (from + 64) (later + k) && test (slice_index t (later + k - 64)))
-        same k =
-            let p = later + k - 64 in
-            ⊎_elim
-            (λ (before : later + k < next + 64). ⊎_elim
-            (λ (out : later + k < from + 64).
-            let neither : nat_le (next + 64) (later + k) ≡ false = grind (arith, nat_tests) in
-            let nor : nat_le (from + 64) (later + k) ≡ false = grind (arith, nat_tests) in
-            ap (λ b. b && test (slice_index t p)) (neither ∙ sym nor))
-            (λ (inside : from + 64 ≤ later + k).
-            let neither : nat_le (next + 64) (later + k) ≡ false = grind (arith, nat_tests) in
-            let is : nat_le (from + 64) (later + k) ≡ true = grind (arith, nat_tests) in
-            ap (λ b. b && test (slice_index t p)) neither ∙ sym (fails p (ahead-none none p (omega arith) (omega arith))) ∙ ap (λ b. b && test (slice_index t p)) (sym is))
-            (cases_lt (later + k) (from + 64)))
-            (λ (behind : next + 64 ≤ later + k). ⊎_elim
-            (λ (out : later + k < from + 64).
-            let is : nat_le (next + 64) (later + k) ≡ true = grind (arith, nat_tests) in
-            let nor : nat_le (from + 64) (later + k) ≡ false = grind (arith, nat_tests) in
-            ap (λ b. b && test (slice_index t p)) is ∙ fails p (h.beyond p (omega arith) (omega arith)) ∙ ap (λ b. b && test (slice_index t p)) (sym nor))
-            (λ (inside : from + 64 ≤ later + k).
-            let is : nat_le (next + 64) (later + k) ≡ true = grind (arith, nat_tests) in
-            let too : nat_le (from + 64) (later + k) ≡ true = grind (arith, nat_tests) in
-            ap (λ b. b && test (slice_index t p)) (is ∙ sym too))
-            (cases_lt (later + k) (from + 64)))
-            (cases_lt (later + k) (next + 64))
 
-    -- the lowest mark
-    module _ (r : ℕ) (first : IsLowest m r) where
-      lowest_parts : (nat_le (from + 64) (next + r) ≡ true) × (test (slice_index t (next + r - 64)) ≡ true)
-      lowest_parts = and_parts (nat_le (from + 64) (next + r)) (test (slice_index t (next + r - 64))) (yes _ _ (h.left r first.bound) first.set)
+    -- the bits from `by` on
+    pub cut_front : (by later n : ℕ) → later + 64 ≡ end + by → from ≤ later → ((k : ℕ) → k < by → bit_at n k ≡ 0) → ((k : ℕ) → by ≤ k → bit_at n k ≡ bit_at m k) → AreMarks test t later to end n
+    cut_front by later n is le below kept = record {
+      told = λ k low one. ⊎_elim (λ (lt : k < by). absurd (omega (arith, one, below k lt)))
+          (λ (ge : by ≤ k). let was = h.told k low (sym (kept k ge) ∙ one) in (omega arith, was.1, was.2))
+          (cases_lt k by);
+      marked = λ p lo hi pass. let was = h.marked p (omega arith) hi pass in (was.0, was.1, kept (p + 64 - end) (omega arith) ∙ was.2);
+    }
 
-      pub ahead-after : from + 64 ≤ next + r
-      ahead-after = let part = lowest_parts.0 in grind (arith, nat_tests)
+    -- the bits below `count`
+    pub cut_back : (count earlier n : ℕ) → earlier + 64 ≡ end + count → earlier ≤ to → ((k : ℕ) → k < count → bit_at n k ≡ bit_at m k) → ((k : ℕ) → count ≤ k → bit_at n k ≡ 0) → AreMarks test t from earlier end n
+    cut_back count earlier n is le kept above = record {
+      told = λ k low one. ⊎_elim (λ (lt : k < count). let was = h.told k low (sym (kept k lt) ∙ one) in (was.0, omega arith, was.2))
+          (λ (ge : count ≤ k). absurd (omega (arith, one, above k ge)))
+          (cases_lt k count);
+      marked = λ p lo hi pass. let was = h.marked p lo (omega arith) pass in (was.0, was.1, kept (p + 64 - end) (omega (arith, was.0)) ∙ was.2);
+    }
 
+    -- two stretches that meet are one
+    pub joined : (start stop n : ℕ) → from ≤ start → start ≤ to → to ≤ stop → AreMarks test t start stop end n → AreMarks test t from stop end (bit_or m n)
+    joined start stop n lo meet hi g = record {
+      told = λ k low one. ⊎_elim
+          (λ (none : bit_at m k < 1). let was = g.told k low (omega (arith, one, bit_at_or m n k)) in (omega (arith, was.0), was.1, was.2))
+          (λ (some : 1 ≤ bit_at m k). let was = h.told k low (omega (arith, bit_at-lt m k)) in (was.0, omega (arith, was.1), was.2))
+          (cases_lt (bit_at m k) 1);
+      marked = λ p low high pass. ⊎_elim
+          (λ (lt : p < to).
+          let was = h.marked p low lt pass in
+          let k = p + 64 - end in
+          (was.0, was.1, omega (arith, was.2, bit_at_or m n k, bit_at-lt n k)))
+          (λ (ge : to ≤ p).
+          let was = g.marked p (omega arith) high pass in
+          let k = p + 64 - end in
+          (was.0, was.1, omega (arith, was.2, bit_at_or m n k, bit_at-lt m k)))
+          (cases_lt p to);
+    }
+
+    -- ---- the other end of a walk moves over places that fail
+
+    pub front-moved : (later : ℕ) → Nowhere (Passes test t) from later → Nowhere (Passes test t) later from → AreMarks test t later to end m
+    front-moved later behind before = record {
+      told = λ k low one.
+          let was = h.told k low one in
+          (⊎_elim (λ (lt : end + k < later + 64). absurd (behind (end + k - 64) (omega (arith, was.0)) (omega (arith, was.0)) was.2)) (λ (ge : later + 64 ≤ end + k). ge) (cases_lt (end + k) (later + 64)), was.1, was.2);
+      marked = λ p lo hi pass. ⊎_elim (λ (lt : p < from). absurd (before p lo lt pass)) (λ (ge : from ≤ p). h.marked p ge hi pass) (cases_lt p from);
+    }
+
+    pub back-moved : (earlier : ℕ) → Nowhere (Passes test t) earlier to → Nowhere (Passes test t) to earlier → AreMarks test t from earlier end m
+    back-moved earlier before behind = record {
+      told = λ k low one.
+          let was = h.told k low one in
+          (was.0, ⊎_elim (λ (lt : end + k < earlier + 64). lt) (λ (ge : earlier + 64 ≤ end + k). absurd (before (end + k - 64) (omega arith) (omega (arith, was.1, was.0)) was.2)) (cases_lt (end + k) (earlier + 64)), was.2);
+      marked = λ p lo hi pass. ⊎_elim (λ (lt : p < to). h.marked p lo lt pass) (λ (ge : to ≤ p). absurd (behind p ge hi pass)) (cases_lt p to);
+    }
+
+    -- ---- the lowest mark
+    module _ (r : ℕ) (low : IsLowest m r) where
+      first : (from + 64 ≤ end + r) × (end + r < to + 64) × Passes test t (end + r - 64)
+      first = h.told r low.bound low.set
+
+      pub first-found : (stop : ℕ) → to ≤ stop → IsFirst (Passes test t) from stop (Some (end + r - 64))
+      first-found stop le = (
+        record {
+          low = omega (arith, first.0);
+          high = omega (arith, first.0, first.1);
+          before = λ p lo hi pass.
+              let was = h.marked p lo (omega (arith, first.1)) pass in
+              absurd (omega (arith, was.2, low.below (p + 64 - end) (omega (arith, was.0, first.0))));
+        },
+        first.2,
+      )
+
+      pub first-passed : (n : ℕ) → bit_at n r ≡ 0 → ((k : ℕ) → k ≢ r → bit_at n k ≡ bit_at m k) → AreMarks test t (end + r - 64 + 1) to end n
+      first-passed n gone others = record {
+        told = λ k bound one.
+            let apart : k ≢ r = λ e. absurd (omega (arith, one, gone, ap (bit_at n) e)) in
+            let set = sym (others k apart) ∙ one in
+            let was = h.told k bound set in
+            (⊎_elim (λ (lt : k < r). absurd (omega (arith, set, low.below k lt))) (λ (ge : r ≤ k). omega (arith, first.0)) (cases_lt k r), was.1, was.2);
+        marked = λ p lo hi pass.
+            let was = h.marked p (omega (arith, first.0)) hi pass in
+            (was.0, was.1, others (p + 64 - end) (λ e. absurd (omega (arith, first.0))) ∙ was.2);
+      }
+
+    -- ---- the highest mark
+    module _ (r : ℕ) (top : IsHighest m r) where
+      last : (from + 64 ≤ end + r) × (end + r < to + 64) × Passes test t (end + r - 64)
+      last = h.told r top.bound top.set
+
+      pub last-found : IsLast (Passes test t) 0 to (Some (end + r - 64))
+      last-found = (
+        record {
+          low = omega arith;
+          high = omega (arith, last.0, last.1);
+          after = λ p lo hi pass.
+              let was = h.marked p (omega (arith, last.0)) hi pass in
+              absurd (omega (arith, was.2, top.above (p + 64 - end) (omega (arith, was.0, last.0))));
+        },
+        last.2,
+      )
+
+      pub last-passed : (n : ℕ) → bit_at n r ≡ 0 → ((k : ℕ) → k ≢ r → bit_at n k ≡ bit_at m k) → AreMarks test t from (end + r - 64) end n
+      last-passed n gone others = record {
+        told = λ k bound one.
+            let apart : k ≢ r = λ e. absurd (omega (arith, one, gone, ap (bit_at n) e)) in
+            let set = sym (others k apart) ∙ one in
+            let was = h.told k bound set in
+            (was.0, ⊎_elim (λ (lt : r < k). absurd (omega (arith, set, top.above k lt))) (λ (ge : k ≤ r). omega (arith, last.0)) (cases_lt r k), was.2);
+        marked = λ p lo hi pass.
+            let was = h.marked p lo (omega (arith, last.1)) pass in
+            (was.0, was.1, others (p + 64 - end) (λ e. absurd (omega (arith, last.0, was.0))) ∙ was.2);
+      }
+
+  -- ---- the windows of a walk
+
+  pub ahead-new : (from : ℕ) → from ≤ length t → Ahead test t from from 0
+  ahead-new from within = record { within = within; beyond = λ k lo hi. absurd (omega arith); marks = empty from from }
+
+  pub behind-new : (to : ℕ) → to ≤ length t → Behind test t to to 0
+  behind-new to within = record { within = within; beyond = λ k lo hi. absurd (omega arith); marks = empty to (to + 64) }
+
+  module _ (from next m : ℕ) (h : Ahead test t from next m) where
+    pub ahead-none : m ≡ 0 → Nowhere (Passes test t) from next
+    ahead-none = none from next next m h.marks
+
+    pub ahead-loaded : (later n : ℕ) → m ≡ 0 → next ≤ later → later ≤ length t → AreMarks test t next later later n → Ahead test t from later n
+    ahead-loaded later n clear le within marks = record {
+      within = within;
+      beyond = λ k lo hi. h.beyond k (omega arith) hi;
+      marks = front-moved next later later n marks from h.beyond (ahead-none clear);
+    }
+
+    module _ (r : ℕ) (low : IsLowest m r) where
       pub ahead-found : IsFirst (Passes test t) from (length t) (Some (next + r - 64))
-      ahead-found =
-          let after = ahead-after in
-          let bound = first.bound in
-          let within = h.within in (
-            record {
-              low = omega arith;
-              high = omega arith;
-              before = λ k lo hi. ⊎_elim (λ (far : k < next - 64). h.between k lo far)
-                  (λ (near : next - 64 ≤ k). at_bit k lo (omega arith) (omega arith) (first.below (k + 64 - next) (omega arith)))
-                  (cases_lt k (next - 64));
-            },
-            lowest_parts.1,
-          )
+      ahead-found = first-found from next next m h.marks r low (length t) h.within
 
       pub ahead-passed : (n : ℕ) → bit_at n r ≡ 0 → ((k : ℕ) → k ≢ r → bit_at n k ≡ bit_at m k) → Ahead test t (next + r - 64 + 1) next n
       ahead-passed n gone others =
-          let after = ahead-after in
-          let bound = first.bound in
-          record {
-            within = h.within;
-            between = λ k lo hi. absurd (omega arith);
-            beyond = λ k lo hi. absurd (omega arith);
-            left = λ k low. ⊎_elim
-                (λ (lt : k < r).
-                let out : nat_le (next + r - 64 + 1 + 64) (next + k) ≡ false = grind (arith, nat_tests) in
-                others k (λ e. omega arith) ∙ first.below k lt ∙ ap (λ b. cond (b && test (slice_index t (next + k - 64))) 1 0) (sym out))
-                (λ (ge : r ≤ k). ⊎_elim
-                (λ (gt : r < k).
-                let in_it : nat_le (next + r - 64 + 1 + 64) (next + k) ≡ true = grind (arith, nat_tests) in
-                let was : nat_le (from + 64) (next + k) ≡ true = grind (arith, nat_tests) in
-                others k (λ e. omega arith) ∙ h.left k low ∙ ap (λ b. cond (b && test (slice_index t (next + k - 64))) 1 0) (was ∙ sym in_it))
-                (λ (le : k ≤ r).
-                let same : k ≡ r = omega arith in
-                let out : nat_le (next + r - 64 + 1 + 64) (next + k) ≡ false = grind (arith, nat_tests) in
-                ap (bit_at n) same ∙ gone ∙ ap (λ b. cond (b && test (slice_index t (next + k - 64))) 1 0) (sym out))
-                (cases_lt r k))
-                (cases_lt k r);
-          }
+          let bound = low.bound in
+          record { within = h.within; beyond = λ k lo hi. absurd (omega (arith, (h.marks.told r low.bound low.set).0)); marks = first-passed from next next m h.marks r low n gone others }
 
     -- a search at or after `next` finds the first place that is left, where no mark is
     pub ahead-far : m ≡ 0 → (r : Option ℕ) → IsFirst (Passes test t) next (length t) r → IsFirst (Passes test t) from (length t) r
-    ahead-far none None far = λ k lo hi. ⊎_elim (λ (lt : k < next). ahead-none none k lo lt) (λ (ge : next ≤ k). far k ge hi) (cases_lt k next)
-    ahead-far none (Some at) far =
+    ahead-far clear None far = λ k lo hi. ⊎_elim (λ (lt : k < next). ahead-none clear k lo lt) (λ (ge : next ≤ k). far k ge hi) (cases_lt k next)
+    ahead-far clear (Some at) far =
         let low = far.0.low in (
           record {
             low = ⊎_elim (λ (lt : at < from). absurd (h.beyond at low lt far.1)) (λ (ge : from ≤ at). ge) (cases_lt at from);
             high = far.0.high;
-            before = λ k lo hi. ⊎_elim (λ (lt : k < next). ahead-none none k lo lt) (λ (ge : next ≤ k). far.0.before k ge hi) (cases_lt k next);
+            before = λ k lo hi. ⊎_elim (λ (lt : k < next). ahead-none clear k lo lt) (λ (ge : next ≤ k). far.0.before k ge hi) (cases_lt k next);
           },
           far.1,
         )
 
     -- the walk goes on behind places that fail
     pub ahead-skipped : (later : ℕ) → from ≤ later → Nowhere (Passes test t) from later → Ahead test t later next m
-    ahead-skipped later le none = record {
+    ahead-skipped later le fail = record {
       within = h.within;
-      between = λ k lo hi. h.between k (omega arith) hi;
-      beyond = λ k lo hi. ⊎_elim (λ (lt : k < from). h.beyond k lo lt) (λ (ge : from ≤ k). none k ge hi) (cases_lt k from);
-      left = λ k low. h.left k low ∙ ap (λ b. cond b 1 0) (⊎_elim
-          (λ (out : next + k < from + 64).
-          let before : nat_le (from + 64) (next + k) ≡ false = grind (arith, nat_tests) in
-          let after : nat_le (later + 64) (next + k) ≡ false = grind (arith, nat_tests) in
-          ap (λ b. b && test (slice_index t (next + k - 64))) (before ∙ sym after))
-          (λ (inside : from + 64 ≤ next + k).
-          let before : nat_le (from + 64) (next + k) ≡ true = grind (arith, nat_tests) in
-          ⊎_elim
-          (λ (gone : next + k < later + 64).
-          let after : nat_le (later + 64) (next + k) ≡ false = grind (arith, nat_tests) in
-          ap (λ b. b && test (slice_index t (next + k - 64))) before ∙ fails (next + k - 64) (none (next + k - 64) (omega arith) (omega arith)) ∙ ap (λ b. b && test (slice_index t (next + k - 64))) (sym after))
-          (λ (stays : later + 64 ≤ next + k).
-          let after : nat_le (later + 64) (next + k) ≡ true = grind (arith, nat_tests) in
-          ap (λ b. b && test (slice_index t (next + k - 64))) (before ∙ sym after))
-          (cases_lt (next + k) (later + 64)))
-          (cases_lt (next + k) (from + 64)));
+      beyond = λ k lo hi. ⊎_elim (λ (lt : k < from). h.beyond k lo lt) (λ (ge : from ≤ k). fail k ge hi) (cases_lt k from);
+      marks = front-moved from next next m h.marks later fail (λ k lo hi. absurd (omega arith));
     }
-
-  -- ---- behind
-
-  -- a block within the text, of which all lies before its end
-  pub block-up_to : (start m : ℕ) → AreBlock test t start m → AreUpTo test t (start + 64) start m
-  block-up_to start m block k low =
-      let in_it : nat_lt (start + k) (start + 64) ≡ true = grind (arith, nat_tests) in
-      block k low ∙ ap (λ b. cond (b && test (slice_index t (start + k))) 1 0) (sym in_it)
-
-  pub behind-new : (to : ℕ) → to ≤ length t → Behind test t to to 0
-  behind-new to within = record {
-    within = within;
-    between = λ k lo hi. absurd (omega arith);
-    beyond = λ k lo hi. absurd (omega arith);
-    left = λ k low. let out : nat_lt (to + k) to ≡ false = grind (arith, nat_tests) in bit_at-zero k ∙ ap (λ b. cond (b && test (slice_index t (to + k))) 1 0) (sym out);
-  }
 
   module _ (to start m : ℕ) (h : Behind test t to start m) where
-    at_back : (p : ℕ) → start ≤ p → p < to → p < start + 64 → bit_at m (p - start) ≡ 0 → ¬ Passes test t p
-    at_back p lo hi near none pass =
-        let k = p - start in
-        let here : start + k ≡ p = omega arith in
-        let in_it : nat_lt (start + k) to ≡ true = grind (arith, nat_tests) in
-        let fail = no _ _ (h.left k (omega arith)) none in
-        false≢true (sym fail ∙ ap (λ b. b && test (slice_index t (start + k))) in_it ∙ ap (λ i. test (slice_index t i)) here ∙ pass)
-
     pub behind-none : m ≡ 0 → Nowhere (Passes test t) start to
-    behind-none none k lo hi =
-        ⊎_elim (λ (near : k < start + 64). at_back k lo hi near (ap (λ x. bit_at x (k - start)) none ∙ bit_at-zero (k - start)))
-        (λ (far : start + 64 ≤ k). h.between k far hi)
-        (cases_lt k (start + 64))
+    behind-none = none start to (start + 64) m h.marks
 
-    -- the places before are read
-    pub behind-loaded : (earlier n : ℕ) → m ≡ 0 → earlier ≤ start → start ≤ earlier + 64 → AreUpTo test t start earlier n → Behind test t to earlier n
-    behind-loaded earlier n none le near marks = record {
+    pub behind-loaded : (earlier n : ℕ) → m ≡ 0 → earlier ≤ start → AreMarks test t earlier start (earlier + 64) n → Behind test t to earlier n
+    behind-loaded earlier n clear le marks = record {
       within = (let within = h.within in omega arith);
-      between = λ k lo hi. behind-none none k (omega arith) hi;
       beyond = λ k lo hi. h.beyond k lo (omega arith);
-      left = λ k low. marks k low ∙ ap (λ b. cond b 1 0) (same k);
+      marks = back-moved earlier start (earlier + 64) n marks to h.beyond (behind-none clear);
     }
-      where
-        same : (k : ℕ) → (nat_lt (earlier + k) start && test (slice_index t (earlier + k))) ≡ (nat_lt (earlier + k) to && test (slice_index t (earlier + k)))
-        same k =
-            let p = earlier + k in
-            ⊎_elim
-            (λ (before : p < start).
-            let is : nat_lt p start ≡ true = grind (arith, nat_tests) in
-            ⊎_elim
-            (λ (inside : p < to).
-            let too : nat_lt p to ≡ true = grind (arith, nat_tests) in
-            ap (λ b. b && test (slice_index t p)) (is ∙ sym too))
-            (λ (out : to ≤ p).
-            let nor : nat_lt p to ≡ false = grind (arith, nat_tests) in
-            ap (λ b. b && test (slice_index t p)) is ∙ fails p (h.beyond p out before) ∙ ap (λ b. b && test (slice_index t p)) (sym nor))
-            (cases_lt p to))
-            (λ (behind : start ≤ p).
-            let neither : nat_lt p start ≡ false = grind (arith, nat_tests) in
-            ⊎_elim
-            (λ (inside : p < to).
-            let is : nat_lt p to ≡ true = grind (arith, nat_tests) in
-            ap (λ b. b && test (slice_index t p)) neither ∙ sym (fails p (behind-none none p behind inside)) ∙ ap (λ b. b && test (slice_index t p)) (sym is))
-            (λ (out : to ≤ p).
-            let nor : nat_lt p to ≡ false = grind (arith, nat_tests) in
-            ap (λ b. b && test (slice_index t p)) (neither ∙ sym nor))
-            (cases_lt p to))
-            (cases_lt p start)
 
-    -- the highest mark
     module _ (r : ℕ) (top : IsHighest m r) where
-      highest_parts : (nat_lt (start + r) to ≡ true) × (test (slice_index t (start + r)) ≡ true)
-      highest_parts = and_parts (nat_lt (start + r) to) (test (slice_index t (start + r))) (yes _ _ (h.left r top.bound) top.set)
-
-      behind-before : start + r < to
-      behind-before = let part = highest_parts.0 in grind (arith, nat_tests)
+      here : start + 64 + r - 64 ≡ start + r
+      here = omega arith
 
       pub behind-found : IsLast (Passes test t) 0 to (Some (start + r))
-      behind-found =
-          let before = behind-before in
-          let bound = top.bound in (
-            record {
-              low = omega arith;
-              high = before;
-              after = λ k lo hi. ⊎_elim (λ (near : k < start + 64). at_back k (omega arith) hi near (top.above (k - start) (omega arith)))
-                  (λ (far : start + 64 ≤ k). h.between k far hi)
-                  (cases_lt k (start + 64));
-            },
-            highest_parts.1,
-          )
+      behind-found = rw (← here) (last-found start to (start + 64) m h.marks r top)
 
       pub behind-passed : (n : ℕ) → bit_at n r ≡ 0 → ((k : ℕ) → k ≢ r → bit_at n k ≡ bit_at m k) → Behind test t (start + r) start n
-      behind-passed n gone others =
-          let before = behind-before in
-          let bound = top.bound in
-          record {
-            within = h.within;
-            between = λ k lo hi. absurd (omega arith);
-            beyond = λ k lo hi. absurd (omega arith);
-            left = λ k low. ⊎_elim
-                (λ (lt : k < r).
-                let in_it : nat_lt (start + k) (start + r) ≡ true = grind (arith, nat_tests) in
-                let was : nat_lt (start + k) to ≡ true = grind (arith, nat_tests) in
-                others k (λ e. omega arith) ∙ h.left k low ∙ ap (λ b. cond (b && test (slice_index t (start + k))) 1 0) (was ∙ sym in_it))
-                (λ (ge : r ≤ k).
-                let out : nat_lt (start + k) (start + r) ≡ false = grind (arith, nat_tests) in
-                ⊎_elim
-                (λ (gt : r < k). others k (λ e. omega arith) ∙ top.above k gt ∙ ap (λ b. cond (b && test (slice_index t (start + k))) 1 0) (sym out))
-                (λ (le : k ≤ r).
-                let same : k ≡ r = omega arith in
-                ap (bit_at n) same ∙ gone ∙ ap (λ b. cond (b && test (slice_index t (start + k))) 1 0) (sym out))
-                (cases_lt r k))
-                (cases_lt k r);
-          }
+      behind-passed n gone others = record { within = h.within; beyond = λ k lo hi. absurd (omega arith); marks = rw (← here) (last-passed start to (start + 64) m h.marks r top n gone others) }
 
     -- a search before `start` finds the last place that is left, where no mark is
     pub behind-far : m ≡ 0 → (r : Option ℕ) → IsLast (Passes test t) 0 start r → IsLast (Passes test t) 0 to r
-    behind-far none None far = λ k lo hi. ⊎_elim (λ (lt : k < start). far k lo lt) (λ (ge : start ≤ k). behind-none none k ge hi) (cases_lt k start)
-    behind-far none (Some at) far =
+    behind-far clear None far = λ k lo hi. ⊎_elim (λ (lt : k < start). far k lo lt) (λ (ge : start ≤ k). behind-none clear k ge hi) (cases_lt k start)
+    behind-far clear (Some at) far =
         let high = far.0.high in (
           record {
             low = far.0.low;
             high = ⊎_elim (λ (lt : at < to). lt) (λ (ge : to ≤ at). absurd (h.beyond at ge high far.1)) (cases_lt at to);
-            after = λ k lo hi. ⊎_elim (λ (lt : k < start). far.0.after k lo lt) (λ (ge : start ≤ k). behind-none none k ge hi) (cases_lt k start);
+            after = λ k lo hi. ⊎_elim (λ (lt : k < start). far.0.after k lo lt) (λ (ge : start ≤ k). behind-none clear k ge hi) (cases_lt k start);
           },
           far.1,
         )
-
-    -- the walk goes on before places that fail
-    pub behind-skipped : (earlier : ℕ) → earlier ≤ to → Nowhere (Passes test t) earlier to → Behind test t earlier start m
-    behind-skipped earlier le none = record {
-      within = h.within;
-      between = λ k lo hi. h.between k lo (omega arith);
-      beyond = λ k lo hi. ⊎_elim (λ (lt : k < to). none k lo lt) (λ (ge : to ≤ k). h.beyond k ge hi) (cases_lt k to);
-      left = λ k low. h.left k low ∙ ap (λ b. cond b 1 0) (⊎_elim
-          (λ (stays : start + k < earlier).
-          let before : nat_lt (start + k) to ≡ true = grind (arith, nat_tests) in
-          let after : nat_lt (start + k) earlier ≡ true = grind (arith, nat_tests) in
-          ap (λ b. b && test (slice_index t (start + k))) (before ∙ sym after))
-          (λ (gone : earlier ≤ start + k).
-          let after : nat_lt (start + k) earlier ≡ false = grind (arith, nat_tests) in
-          ⊎_elim
-          (λ (inside : start + k < to).
-          let before : nat_lt (start + k) to ≡ true = grind (arith, nat_tests) in
-          ap (λ b. b && test (slice_index t (start + k))) before ∙ fails (start + k) (none (start + k) gone inside) ∙ ap (λ b. b && test (slice_index t (start + k))) (sym after))
-          (λ (out : to ≤ start + k).
-          let before : nat_lt (start + k) to ≡ false = grind (arith, nat_tests) in
-          ap (λ b. b && test (slice_index t (start + k))) (before ∙ sym after))
-          (cases_lt (start + k) to))
-          (cases_lt (start + k) earlier));
-    }

@@ -1,5 +1,5 @@
 -- Where the bytes of a text pass a test, as the bits of a number. Only private functions cite it.
-use Rattle.std.specs.Prelude.{◌≡◌, ℕ, ◌+◌, ◌-◌, ◌/◌, ◌%◌, ◌<◌, ◌≤◌, ◌==◌, ◌&&◌, nat_lt, nat_le, Bool, not, List, length, slice_index, bit_and, if◌then◌else◌}
+use Rattle.std.specs.Prelude.{◌≡◌, ℕ, ◌+◌, ◌-◌, ◌/◌, ◌%◌, ◌<◌, ◌≤◌, ◌==◌, ◌&&◌, nat_lt, Bool, not, List, length, slice_index, bit_and}
 use Rattle.std.specs.Int.{bit_at}
 use Rattle.memchr.specs.Find.{Nowhere, Passes}
 use Rattle.hip_match.specs.Characters.{char_ends}
@@ -18,40 +18,23 @@ in_rows rows c = nat_lt c 128 && bit_at (slice_index rows (c % 16)) (c / 16) == 
 
 -- ---- marks
 
--- bit k of the first sixteen says whether the byte at `at + k` passes
-abbrev pub AreLanes : (ℕ → Bool) → List ℕ → ℕ → ℕ → Type 0
-AreLanes test text at bits = (k : ℕ) → k < 16 → bit_at bits k ≡ (if test (slice_index text (at + k)) then 1 else 0)
+-- the set bits of a number are the places from `from` up to `to` whose bytes pass: bit k is of the place that lies as far before `end` as k
+-- lies before 64
+pub record AreMarks (test : ℕ → Bool) (text : List ℕ) (from to end bits : ℕ) : Type 0 where
+  pub told : (k : ℕ) → k < 64 → bit_at bits k ≡ 1 → (from + 64 ≤ end + k) × (end + k < to + 64) × Passes test text (end + k - 64)
+  pub marked : (p : ℕ) → from ≤ p → p < to → Passes test text p → (end ≤ p + 64) × (p < end) × (bit_at bits (p + 64 - end) ≡ 1)
 
--- like `AreLanes`, but of 64 bytes
-abbrev pub AreBlock : (ℕ → Bool) → List ℕ → ℕ → ℕ → Type 0
-AreBlock test text at bits = (k : ℕ) → k < 64 → bit_at bits k ≡ (if test (slice_index text (at + k)) then 1 else 0)
-
--- bit k says whether the byte at k passes, from one place up to another, and the others are not set
-abbrev pub AreFew : (ℕ → Bool) → List ℕ → ℕ → ℕ → ℕ → Type 0
-AreFew test text from to bits = (k : ℕ) → k < 64 → bit_at bits k ≡ (if nat_le from k && (nat_lt k to && test (slice_index text k)) then 1 else 0)
-
--- bit k says whether the byte at `next + k - 64` passes, at `from` or behind it, and the others are not set
-abbrev pub AreBefore : (ℕ → Bool) → List ℕ → ℕ → ℕ → ℕ → Type 0
-AreBefore test text from next bits =
-    (k : ℕ) → k < 64 → bit_at bits k ≡ (if nat_le (from + 64) (next + k) && test (slice_index text (next + k - 64)) then 1 else 0)
-
--- the marks that are left from `from` on of the 64 places before `next`, and nothing between `from` and these places
+-- the marks that are left from `from` on, of the 64 places before `next`
 pub record Ahead (test : ℕ → Bool) (text : List ℕ) (from next bits : ℕ) : Type 0 where
   pub within : next ≤ length text
-  pub between : Nowhere (Passes test text) from (next - 64)
   pub beyond : Nowhere (Passes test text) next from
-  pub left : AreBefore test text from next bits
+  pub marks : AreMarks test text from next next bits
 
--- bit k says whether the byte at `start + k` passes, before `to`, and the others are not set
-abbrev pub AreUpTo : (ℕ → Bool) → List ℕ → ℕ → ℕ → ℕ → Type 0
-AreUpTo test text to start bits = (k : ℕ) → k < 64 → bit_at bits k ≡ (if nat_lt (start + k) to && test (slice_index text (start + k)) then 1 else 0)
-
--- the marks that are left before `to` of the 64 places from `start` on, and nothing between these places and `to`
+-- the marks that are left before `to`, of the 64 places from `start` on
 pub record Behind (test : ℕ → Bool) (text : List ℕ) (to start bits : ℕ) : Type 0 where
   pub within : start ≤ length text
-  pub between : Nowhere (Passes test text) (start + 64) to
   pub beyond : Nowhere (Passes test text) to start
-  pub left : AreUpTo test text to start bits
+  pub marks : AreMarks test text start to (start + 64) bits
 
 -- the parts from `from` up to `to` between the characters of a set
 abbrev pub marked_parts : (ℕ → Bool) → List ℕ → ℕ → ℕ → List (ℕ × ℕ)

@@ -7,7 +7,7 @@ ghost use Rattle.hip_match.specs.Characters.{char_ends};
 ghost use Rattle.hip_match.specs.CharLaws.{char_ends-spans, char_ends-one_start, char_ends-one_char};
 ghost use Rattle.hip_match.specs.Marks.{Ahead, Behind, in_rows};
 
-use crate::byte_test::{AsciiTable, ByteSearch, ByteTest};
+use crate::byte_test::{AsciiTable, ByteTest};
 use crate::chars::{CharSet, end_of, start_before};
 use crate::marks::{Marks, block};
 use crate::pattern::{ClonePattern, DoubleEndedPattern, OneChar, Pattern, ReversePattern};
@@ -155,8 +155,7 @@ impl Pattern for AsciiSet {
 
     #[inline]
     fn next_match(&self, text: &str, from: usize) -> Option<(usize, usize)> {
-        let at = self.table.find(text.as_bytes(), from)?;
-        Some((at, at + 1))
+        self.next_match_by(&mut self.searcher(text, from, text.len()), text, from)
     }
 
     #[inline(always)]
@@ -192,8 +191,7 @@ impl ReversePattern for AsciiSet {
 
     #[inline]
     fn last_match(&self, text: &str, to: usize) -> Option<(usize, usize)> {
-        let at = self.table.rfind(text.as_bytes(), to)?;
-        Some((at, at + 1))
+        self.last_match_by(&mut self.reverse_searcher(text, 0, to), text, to)
     }
 
     #[inline(always)]

@@ -1,5 +1,5 @@
 //! Numbers of 64 bits, bit by bit.
-ghost use Rattle.std.specs.Prelude.{◌≡◌, ◌≢◌, ◌-◌, ◌<◌, ◌≤◌, ◌^◌, ℕ, MatchOption};
+ghost use Rattle.std.specs.Prelude.{◌≡◌, ◌≢◌, ◌-◌, ◌<◌, ◌≤◌, ℕ, MatchOption};
 ghost use Rattle.std.specs.Int.{bit_at};
 ghost use Rattle.hip_match.specs.Bits.{IsHighest, IsLowest};
 
@@ -61,19 +61,6 @@ pub(crate) fn bits_below(m: u64, count: usize) -> u64
     ensures above { (k : ℕ) → count ≤ k → bit_at result k ≡ 0 }
 {
     m & ((1 << count) - 1)
-}
-
-// The bits of one number, and behind its lowest `by` those of another.
-#[inline(always)]
-pub(crate) fn joined(low: u64, high: u64, by: u32) -> u64
-    requires by { by < 64 }
-    requires low { low < 2 ^ by }
-    requires high { high < 2 ^ (64 - by) }
-    ensures fits { (n : ℕ) → by ≤ n → high < 2 ^ (n - by) → result < 2 ^ n }
-    ensures low { (k : ℕ) → k < by → bit_at result k ≡ bit_at low k }
-    ensures high { (k : ℕ) → by ≤ k → bit_at result k ≡ bit_at high (k - by) }
-{
-    (high << by) + low
 }
 
 // The bits of a number, `by` places higher.

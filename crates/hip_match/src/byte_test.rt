@@ -1,11 +1,9 @@
 //! Tests of a byte, one by one and sixteen at a time.
-ghost use Rattle.std.specs.Prelude.{◌≡◌, ◌==◌, ◌+◌, ◌<◌, ◌≤◌, ℕ, Bool, length};
+ghost use Rattle.std.specs.Prelude.{◌≡◌, ◌==◌, ◌+◌, ◌≤◌, ℕ, Bool, length, IfSome};
 ghost use Rattle.memchr.specs.Find.{IsFirst, IsLast, Passes};
-ghost use Rattle.hip_match.specs.Marks.{AreLanes, has_nibbles};
+ghost use Rattle.hip_match.specs.Marks.{AreMarks, has_nibbles, in_rows};
 ghost use Rattle.hip_match.specs.declared.byte_test.TheConstants.{SPACE_COLUMNS, SPACE_ROWS};
-ghost use Rattle.hip_match.specs.Marks.{in_rows};
 
-use crate::marks::{first_in_blocks, last_in_blocks};
 use memchr::{memchr, memrchr};
 use std::simd::prelude::*;
 
@@ -21,21 +19,25 @@ pub trait ByteTest: Copy {
     /// Which of the sixteen bytes from `at` on pass, as a mask whose lowest bit is the first byte's.
     fn lanes(&self, bytes: &[u8], at: usize) -> u64
         requires { at + 16 ≤ length bytes.now }
-        ensures few { result < 65536 }
-        ensures marks { AreLanes (passes self.now) bytes.now at result };
-}
+        ensures { AreMarks (passes self.now) bytes.now at (at + 16) (at + 64) result };
 
-/// A test whose bytes are looked for by a search of its own where they are far.
-pub trait ByteSearch: ByteTest {
-    /// The first byte at or after `from` that passes.
-    fn find(&self, bytes: &[u8], from: usize) -> Option<usize>
-        requires { from ≤ length bytes.now }
-        ensures { IsFirst (Passes (Self.passes self.now) bytes.now) from (length bytes.now) result };
+    /// The first byte at or after `from` that passes, where the test has a search for far ones.
+    #[inline(always)]
+    fn far_first(&self, _bytes: &[u8], _from: usize) -> Option<Option<usize>>
+        requires { _from ≤ length _bytes.now }
+        ensures { IfSome result (IsFirst (Passes (passes self.now) _bytes.now) _from (length _bytes.now)) }
+    {
+        None
+    }
 
-    /// The last byte before `to` that passes.
-    fn rfind(&self, bytes: &[u8], to: usize) -> Option<usize>
-        requires { to ≤ length bytes.now }
-        ensures { IsLast (Passes (Self.passes self.now) bytes.now) 0 to result };
+    /// The last byte before `to` that passes, where the test has a search for far ones.
+    #[inline(always)]
+    fn far_last(&self, _bytes: &[u8], _to: usize) -> Option<Option<usize>>
+        requires { _to ≤ length _bytes.now }
+        ensures { IfSome result (IsLast (Passes (passes self.now) _bytes.now) 0 _to) }
+    {
+        None
+    }
 }
 
 /// One byte.
@@ -56,18 +58,34 @@ impl ByteTest for OneByte {
             .simd_eq(u8x16::splat(self.0))
             .to_bitmask()
     }
+
+    #[inline(always)]
+    fn far_first(&self, bytes: &[u8], from: usize) -> Option<Option<usize>> {
+        Some(byte_from(self.0, bytes, from))
+    }
+
+    #[inline(always)]
+    fn far_last(&self, bytes: &[u8], to: usize) -> Option<Option<usize>> {
+        Some(byte_before(self.0, bytes, to))
+    }
 }
 
-impl ByteSearch for OneByte {
-    #[inline]
-    fn find(&self, bytes: &[u8], from: usize) -> Option<usize> {
-        Some(from + memchr(self.0, &bytes[from..])?)
-    }
+// The first place of a byte at or after `from`.
+#[inline(never)]
+fn byte_from(byte: u8, bytes: &[u8], from: usize) -> Option<usize>
+    requires { from ≤ length bytes.now }
+    ensures { IsFirst (Passes (λ b. b == byte) bytes.now) from (length bytes.now) result }
+{
+    Some(from + memchr(byte, &bytes[from..])?)
+}
 
-    #[inline]
-    fn rfind(&self, bytes: &[u8], to: usize) -> Option<usize> {
-        memrchr(self.0, &bytes[..to])
-    }
+// The last place of a byte before `to`.
+#[inline(never)]
+fn byte_before(byte: u8, bytes: &[u8], to: usize) -> Option<usize>
+    requires { to ≤ length bytes.now }
+    ensures { IsLast (Passes (λ b. b == byte) bytes.now) 0 to result }
+{
+    memrchr(byte, &bytes[..to])
 }
 
 // The columns of a table of ASCII: bit h of a row says whether the character `16 * h + low` belongs, for h below 8.
@@ -85,8 +103,7 @@ fn has_nibbles(rows: &[u8; 16], columns: &[u8; 16], byte: u8) -> bool
 #[inline(always)]
 fn nibble_lanes(rows: &[u8; 16], columns: &[u8; 16], bytes: &[u8], at: usize) -> u64
     requires { at + 16 ≤ length bytes.now }
-    ensures few { result < 65536 }
-    ensures marks { AreLanes (has_nibbles rows.now columns.now) bytes.now at result }
+    ensures { AreMarks (has_nibbles rows.now columns.now) bytes.now at (at + 16) (at + 64) result }
 {
     let lanes = u8x16::from_slice(&bytes[at..]);
     let rows = u8x16::from_array(*rows).swizzle_dyn_within::<16>(lanes & u8x16::splat(15));
@@ -114,18 +131,6 @@ impl ByteTest for AsciiTable {
     }
 }
 
-impl ByteSearch for AsciiTable {
-    #[inline]
-    fn find(&self, bytes: &[u8], from: usize) -> Option<usize> {
-        first_in_blocks(self, bytes, from)
-    }
-
-    #[inline]
-    fn rfind(&self, bytes: &[u8], to: usize) -> Option<usize> {
-        last_in_blocks(self, bytes, to)
-    }
-}
-
 // Tables for the bytes with which a character of Unicode's `White_Space` begins: those of ASCII, 0xC2, and 0xE1 to 0xE3.
 const SPACE_ROWS: [u8; 16] = [2, 8, 12, 8, 0, 0, 0, 0, 0, 1, 1, 1, 1, 1, 0, 0];
 
@@ -146,17 +151,5 @@ impl ByteTest for SpaceLeads {
     #[inline(always)]
     fn lanes(&self, bytes: &[u8], at: usize) -> u64 {
         nibble_lanes(&SPACE_ROWS, &SPACE_COLUMNS, bytes, at)
-    }
-}
-
-impl ByteSearch for SpaceLeads {
-    #[inline]
-    fn find(&self, bytes: &[u8], from: usize) -> Option<usize> {
-        first_in_blocks(self, bytes, from)
-    }
-
-    #[inline]
-    fn rfind(&self, bytes: &[u8], to: usize) -> Option<usize> {
-        last_in_blocks(self, bytes, to)
     }
 }

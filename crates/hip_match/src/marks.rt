@@ -1,49 +1,44 @@
 //! The places of a text whose bytes pass a test, found 64 at a time from either end.
 //!
 //! Functions that aren't inlined take a test by value, so that a walk's own fields stay in registers.
-ghost use Rattle.std.specs.Prelude.{◌≡◌, ◌+◌, ◌<◌, ◌≤◌, ℕ, Bool, List, length, IfSome};
+ghost use Rattle.std.specs.Prelude.{◌≡◌, ◌+◌, ◌-◌, ◌<◌, ◌≤◌, ℕ, Bool, List, length, IfSome, IfNone};
 ghost use Rattle.memchr.specs.Find.{IsFirst, IsLast, Passes};
-ghost use Rattle.hip_match.specs.Marks.{Ahead, AreBefore, AreBlock, AreFew, AreUpTo, Behind};
+ghost use Rattle.hip_match.specs.Marks.{Ahead, AreMarks, Behind};
 
-use crate::bits::{
-    bits_below, bits_from, highest, joined, lowest, shifted_up, without, without_lowest,
-};
-use crate::byte_test::{ByteSearch, ByteTest};
+use crate::bits::{bits_below, bits_from, highest, lowest, shifted_up, without, without_lowest};
+use crate::byte_test::ByteTest;
 
 const BLOCK: usize = 64;
 
 const LANES: usize = 16;
 
+// The marks of the sixteen places from `at` on, moved up by `by`.
+#[inline(always)]
+fn lanes_moved<T: ByteTest>(test: &T, bytes: &[u8], at: usize, by: usize) -> u64
+    requires room { at + 16 ≤ length bytes.now }
+    requires by { by ≤ 48 }
+    ensures { (end : ℕ) → by + end ≡ at + 64 → AreMarks (T.passes test.now) bytes.now at (at + 16) end result }
+{
+    shifted_up(test.lanes(bytes, at), by)
+}
+
 // The marks of the 64 places from `at` on.
 #[inline(always)]
 pub(crate) fn block<T: ByteTest>(test: &T, bytes: &[u8], at: usize) -> u64
     requires { at + 64 ≤ length bytes.now }
-    ensures { AreBlock (T.passes test.now) bytes.now at result }
+    ensures { AreMarks (T.passes test.now) bytes.now at (at + 64) (at + 64) result }
 {
-    let front = joined(test.lanes(bytes, at), test.lanes(bytes, at + LANES), 16);
-    let back = joined(
-        test.lanes(bytes, at + 2 * LANES),
-        test.lanes(bytes, at + 3 * LANES),
-        16,
-    );
-    joined(front, back, 32)
+    lanes_moved(test, bytes, at, 0)
+        | lanes_moved(test, bytes, at + LANES, LANES)
+        | lanes_moved(test, bytes, at + 2 * LANES, 2 * LANES)
+        | lanes_moved(test, bytes, at + 3 * LANES, 3 * LANES)
 }
 
-// The marks of sixteen places from `at` on, at their places.
-#[inline(always)]
-fn lanes_at<T: ByteTest>(test: &T, bytes: &[u8], at: usize) -> u64
-    requires room { at + 16 ≤ length bytes.now }
-    requires few { at < 64 }
-    ensures { AreFew (T.passes test.now) bytes.now at (at + 16) result }
-{
-    shifted_up(test.lanes(bytes, at), at)
-}
-
-// The marks of a text of fewer than 64 bytes.
+// The marks of a text of fewer than 64 bytes: bit k is of the place k.
 #[inline(never)]
 fn few<T: ByteTest>(test: T, bytes: &[u8]) -> u64
     requires { length bytes.now < 64 }
-    ensures { AreFew (T.passes test) bytes.now 0 (length bytes.now) result }
+    ensures { AreMarks (T.passes test) bytes.now 0 (length bytes.now) 64 result }
 {
     let len = bytes.len();
     if len < LANES {
@@ -52,17 +47,19 @@ fn few<T: ByteTest>(test: T, bytes: &[u8]) -> u64
         return bits_below(test.lanes(&padded, 0), len);
     }
     let last = len - LANES;
-    lanes_at(&test, bytes, 0)
-        | lanes_at(&test, bytes, last.min(LANES))
-        | lanes_at(&test, bytes, last.min(2 * LANES))
-        | lanes_at(&test, bytes, last)
+    let second = last.min(LANES);
+    let third = last.min(2 * LANES);
+    lanes_moved(&test, bytes, 0, 0)
+        | lanes_moved(&test, bytes, second, second)
+        | lanes_moved(&test, bytes, third, third)
+        | lanes_moved(&test, bytes, last, last)
 }
 
 // The marks of the last 64 places of a text, the last by the highest bit.
 #[inline(always)]
 fn last_marks<T: ByteTest>(test: &T, bytes: &[u8]) -> u64
     requires { 0 < length bytes.now }
-    ensures { AreBefore (T.passes test.now) bytes.now 0 (length bytes.now) result }
+    ensures { AreMarks (T.passes test.now) bytes.now (length bytes.now - 64) (length bytes.now) (length bytes.now) result }
 {
     let len = bytes.len();
     if BLOCK <= len {
@@ -72,22 +69,22 @@ fn last_marks<T: ByteTest>(test: &T, bytes: &[u8]) -> u64
     }
 }
 
-// The marks of the last 64 places of a text, those before `from` taken.
+// Like `last_marks`, but of the places from `from` on.
 #[inline(never)]
 fn last_block<T: ByteTest>(test: T, bytes: &[u8], from: usize) -> u64
     requires some { from < length bytes.now }
     requires few { length bytes.now < from + 64 }
-    ensures { AreBefore (T.passes test) bytes.now from (length bytes.now) result }
+    ensures { AreMarks (T.passes test) bytes.now from (length bytes.now) (length bytes.now) result }
 {
     bits_from(last_marks(&test, bytes), BLOCK - (bytes.len() - from))
 }
 
-// The marks of the first 64 places of a text, those from `to` on taken.
+// The marks of the places before `to`: bit k is of the place k.
 #[inline(never)]
 fn first_block<T: ByteTest>(test: T, bytes: &[u8], to: usize) -> u64
     requires within { to ≤ length bytes.now }
     requires few { to < 64 }
-    ensures { AreUpTo (T.passes test) bytes.now to 0 result }
+    ensures { AreMarks (T.passes test) bytes.now 0 to 64 result }
 {
     if BLOCK <= bytes.len() {
         return bits_below(block(&test, bytes, 0), to);
@@ -100,9 +97,8 @@ fn first_block<T: ByteTest>(test: T, bytes: &[u8], to: usize) -> u64
 fn block_from<T: ByteTest>(test: &T, bytes: &[u8], from: usize) -> (usize, u64)
     requires { from < length bytes.now }
     ensures goes_on { from < result.0 }
-    ensures near { result.0 ≤ from + 64 }
     ensures within { result.0 ≤ length bytes.now }
-    ensures marks { AreBefore (T.passes test.now) bytes.now from result.0 result.1 }
+    ensures marks { AreMarks (T.passes test.now) bytes.now from result.0 result.0 result.1 }
 {
     if BLOCK <= bytes.len() - from {
         return (from + BLOCK, block(test, bytes, from));
@@ -116,31 +112,12 @@ fn block_before<T: ByteTest>(test: &T, bytes: &[u8], to: usize) -> (usize, u64)
     requires some { 0 < to }
     requires within { to ≤ length bytes.now }
     ensures goes_on { result.0 < to }
-    ensures near { to ≤ result.0 + 64 }
-    ensures marks { AreUpTo (T.passes test.now) bytes.now to result.0 result.1 }
+    ensures marks { AreMarks (T.passes test.now) bytes.now result.0 to (result.0 + 64) result.1 }
 {
     if BLOCK <= to {
         return (to - BLOCK, block(test, bytes, to - BLOCK));
     }
     (0, first_block(*test, bytes, to))
-}
-
-// The first place at or after `from`, by the test's own search.
-#[inline(never)]
-fn far_first<T: ByteSearch>(test: T, bytes: &[u8], from: usize) -> Option<usize>
-    requires { from ≤ length bytes.now }
-    ensures { IsFirst (Passes (T.passes test) bytes.now) from (length bytes.now) result }
-{
-    test.find(bytes, from)
-}
-
-// The last place before `to`, by the test's own search.
-#[inline(never)]
-fn far_last<T: ByteSearch>(test: T, bytes: &[u8], to: usize) -> Option<usize>
-    requires { to ≤ length bytes.now }
-    ensures { IsLast (Passes (T.passes test) bytes.now) 0 to result }
-{
-    test.rfind(bytes, to)
 }
 
 /// The marks that are left of a block of 64 places, from its front.
@@ -182,28 +159,26 @@ impl FrontMarks {
         self.is_far = bits == 0;
     }
 
-    // The first place that is left, by the test's own search.
+    // The first place that is left, where the test has a search for far ones.
     #[inline(always)]
-    fn find<T: ByteSearch>(&mut self, test: &T, bytes: &[u8], from: usize) -> Option<usize>
+    fn find<T: ByteTest>(&mut self, test: &T, bytes: &[u8], from: usize) -> Option<Option<usize>>
         requires ahead { Ahead (T.passes test.now) bytes.now from self.old.next self.old.bits }
         requires none { self.old.bits ≡ 0 }
-        ensures found { IsFirst (Passes (T.passes test.now) bytes.now) from (length bytes.now) result }
-        ensures ahead { IfSome result (λ at. Ahead (T.passes test.now) bytes.now (at + 1) self.new.next self.new.bits) }
+        ensures found { IfSome result (IsFirst (Passes (T.passes test.now) bytes.now) from (length bytes.now)) }
+        ensures ahead { IfSome result (λ r. IfSome r (λ at. Ahead (T.passes test.now) bytes.now (at + 1) self.new.next self.new.bits)) }
+        ensures stays { IfNone result (self.new ≡ self.old) }
     {
-        let at = far_first(*test, bytes, self.next)?;
-        self.is_far = BLOCK <= at - self.next;
-        self.next = at + 1;
-        Some(at)
+        let found = test.far_first(bytes, self.next)?;
+        if let Some(at) = found {
+            self.is_far = BLOCK <= at - self.next;
+            self.next = at + 1;
+        }
+        Some(found)
     }
 
     // The first place that is left, which is passed.
     #[inline(always)]
-    pub(crate) fn next<T: ByteSearch>(
-        &mut self,
-        test: &T,
-        bytes: &[u8],
-        from: usize,
-    ) -> Option<usize>
+    pub(crate) fn next<T: ByteTest>(&mut self, test: &T, bytes: &[u8], from: usize) -> Option<usize>
         requires { Ahead (T.passes test.now) bytes.now from self.old.next self.old.bits }
         ensures found { IsFirst (Passes (T.passes test.now) bytes.now) from (length bytes.now) result }
         ensures ahead { IfSome result (λ at. Ahead (T.passes test.now) bytes.now (at + 1) self.new.next self.new.bits) }
@@ -217,7 +192,9 @@ impl FrontMarks {
                 return None;
             }
             if self.is_far {
-                return self.find(test, bytes, from);
+                if let Some(found) = self.find(test, bytes, from) {
+                    return found;
+                }
             }
             self.load(test, bytes, from);
         }
@@ -263,23 +240,26 @@ impl BackMarks {
         self.is_far = bits == 0;
     }
 
-    // The last place that is left, by the test's own search.
+    // The last place that is left, where the test has a search for far ones.
     #[inline(always)]
-    fn find<T: ByteSearch>(&mut self, test: &T, bytes: &[u8], to: usize) -> Option<usize>
+    fn find<T: ByteTest>(&mut self, test: &T, bytes: &[u8], to: usize) -> Option<Option<usize>>
         requires behind { Behind (T.passes test.now) bytes.now to self.old.start self.old.bits }
         requires none { self.old.bits ≡ 0 }
-        ensures found { IsLast (Passes (T.passes test.now) bytes.now) 0 to result }
-        ensures behind { IfSome result (λ at. Behind (T.passes test.now) bytes.now at self.new.start self.new.bits) }
+        ensures found { IfSome result (IsLast (Passes (T.passes test.now) bytes.now) 0 to) }
+        ensures behind { IfSome result (λ r. IfSome r (λ at. Behind (T.passes test.now) bytes.now at self.new.start self.new.bits)) }
+        ensures stays { IfNone result (self.new ≡ self.old) }
     {
-        let at = far_last(*test, bytes, self.start)?;
-        self.is_far = BLOCK <= self.start - at;
-        self.start = at;
-        Some(at)
+        let found = test.far_last(bytes, self.start)?;
+        if let Some(at) = found {
+            self.is_far = BLOCK <= self.start - at;
+            self.start = at;
+        }
+        Some(found)
     }
 
     // The last place that is left, which is passed.
     #[inline(always)]
-    pub(crate) fn last<T: ByteSearch>(&mut self, test: &T, bytes: &[u8], to: usize) -> Option<usize>
+    pub(crate) fn last<T: ByteTest>(&mut self, test: &T, bytes: &[u8], to: usize) -> Option<usize>
         requires { Behind (T.passes test.now) bytes.now to self.old.start self.old.bits }
         ensures found { IsLast (Passes (T.passes test.now) bytes.now) 0 to result }
         ensures behind { IfSome result (λ at. Behind (T.passes test.now) bytes.now at self.new.start self.new.bits) }
@@ -293,56 +273,24 @@ impl BackMarks {
                 return None;
             }
             if self.is_far {
-                return self.find(test, bytes, to);
+                if let Some(found) = self.find(test, bytes, to) {
+                    return found;
+                }
             }
             self.load(test, bytes, to);
         }
     }
 }
 
-// The first place at or after `from`, block by block.
-pub(crate) fn first_in_blocks<T: ByteTest>(test: &T, bytes: &[u8], from: usize) -> Option<usize>
-    requires { from ≤ length bytes.now }
-    ensures { IsFirst (Passes (T.passes test.now) bytes.now) from (length bytes.now) result }
-{
-    let mut marks = FrontMarks::new(from);
-    loop {
-        if let Some(k) = lowest(marks.bits) {
-            return Some(marks.next + k as usize - BLOCK);
-        }
-        if marks.next == bytes.len() {
-            return None;
-        }
-        marks.load(test, bytes, from);
-    }
-}
-
-// The last place before `to`, block by block.
-pub(crate) fn last_in_blocks<T: ByteTest>(test: &T, bytes: &[u8], to: usize) -> Option<usize>
-    requires { to ≤ length bytes.now }
-    ensures { IsLast (Passes (T.passes test.now) bytes.now) 0 to result }
-{
-    let mut marks = BackMarks::new(to);
-    loop {
-        if let Some(k) = highest(marks.bits) {
-            return Some(marks.start + k as usize);
-        }
-        if marks.start == 0 {
-            return None;
-        }
-        marks.load(test, bytes, to);
-    }
-}
-
 /// The places of a text whose bytes pass a test, from either end.
 #[derive(Clone, Copy)]
-pub struct Marks<T: ByteSearch> {
+pub struct Marks<T: ByteTest> {
     pub(crate) test: T,
     pub(crate) front: FrontMarks,
     pub(crate) back: BackMarks,
 }
 
-impl<T: ByteSearch> Marks<T> {
+impl<T: ByteTest> Marks<T> {
     // The places of a text from `from` up to `to`.
     #[inline]
     pub(crate) fn new(test: T, from: usize, to: usize) -> Self

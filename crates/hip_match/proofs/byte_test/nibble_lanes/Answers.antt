@@ -4,7 +4,7 @@ use Rattle.std.proofs.lemmas.List.{length-map}
 use Rattle.std.proofs.lemmas.Simd.{get_or-chunk, length-chunk, map-map, swz_l, zip2_of_maps, zip2_splat}
 use lib.Lanes.{chunk, zip2}
 use Rattle.hip_match.specs.Marks.{has_nibbles}
-use Rattle.hip_match.proofs.LaneLemmas.{few_lanes, high_half, high_ok, looked_up, low_half, low_ok, marked, top_of}
+use Rattle.hip_match.proofs.LaneLemmas.{high_half, high_ok, looked_up, low_half, low_ok, marked, top_of}
 use Rattle.hip_match.proofs.byte_test.nibble_lanes.Goals as goal
 
 module _ (rows columns bytes : List ℕ) (at : ℕ) (room : at + 16 ≤ length bytes) (fits : (k : ℕ) → Fits w8 (get_or bytes k 0)) where
@@ -51,12 +51,8 @@ swizzle-columns c =
     let bytes = c.args.bytes.now in
     high_ok (chunk at 16 bytes) (length-chunk at 16 bytes c.requires) (lane_fits c.args.rows.now c.args.columns.now bytes at c.requires c.type_inv.bytes)
 
-pub returns-clause-few : goal.returns-clause-few
-returns-clause-few c =
-    few_lanes (chunk c.args.at 16 c.args.bytes.now) _ _ (length-chunk c.args.at 16 c.args.bytes.now c.requires) (lanes_are c.args.rows.now c.args.columns.now c.args.bytes.now c.args.at c.requires c.type_inv.bytes)
-
-pub returns-clause-marks : goal.returns-clause-marks
-returns-clause-marks c =
-    marked (has_nibbles c.args.rows.now c.args.columns.now) c.args.bytes.now c.args.at 16 _ _ c.requires (omega arith) c.type_inv.bytes
+pub returns : goal.returns
+returns c =
+    marked (has_nibbles c.args.rows.now c.args.columns.now) c.args.bytes.now c.args.at _ _ c.requires c.type_inv.bytes
     (lanes_are c.args.rows.now c.args.columns.now c.args.bytes.now c.args.at c.requires c.type_inv.bytes)
     (λ x low. top_of (has_nibbles c.args.rows.now c.args.columns.now x))

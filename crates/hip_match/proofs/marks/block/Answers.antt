@@ -1,14 +1,16 @@
-use Rattle.std.proofs.Common.{arith}
-use Rattle.hip_match.proofs.MarkLemmas.{block-is}
+use Rattle.std.proofs.Common.{◌≡◌, ◌+◌, ℕ, subst, arith, bit_or}
+use Rattle.hip_match.specs.Marks.{AreMarks}
+use Rattle.hip_match.proofs.MarkLemmas.{joined}
 use Rattle.hip_match.proofs.marks.block.Goals as goal
-
-pub joined-requires-clause-low : goal.joined-requires-clause-low
-joined-requires-clause-low g c = c.joined-front.ensures.fits 32 (omega arith) (omega (arith, c.lanes-2.ensures.few))
-
-pub joined-requires-clause-high : goal.joined-requires-clause-high
-joined-requires-clause-high g c = c.joined-back.ensures.fits 32 (omega arith) (omega (arith, c.lanes-4.ensures.few))
 
 pub returns : goal.returns
 returns g c =
-    block-is (g.T.ByteTest.passes c.args.test.now) c.args.bytes.now c.args.at _ _ _ _ _ _ _ c.lanes.ensures.marks c.lanes-2.ensures.marks c.lanes-3.ensures.marks c.lanes-4.ensures.marks
-    c.joined-front.ensures.low c.joined-front.ensures.high c.joined-back.ensures.low c.joined-back.ensures.high c.joined.ensures.low c.joined.ensures.high
+    let test = g.T.ByteTest.passes c.args.test.now in
+    let t = c.args.bytes.now in
+    let at = c.args.at in
+    let end = at + 64 in
+    let two = joined test t at (at + 16) end _ (c.lanes_moved.ensures end (omega arith)) (at + 16) (at + 16 + 16) _ (omega arith) (omega arith) (omega arith) (c.lanes_moved-2.ensures end (omega arith)) in
+    let three = joined test t at (at + 16 + 16) end _ two (at + 32) (at + 32 + 16) _ (omega arith) (omega arith) (omega arith) (c.lanes_moved-3.ensures end (omega arith)) in
+    let four = joined test t at (at + 32 + 16) end _ three (at + 48) (at + 48 + 16) _ (omega arith) (omega arith) (omega arith) (c.lanes_moved-4.ensures end (omega arith)) in
+    let whole : at + 48 + 16 ≡ end = omega arith in
+    subst (λ (to : ℕ). AreMarks test t at to end (bit_or (bit_or (bit_or c.lanes_moved.result c.lanes_moved-2.result) c.lanes_moved-3.result) c.lanes_moved-4.result)) whole four

@@ -1,6 +1,6 @@
 use Rattle.std.proofs.Common.{◌≡◌, ◌+◌, ◌-◌, ℕ, length, subst, arith, bit_or}
-use Rattle.hip_match.specs.Marks.{AreFew}
-use Rattle.hip_match.proofs.MarkLemmas.{few-joined}
+use Rattle.hip_match.specs.Marks.{AreMarks}
+use Rattle.hip_match.proofs.MarkLemmas.{joined}
 use Rattle.hip_match.proofs.marks.few.Goals as goal
 
 pub returns : goal.returns
@@ -9,11 +9,12 @@ returns g c =
     let t = c.args.bytes.now in
     let n = length t in
     let long = c.if-len-lt-LANES.false in
+    let a = c.min-second.result in
+    let b = c.min-third.result in
+    let second = c.min-second.ensures in
+    let third = c.min-third.ensures in
+    let two = joined test t 0 16 64 _ (c.lanes_moved.ensures 64 (omega arith)) a (a + 16) _ (omega arith) (omega (arith, second)) (omega (arith, second, long)) (c.lanes_moved-2.ensures 64 (omega arith)) in
+    let three = joined test t 0 (a + 16) 64 _ two b (b + 16) _ (omega arith) (omega (arith, second, third)) (omega (arith, second, third)) (c.lanes_moved-3.ensures 64 (omega arith)) in
+    let four = joined test t 0 (b + 16) 64 _ three (n - 16) (n - 16 + 16) _ (omega arith) (omega (arith, third, c.requires)) (omega (arith, third)) (c.lanes_moved-4.ensures 64 (omega arith)) in
     let whole : n - 16 + 16 ≡ n = omega (arith, long) in
-    let second = c.min.ensures in
-    let third = c.min-2.ensures in
-    let two = few-joined test t 0 16 c.min.result (c.min.result + 16) _ _ (omega arith) (omega (arith, second)) (omega (arith, second, long)) c.lanes_at.ensures c.lanes_at-2.ensures in
-    let three = few-joined test t 0 (c.min.result + 16) c.min-2.result (c.min-2.result + 16) _ _ (omega arith) (omega (arith, second, third)) (omega (arith, second, third)) two c.lanes_at-3.ensures in
-    let four = few-joined test t 0 (c.min-2.result + 16) (n - 16) (n - 16 + 16) _ _ (omega arith) (omega (arith, third, c.requires)) (omega (arith, third)) three c.lanes_at-4.ensures in
-    let P : ℕ → Type 0 = λ end. AreFew test t 0 end (bit_or (bit_or (bit_or c.lanes_at.result c.lanes_at-2.result) c.lanes_at-3.result) c.lanes_at-4.result) in
-    subst P whole four
+    subst (λ (to : ℕ). AreMarks test t 0 to 64 (bit_or (bit_or (bit_or c.lanes_moved.result c.lanes_moved-2.result) c.lanes_moved-3.result) c.lanes_moved-4.result)) whole four
