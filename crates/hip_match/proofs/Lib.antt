@@ -19,7 +19,7 @@ pub mod RunLemmas
 pub mod BitLemmas
 pub mod LaneLemmas
 pub mod MarkLemmas
-pub mod SpaceLemmas
+pub mod MarkedSetLemmas
 pub mod GapLemmas
 pub mod OrderLemmas
 pub mod PartedLemmas

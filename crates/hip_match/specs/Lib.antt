@@ -14,7 +14,8 @@ pub mod Answers
 pub mod Bits
 pub mod Marks
 pub mod AsciiSets
-pub mod Searchers
+pub mod MarkedSets
+pub mod FirstBytes
 pub mod Ready
 pub mod Clones
 pub mod Iterators

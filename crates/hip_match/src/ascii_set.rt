@@ -3,14 +3,14 @@ ghost use Rattle.std.specs.Prelude.{◌≡◌, ◌==◌, ◌+◌, ◌<◌, ◌�
 ghost use Rattle.std.specs.Int.{bit_at};
 ghost use Rattle.std.specs.Char.{is_ascii, is_ascii_alphabetic, is_ascii_alphanumeric, is_ascii_whitespace};
 ghost use Rattle.hip_match.specs.AsciiSets.{in_set};
-ghost use Rattle.hip_match.specs.Characters.{char_ends};
-ghost use Rattle.hip_match.specs.CharLaws.{char_ends-spans, char_ends-one_start, char_ends-one_char};
-ghost use Rattle.hip_match.specs.Marks.{Ahead, Behind, in_rows};
+ghost use Rattle.hip_match.specs.FirstBytes.{ascii_first_bytes};
+ghost use Rattle.hip_match.specs.MarkedSets.{AreAsciiBytes};
 
 use crate::byte_test::{AsciiTable, ByteTest};
-use crate::chars::{CharSet, end_of, start_before};
-use crate::marks::{Marks, block};
-use crate::pattern::{ClonePattern, DoubleEndedPattern, OneChar, Pattern, ReversePattern};
+use crate::chars::CharSet;
+use crate::marked_set::MarkedSet;
+use crate::marks::block;
+use crate::pattern::{ClonePattern, DoubleEndedPattern};
 use std::simd::prelude::*;
 
 /// A set of characters of ASCII. A walk finds them 64 bytes at a time.
@@ -139,42 +139,22 @@ impl CharSet for AsciiSet {
     }
 }
 
-impl Pattern for AsciiSet {
-    type Searcher = Marks<AsciiTable>;
+impl MarkedSet for AsciiSet {
+    type Test = AsciiTable;
 
-    ghost ends = { λ s. char_ends (in_set s) };
+    ghost is_found_by = { λ s passes. AreAsciiBytes (in_set s) passes };
 
-    ghost is_ready = { λ s m text from. (m.test ≡ s.table) × Ahead (in_rows m.test.rows) text from m.front.next m.front.bits };
-
-    ghost is_ready_back = { λ s m text to. (m.test ≡ s.table) × Behind (in_rows m.test.rows) text to m.back.start m.back.bits };
+    ghost first_bytes = { λ s passes found. ascii_first_bytes (in_set s) passes found };
 
     #[inline]
-    fn searcher(&self, _text: &str, from: usize, to: usize) -> Marks<AsciiTable> {
-        Marks::new(self.table, from, to)
-    }
-
-    #[inline]
-    fn next_match(&self, text: &str, from: usize) -> Option<(usize, usize)> {
-        self.next_match_by(&mut self.searcher(text, from, text.len()), text, from)
+    fn test(&self) -> Option<AsciiTable> {
+        Some(self.table)
     }
 
     #[inline(always)]
-    fn next_match_by(
-        &self,
-        searcher: &mut Marks<AsciiTable>,
-        text: &str,
-        from: usize,
-    ) -> Option<(usize, usize)> {
-        let at = searcher.next(text.as_bytes(), from)?;
-        Some((at, at + 1))
+    fn end_at_mark(&self, _test: &AsciiTable, _text: &str, at: usize) -> Option<usize> {
+        Some(at + 1)
     }
-
-    #[inline]
-    fn match_at(&self, text: &str, at: usize) -> Option<usize> {
-        end_of(self, text, at)
-    }
-
-    ghost spans = { λ s. char_ends-spans (in_set s) };
 }
 
 impl ClonePattern for AsciiSet {
@@ -183,48 +163,4 @@ impl ClonePattern for AsciiSet {
     ghost clones_keep = { Prim.search rules };
 }
 
-impl ReversePattern for AsciiSet {
-    #[inline]
-    fn reverse_searcher(&self, _text: &str, from: usize, to: usize) -> Marks<AsciiTable> {
-        Marks::new(self.table, from, to)
-    }
-
-    #[inline]
-    fn last_match(&self, text: &str, to: usize) -> Option<(usize, usize)> {
-        self.last_match_by(&mut self.reverse_searcher(text, 0, to), text, to)
-    }
-
-    #[inline(always)]
-    fn last_match_by(
-        &self,
-        searcher: &mut Marks<AsciiTable>,
-        text: &str,
-        to: usize,
-    ) -> Option<(usize, usize)> {
-        let at = searcher.last(text.as_bytes(), to)?;
-        Some((at, at + 1))
-    }
-
-    #[inline]
-    fn match_before(&self, text: &str, to: usize) -> Option<usize> {
-        start_before(self, text, to)
-    }
-
-    ghost one_start = { λ s. char_ends-one_start (in_set s) };
-}
-
-impl DoubleEndedPattern for AsciiSet {
-    #[inline]
-    fn starts_at(&self, text: &str, at: usize) -> bool {
-        self.match_at(text, at).is_some()
-    }
-}
-
-impl OneChar for AsciiSet {
-    #[inline]
-    fn ends_at(&self, text: &str, to: usize) -> bool {
-        self.match_before(text, to).is_some()
-    }
-
-    ghost one_char = { λ s. char_ends-one_char (in_set s) };
-}
+impl DoubleEndedPattern for AsciiSet {}

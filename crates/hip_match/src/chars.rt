@@ -122,13 +122,14 @@ pub(crate) fn char_before(text: &str, to: usize) -> Option<(char, usize)>
 }
 
 /// A set of characters. It occurs in a text at each character that belongs.
-pub(crate) trait CharSet {
+pub trait CharSet {
     /// The condition under which the set can be tested.
     ghost can_test: { Self → Type 0 } = { λ _. Unit {0} };
 
-    /// Whether a character belongs.
+    /// The characters that belong.
     ghost belongs: { Self → ℕ → Bool };
 
+    /// Whether a character belongs.
     fn has(&self, c: char) -> bool
         requires { can_test self.now }
         ensures { result ≡ belongs self.now c };

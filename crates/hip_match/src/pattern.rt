@@ -104,19 +104,27 @@ pub trait ReversePattern: Pattern {
 /// A pattern that may be trimmed from both ends of a text at once.
 pub trait DoubleEndedPattern: ReversePattern {
     /// Whether an occurrence starts at `at`.
+    #[inline]
     fn starts_at(&self, text: &str, at: usize) -> bool
         requires can { Self.can_search self.now }
         requires boundary { IsCharBoundary text.now at }
-        ensures { result ≡ is_some (Self.ends self.now text.now at) };
+        ensures { result ≡ is_some (Self.ends self.now text.now at) }
+    {
+        self.match_at(text, at).is_some()
+    }
 }
 
 /// A pattern each of whose occurrences is one character, so that the rightmost matches are the leftmost ones reversed.
 pub trait OneChar: ReversePattern {
     /// Whether an occurrence ends at `to`.
+    #[inline]
     fn ends_at(&self, text: &str, to: usize) -> bool
         requires can { Self.can_search self.now }
         requires boundary { IsCharBoundary text.now to }
-        ensures { result ≡ is_some (start_of (Self.ends self.now text.now) to) };
+        ensures { result ≡ is_some (start_of (Self.ends self.now text.now) to) }
+    {
+        self.match_before(text, to).is_some()
+    }
 
     /// Each occurrence is one character.
     ghost one_char: { (p : Self) (t : List ℕ) (a b : ℕ) → IsUtf8 t → Self.ends p t a ≡ Some b → IsOneChar t (a, b) };

@@ -117,18 +117,8 @@ impl<F: Fn(char) -> bool> ReversePattern for CharPred<F> {
     ghost one_start = { λ p. char_ends-one_start (λ c. answer_at p.chosen.answers c) };
 }
 
-impl<F: Fn(char) -> bool> DoubleEndedPattern for CharPred<F> {
-    #[inline]
-    fn starts_at(&self, text: &str, at: usize) -> bool {
-        self.match_at(text, at).is_some()
-    }
-}
+impl<F: Fn(char) -> bool> DoubleEndedPattern for CharPred<F> {}
 
 impl<F: Fn(char) -> bool> OneChar for CharPred<F> {
-    #[inline]
-    fn ends_at(&self, text: &str, to: usize) -> bool {
-        self.match_before(text, to).is_some()
-    }
-
     ghost one_char = { λ p. char_ends-one_char (λ c. answer_at p.chosen.answers c) };
 }

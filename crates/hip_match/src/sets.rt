@@ -1,18 +1,15 @@
 //! The patterns that are characters: one of them, or any of some.
-ghost use Rattle.std.specs.Prelude.{◌≡◌, ◌==◌, ◌≤◌, ℕ, List, IfSome, length};
+ghost use Rattle.std.specs.Prelude.{◌≡◌, ◌==◌, ℕ, IfSome};
 ghost use Rattle.std.specs.List.{list_any};
-ghost use Rattle.std.specs.Str.{IsCharBoundary};
 ghost use Rattle.hip_match.specs.AsciiSets.{in_set};
-ghost use Rattle.hip_match.specs.Characters.{char_ends};
-ghost use Rattle.hip_match.specs.CharLaws.{char_ends-spans, char_ends-one_start, char_ends-one_char};
-ghost use Rattle.hip_match.specs.Occurrence.{GoesOnAt, GoesOnBefore, IsLastMatch, IsNextMatch};
-ghost use Rattle.hip_match.specs.Searchers.{AreAhead, AreBehind, IsCharAhead, IsCharBehind};
+ghost use Rattle.hip_match.specs.MarkedSets.{AreAsciiBytes};
+ghost use Rattle.hip_match.specs.FirstBytes.{ascii_first_bytes};
 
 use crate::ascii_set::AsciiSet;
 use crate::byte_test::{AsciiTable, OneByte};
-use crate::chars::{CharSet, end_of, first_of, last_of, start_before};
-use crate::marks::Marks;
-use crate::pattern::{ClonePattern, DoubleEndedPattern, OneChar, Pattern, ReversePattern};
+use crate::chars::CharSet;
+use crate::marked_set::MarkedSet;
+use crate::pattern::{ClonePattern, DoubleEndedPattern};
 use crate::texts::{find_char, rfind_char};
 
 impl CharSet for char {
@@ -24,63 +21,36 @@ impl CharSet for char {
     }
 }
 
-/// The searcher of a character: the places of one of ASCII.
-#[derive(Clone, Copy)]
-pub struct CharSearcher {
-    marks: Marks<OneByte>,
-}
+impl MarkedSet for char {
+    type Test = OneByte;
 
-// The searcher of a walk over what lies between two places.
-#[inline]
-fn char_searcher(c: char, from: usize, to: usize) -> CharSearcher
-    ensures front { (t : List ℕ) → from ≤ length t → IsCharAhead result c t from }
-    ensures back { (t : List ℕ) → to ≤ length t → IsCharBehind result c t to }
-{
-    let byte = if c.is_ascii() { c as u8 } else { 0 };
-    CharSearcher {
-        marks: Marks::new(OneByte(byte), from, to),
-    }
-}
+    ghost is_found_by = { λ c passes. AreAsciiBytes (λ d. d == c) passes };
 
-impl Pattern for char {
-    type Searcher = CharSearcher;
-
-    ghost ends = { λ c. char_ends (λ d. d == c) };
-
-    ghost is_ready = { λ c s text from. IsCharAhead s c text from };
-
-    ghost is_ready_back = { λ c s text to. IsCharBehind s c text to };
+    ghost first_bytes = { λ c passes found. ascii_first_bytes (λ d. d == c) passes found };
 
     #[inline]
-    fn searcher(&self, _text: &str, from: usize, to: usize) -> CharSearcher {
-        char_searcher(*self, from, to)
-    }
-
-    #[inline]
-    fn next_match(&self, text: &str, from: usize) -> Option<(usize, usize)> {
-        find_char(text, *self, from)
+    fn test(&self) -> Option<OneByte> {
+        if self.is_ascii() {
+            Some(OneByte(*self as u8))
+        } else {
+            None
+        }
     }
 
     #[inline(always)]
-    fn next_match_by(
-        &self,
-        searcher: &mut CharSearcher,
-        text: &str,
-        from: usize,
-    ) -> Option<(usize, usize)> {
-        if self.is_ascii() {
-            let at = searcher.marks.next(text.as_bytes(), from)?;
-            return Some((at, at + 1));
-        }
+    fn end_at_mark(&self, _test: &OneByte, _text: &str, at: usize) -> Option<usize> {
+        Some(at + 1)
+    }
+
+    #[inline]
+    fn first_unmarked(&self, text: &str, from: usize) -> Option<(usize, usize)> {
         find_char(text, *self, from)
     }
 
     #[inline]
-    fn match_at(&self, text: &str, at: usize) -> Option<usize> {
-        end_of(self, text, at)
+    fn last_unmarked(&self, text: &str, to: usize) -> Option<(usize, usize)> {
+        rfind_char(text, *self, to)
     }
-
-    ghost spans = { λ c. char_ends-spans (λ d. d == c) };
 }
 
 impl ClonePattern for char {
@@ -89,54 +59,7 @@ impl ClonePattern for char {
     ghost clones_keep = { Prim.search rules };
 }
 
-impl ReversePattern for char {
-    #[inline]
-    fn reverse_searcher(&self, _text: &str, from: usize, to: usize) -> CharSearcher {
-        char_searcher(*self, from, to)
-    }
-
-    #[inline]
-    fn last_match(&self, text: &str, to: usize) -> Option<(usize, usize)> {
-        rfind_char(text, *self, to)
-    }
-
-    #[inline(always)]
-    fn last_match_by(
-        &self,
-        searcher: &mut CharSearcher,
-        text: &str,
-        to: usize,
-    ) -> Option<(usize, usize)> {
-        if self.is_ascii() {
-            let at = searcher.marks.last(text.as_bytes(), to)?;
-            return Some((at, at + 1));
-        }
-        rfind_char(text, *self, to)
-    }
-
-    #[inline]
-    fn match_before(&self, text: &str, to: usize) -> Option<usize> {
-        start_before(self, text, to)
-    }
-
-    ghost one_start = { λ c. char_ends-one_start (λ d. d == c) };
-}
-
-impl DoubleEndedPattern for char {
-    #[inline]
-    fn starts_at(&self, text: &str, at: usize) -> bool {
-        self.match_at(text, at).is_some()
-    }
-}
-
-impl OneChar for char {
-    #[inline]
-    fn ends_at(&self, text: &str, to: usize) -> bool {
-        self.match_before(text, to).is_some()
-    }
-
-    ghost one_char = { λ c. char_ends-one_char (λ d. d == c) };
-}
+impl DoubleEndedPattern for char {}
 
 // Whether a character is one of some, which are mostly few.
 #[inline]
@@ -169,80 +92,6 @@ fn ascii_set(set: &[char]) -> Option<AsciiSet>
     Some(found)
 }
 
-/// The searcher of a set of characters: the places of those of one of ASCII.
-#[derive(Clone, Copy)]
-pub struct SetSearcher {
-    is_ascii: bool,
-    marks: Marks<AsciiTable>,
-}
-
-// The searcher of a walk over what lies between two places.
-fn set_searcher(set: &[char], from: usize, to: usize) -> SetSearcher
-    ensures front { (t : List ℕ) → from ≤ length t
-        → AreAhead result (λ d. list_any (λ c. c == d) set.now) t from }
-    ensures back { (t : List ℕ) → to ≤ length t
-        → AreBehind result (λ d. list_any (λ c. c == d) set.now) t to }
-{
-    match ascii_set(set) {
-        Some(found) => SetSearcher {
-            is_ascii: true,
-            marks: Marks::new(found.table(), from, to),
-        },
-        None => SetSearcher {
-            is_ascii: false,
-            marks: Marks::new(AsciiSet::new().table(), from, to),
-        },
-    }
-}
-
-// The first character of a set at or after `from`, by a walk's searcher.
-#[inline(always)]
-fn next_of_set<S: CharSet>(
-    set: &S,
-    searcher: &mut SetSearcher,
-    text: &str,
-    from: usize,
-) -> Option<(usize, usize)>
-    requires can { S.can_test set.now }
-    requires ready { AreAhead searcher.old (S.belongs set.now) text.now from }
-    requires boundary { IsCharBoundary text.now from }
-    ensures found { IsNextMatch (char_ends (S.belongs set.now) text.now) from result }
-    ensures front { IfSome result (λ m. (k : ℕ) → GoesOnAt m k
-        → AreAhead searcher.new (S.belongs set.now) text.now k) }
-    ensures back { (to : ℕ) → AreBehind searcher.old (S.belongs set.now) text.now to
-        → AreBehind searcher.new (S.belongs set.now) text.now to }
-{
-    if searcher.is_ascii {
-        let at = searcher.marks.next(text.as_bytes(), from)?;
-        return Some((at, at + 1));
-    }
-    first_of(set, text, from)
-}
-
-// The last character of a set at or before `to`, by a walk's searcher.
-#[inline(always)]
-fn last_of_set<S: CharSet>(
-    set: &S,
-    searcher: &mut SetSearcher,
-    text: &str,
-    to: usize,
-) -> Option<(usize, usize)>
-    requires can { S.can_test set.now }
-    requires ready { AreBehind searcher.old (S.belongs set.now) text.now to }
-    requires boundary { IsCharBoundary text.now to }
-    ensures found { IsLastMatch (char_ends (S.belongs set.now) text.now) to result }
-    ensures back { IfSome result (λ m. (k : ℕ) → GoesOnBefore m k
-        → AreBehind searcher.new (S.belongs set.now) text.now k) }
-    ensures front { (from : ℕ) → AreAhead searcher.old (S.belongs set.now) text.now from
-        → AreAhead searcher.new (S.belongs set.now) text.now from }
-{
-    if searcher.is_ascii {
-        let at = searcher.marks.last(text.as_bytes(), to)?;
-        return Some((at, at + 1));
-    }
-    last_of(set, text, to)
-}
-
 impl<'a> CharSet for &'a [char] {
     ghost belongs = { λ s d. list_any (λ c. c == d) s.now };
 
@@ -252,41 +101,22 @@ impl<'a> CharSet for &'a [char] {
     }
 }
 
-impl<'a> Pattern for &'a [char] {
-    type Searcher = SetSearcher;
+impl<'a> MarkedSet for &'a [char] {
+    type Test = AsciiTable;
 
-    ghost ends = { λ s. char_ends (λ d. list_any (λ c. c == d) s.now) };
+    ghost is_found_by = { λ s passes. AreAsciiBytes (λ d. list_any (λ c. c == d) s.now) passes };
 
-    ghost is_ready = { λ s m text from. AreAhead m (λ d. list_any (λ c. c == d) s.now) text from };
-
-    ghost is_ready_back = { λ s m text to. AreBehind m (λ d. list_any (λ c. c == d) s.now) text to };
+    ghost first_bytes = { λ s passes found. ascii_first_bytes (λ d. list_any (λ c. c == d) s.now) passes found };
 
     #[inline]
-    fn searcher(&self, _text: &str, from: usize, to: usize) -> SetSearcher {
-        set_searcher(*self, from, to)
-    }
-
-    #[inline]
-    fn next_match(&self, text: &str, from: usize) -> Option<(usize, usize)> {
-        next_of_set(self, &mut set_searcher(*self, from, text.len()), text, from)
+    fn test(&self) -> Option<AsciiTable> {
+        Some(ascii_set(*self)?.table())
     }
 
     #[inline(always)]
-    fn next_match_by(
-        &self,
-        searcher: &mut SetSearcher,
-        text: &str,
-        from: usize,
-    ) -> Option<(usize, usize)> {
-        next_of_set(self, searcher, text, from)
+    fn end_at_mark(&self, _test: &AsciiTable, _text: &str, at: usize) -> Option<usize> {
+        Some(at + 1)
     }
-
-    #[inline]
-    fn match_at(&self, text: &str, at: usize) -> Option<usize> {
-        end_of(self, text, at)
-    }
-
-    ghost spans = { λ s. char_ends-spans (λ d. list_any (λ c. c == d) s.now) };
 }
 
 impl<'a> ClonePattern for &'a [char] {
@@ -295,50 +125,7 @@ impl<'a> ClonePattern for &'a [char] {
     ghost clones_keep = { Prim.search rules };
 }
 
-impl<'a> ReversePattern for &'a [char] {
-    #[inline]
-    fn reverse_searcher(&self, _text: &str, from: usize, to: usize) -> SetSearcher {
-        set_searcher(*self, from, to)
-    }
-
-    #[inline]
-    fn last_match(&self, text: &str, to: usize) -> Option<(usize, usize)> {
-        last_of_set(self, &mut set_searcher(*self, 0, to), text, to)
-    }
-
-    #[inline(always)]
-    fn last_match_by(
-        &self,
-        searcher: &mut SetSearcher,
-        text: &str,
-        to: usize,
-    ) -> Option<(usize, usize)> {
-        last_of_set(self, searcher, text, to)
-    }
-
-    #[inline]
-    fn match_before(&self, text: &str, to: usize) -> Option<usize> {
-        start_before(self, text, to)
-    }
-
-    ghost one_start = { λ s. char_ends-one_start (λ d. list_any (λ c. c == d) s.now) };
-}
-
-impl<'a> DoubleEndedPattern for &'a [char] {
-    #[inline]
-    fn starts_at(&self, text: &str, at: usize) -> bool {
-        self.match_at(text, at).is_some()
-    }
-}
-
-impl<'a> OneChar for &'a [char] {
-    #[inline]
-    fn ends_at(&self, text: &str, to: usize) -> bool {
-        self.match_before(text, to).is_some()
-    }
-
-    ghost one_char = { λ s. char_ends-one_char (λ d. list_any (λ c. c == d) s.now) };
-}
+impl<'a> DoubleEndedPattern for &'a [char] {}
 
 impl<'a, const N: usize> CharSet for &'a [char; N] {
     ghost belongs = { λ s d. list_any (λ c. c == d) s.now };
@@ -349,88 +136,26 @@ impl<'a, const N: usize> CharSet for &'a [char; N] {
     }
 }
 
-impl<'a, const N: usize> Pattern for &'a [char; N] {
-    type Searcher = SetSearcher;
+impl<'a, const N: usize> MarkedSet for &'a [char; N] {
+    type Test = AsciiTable;
 
-    ghost ends = { λ s. char_ends (λ d. list_any (λ c. c == d) s.now) };
+    ghost is_found_by = { λ s passes. AreAsciiBytes (λ d. list_any (λ c. c == d) s.now) passes };
 
-    ghost is_ready = { λ s m text from. AreAhead m (λ d. list_any (λ c. c == d) s.now) text from };
-
-    ghost is_ready_back = { λ s m text to. AreBehind m (λ d. list_any (λ c. c == d) s.now) text to };
+    ghost first_bytes = { λ s passes found. ascii_first_bytes (λ d. list_any (λ c. c == d) s.now) passes found };
 
     #[inline]
-    fn searcher(&self, _text: &str, from: usize, to: usize) -> SetSearcher {
-        set_searcher(self.as_slice(), from, to)
-    }
-
-    #[inline]
-    fn next_match(&self, text: &str, from: usize) -> Option<(usize, usize)> {
-        next_of_set(
-            self,
-            &mut set_searcher(self.as_slice(), from, text.len()),
-            text,
-            from,
-        )
+    fn test(&self) -> Option<AsciiTable> {
+        Some(ascii_set(self.as_slice())?.table())
     }
 
     #[inline(always)]
-    fn next_match_by(
-        &self,
-        searcher: &mut SetSearcher,
-        text: &str,
-        from: usize,
-    ) -> Option<(usize, usize)> {
-        next_of_set(self, searcher, text, from)
+    fn end_at_mark(&self, _test: &AsciiTable, _text: &str, at: usize) -> Option<usize> {
+        Some(at + 1)
     }
-
-    #[inline]
-    fn match_at(&self, text: &str, at: usize) -> Option<usize> {
-        end_of(self, text, at)
-    }
-
-    ghost spans = { λ s. char_ends-spans (λ d. list_any (λ c. c == d) s.now) };
 }
 
 impl<'a, const N: usize> ClonePattern for &'a [char; N] {
     ghost use Rattle.std.proofs.Common.{rules};
 
     ghost clones_keep = { Prim.search rules };
-}
-
-impl<'a, const N: usize> ReversePattern for &'a [char; N] {
-    #[inline]
-    fn reverse_searcher(&self, _text: &str, from: usize, to: usize) -> SetSearcher {
-        set_searcher(self.as_slice(), from, to)
-    }
-
-    #[inline]
-    fn last_match(&self, text: &str, to: usize) -> Option<(usize, usize)> {
-        last_of_set(self, &mut set_searcher(self.as_slice(), 0, to), text, to)
-    }
-
-    #[inline(always)]
-    fn last_match_by(
-        &self,
-        searcher: &mut SetSearcher,
-        text: &str,
-        to: usize,
-    ) -> Option<(usize, usize)> {
-        last_of_set(self, searcher, text, to)
-    }
-
-    #[inline]
-    fn match_before(&self, text: &str, to: usize) -> Option<usize> {
-        start_before(self, text, to)
-    }
-
-    ghost one_start = { λ s. char_ends-one_start (λ d. list_any (λ c. c == d) s.now) };
-}
-
-impl<'a, const N: usize> OneChar for &'a [char; N] {
-    #[inline]
-    fn ends_at(&self, text: &str, to: usize) -> bool {
-        self.match_before(text, to).is_some()
-    }
-
-    ghost one_char = { λ s. char_ends-one_char (λ d. list_any (λ c. c == d) s.now) };
 }

@@ -2,18 +2,16 @@
 ghost use Rattle.std.specs.Prelude.{◌≡◌};
 ghost use Rattle.std.proofs.Common.{refl};
 ghost use Rattle.std.specs.Char.{is_whitespace};
-ghost use Rattle.hip_match.specs.Characters.{char_ends};
-ghost use Rattle.hip_match.specs.CharLaws.{char_ends-spans, char_ends-one_start, char_ends-one_char};
 ghost use Rattle.hip_match.specs.Clones.{gaps_kept, made_kept};
 ghost use Rattle.hip_match.specs.Iterators.{Gives};
-ghost use Rattle.hip_match.specs.Marks.{Ahead, Behind};
+ghost use Rattle.hip_match.specs.FirstBytes.{space_first_bytes, space_leads};
 ghost use Rattle.hip_match.specs.Runs.{nonempty, split_whitespace};
 
 pub use crate::ascii_space::SplitAsciiWhitespace;
-use crate::byte_test::{ByteTest, SpaceLeads};
-use crate::chars::{CharSet, end_of, first_of, last_of, start_before};
-use crate::marks::Marks;
-use crate::pattern::{ClonePattern, DoubleEndedPattern, OneChar, Pattern, ReversePattern};
+use crate::byte_test::SpaceLeads;
+use crate::chars::{CharSet, end_of};
+use crate::marked_set::MarkedSet;
+use crate::pattern::{ClonePattern, DoubleEndedPattern};
 use crate::ranges::{CloneRanges, Ranges, RangesBack};
 use crate::split::Split;
 
@@ -35,49 +33,22 @@ impl CharSet for WhiteSpace {
     }
 }
 
-impl Pattern for WhiteSpace {
-    type Searcher = Marks<SpaceLeads>;
+impl MarkedSet for WhiteSpace {
+    type Test = SpaceLeads;
 
-    ghost ends = { λ _. char_ends is_whitespace };
+    ghost is_found_by = { λ _ passes. passes ≡ space_leads };
 
-    ghost is_ready = { λ _ m text from. Ahead (⟦<SpaceLeads as ByteTest>⟧.passes m.test) text from m.front.next m.front.bits };
-
-    ghost is_ready_back = { λ _ m text to. Behind (⟦<SpaceLeads as ByteTest>⟧.passes m.test) text to m.back.start m.back.bits };
+    ghost first_bytes = { λ _ passes found. space_first_bytes passes found };
 
     #[inline]
-    fn searcher(&self, _text: &str, from: usize, to: usize) -> Marks<SpaceLeads> {
-        Marks::new(SpaceLeads, from, to)
-    }
-
-    #[inline]
-    fn next_match(&self, text: &str, from: usize) -> Option<(usize, usize)> {
-        first_of(self, text, from)
+    fn test(&self) -> Option<SpaceLeads> {
+        Some(SpaceLeads)
     }
 
     #[inline(always)]
-    fn next_match_by(
-        &self,
-        searcher: &mut Marks<SpaceLeads>,
-        text: &str,
-        from: usize,
-    ) -> Option<(usize, usize)> {
-        let bytes = text.as_bytes();
-        let mut past = from;
-        while let Some(at) = searcher.next(bytes, past) {
-            if let Some(end) = end_of(self, text, at) {
-                return Some((at, end));
-            }
-            past = at + 1;
-        }
-        None
-    }
-
-    #[inline]
-    fn match_at(&self, text: &str, at: usize) -> Option<usize> {
+    fn end_at_mark(&self, _test: &SpaceLeads, text: &str, at: usize) -> Option<usize> {
         end_of(self, text, at)
     }
-
-    ghost spans = { λ _. char_ends-spans is_whitespace };
 }
 
 impl ClonePattern for WhiteSpace {
@@ -86,58 +57,7 @@ impl ClonePattern for WhiteSpace {
     ghost clones_keep = { Prim.search rules };
 }
 
-impl ReversePattern for WhiteSpace {
-    #[inline]
-    fn reverse_searcher(&self, _text: &str, from: usize, to: usize) -> Marks<SpaceLeads> {
-        Marks::new(SpaceLeads, from, to)
-    }
-
-    #[inline]
-    fn last_match(&self, text: &str, to: usize) -> Option<(usize, usize)> {
-        last_of(self, text, to)
-    }
-
-    #[inline(always)]
-    fn last_match_by(
-        &self,
-        searcher: &mut Marks<SpaceLeads>,
-        text: &str,
-        to: usize,
-    ) -> Option<(usize, usize)> {
-        let bytes = text.as_bytes();
-        let mut past = to;
-        while let Some(at) = searcher.last(bytes, past) {
-            if let Some(end) = end_of(self, text, at) {
-                return Some((at, end));
-            }
-            past = at;
-        }
-        None
-    }
-
-    #[inline]
-    fn match_before(&self, text: &str, to: usize) -> Option<usize> {
-        start_before(self, text, to)
-    }
-
-    ghost one_start = { λ _. char_ends-one_start is_whitespace };
-}
-
-impl DoubleEndedPattern for WhiteSpace {
-    #[inline]
-    fn starts_at(&self, text: &str, at: usize) -> bool {
-        self.match_at(text, at).is_some()
-    }
-}
-
-impl OneChar for WhiteSpace {
-    #[inline]
-    fn ends_at(&self, text: &str, to: usize) -> bool {
-        self.match_before(text, to).is_some()
-    }
-
-    ghost one_char = { λ _. char_ends-one_char is_whitespace };
-}
+impl DoubleEndedPattern for WhiteSpace {}
 
 // The ranges that are not empty.
 #[derive(Clone, Drop)]
