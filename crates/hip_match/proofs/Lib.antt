@@ -23,3 +23,4 @@ pub mod MarkedSetLemmas
 pub mod GapLemmas
 pub mod OrderLemmas
 pub mod PartedLemmas
+pub mod Rules

@@ -1,7 +1,7 @@
 -- Marks of a test: the bits of one number, and the places that they tell.
 use Rattle.std.proofs.Common.{◌≡◌, ◌≢◌, ◌∙◌, ℕ, ◌+◌, ◌-◌, ◌<◌, ◌≤◌, Bool, true, cond, List, Option, None, Some, length, drop, take, take_all, ap, sym, subst, arith, ⊎_elim, bit_or, get_or-drop, length-drop}
 use Rattle.std.specs.Prelude.{slice_index}
-use Rattle.std.proofs.lemmas.Bool.{cases_lt, cases_Bool, false≢true}
+use Rattle.std.proofs.lemmas.Bool.{cases_lt, cases_Bool}
 use Rattle.std.proofs.lemmas.Nat.Bits.{bit_at-lt, bit_at-zero, bit_at_above, bit_at_or}
 use Rattle.std.specs.Int.{bit_at}
 use Rattle.std.specs.Option.{option_map}
@@ -61,24 +61,6 @@ module _ (test : ℕ → Bool) (t : List ℕ) where
         (omega arith, omega arith, ap (bit_at m) here ∙ bits (p - at) (omega arith) ∙ ap (λ i. cond (test (slice_index t i)) 1 0) there ∙ ap (λ b. cond b 1 0) pass);
   }
 
-  -- bit k of a block tells of the place `at + k`
-  pub bit-is : (at m k : ℕ) → AreMarks test t at (at + 64) (at + 64) m → k < 64 → bit_at m k ≡ cond (test (slice_index t (at + k))) 1 0
-  bit-is at m k h low = ⊎_elim
-      (λ (pass : test (slice_index t (at + k)) ≡ true).
-      let here : at + k + 64 - (at + 64) ≡ k = omega arith in
-      ap (bit_at m) (sym here) ∙ (h.marked (at + k) (omega arith) (omega arith) pass).2 ∙ ap (λ b. cond b 1 0) (sym pass))
-      (λ fail.
-      let here : at + 64 + k - 64 ≡ at + k = omega arith in
-      ⊎_elim (λ (none : bit_at m k < 1). omega (arith, ap {B = ℕ} (λ b. cond b 1 0) fail))
-      (λ (some : 1 ≤ bit_at m k).
-      let one : bit_at m k ≡ 1 = omega (arith, bit_at-lt m k) in
-      absurd (false≢true (sym fail ∙ ap (λ i. test (slice_index t i)) (sym here) ∙ (h.told k low one).2)))
-      (cases_lt (bit_at m k) 1))
-      (cases_Bool (test (slice_index t (at + k))))
-
-  pub empty : (from end : ℕ) → AreMarks test t from from end 0
-  empty from end = record { told = λ k low one. absurd (omega (arith, one, bit_at-zero k)); marked = λ p lo hi pass. absurd (omega arith) }
-
   module _ (from to end m : ℕ) (h : AreMarks test t from to end m) where
     pub none : m ≡ 0 → Nowhere (Passes test t) from to
     none clear p lo hi pass = absurd (omega (arith, (h.marked p lo hi pass).2, ap (λ x. bit_at x (p + 64 - end)) clear, bit_at-zero (p + 64 - end)))
@@ -96,24 +78,6 @@ module _ (test : ℕ → Bool) (t : List ℕ) where
           let was = h.marked p lo hi pass in
           let here : p + 64 - less - by ≡ p + 64 - end = omega arith in
           (omega (arith, was.0), omega arith, up (p + 64 - less) (omega (arith, was.0)) (omega arith) ∙ ap (bit_at m) here ∙ was.2);
-    }
-
-    -- the bits from `by` on
-    pub cut_front : (by later n : ℕ) → later + 64 ≡ end + by → from ≤ later → ((k : ℕ) → k < by → bit_at n k ≡ 0) → ((k : ℕ) → by ≤ k → bit_at n k ≡ bit_at m k) → AreMarks test t later to end n
-    cut_front by later n is le below kept = record {
-      told = λ k low one. ⊎_elim (λ (lt : k < by). absurd (omega (arith, one, below k lt)))
-          (λ (ge : by ≤ k). let was = h.told k low (sym (kept k ge) ∙ one) in (omega arith, was.1, was.2))
-          (cases_lt k by);
-      marked = λ p lo hi pass. let was = h.marked p (omega arith) hi pass in (was.0, was.1, kept (p + 64 - end) (omega arith) ∙ was.2);
-    }
-
-    -- the bits below `count`
-    pub cut_back : (count earlier n : ℕ) → earlier + 64 ≡ end + count → earlier ≤ to → ((k : ℕ) → k < count → bit_at n k ≡ bit_at m k) → ((k : ℕ) → count ≤ k → bit_at n k ≡ 0) → AreMarks test t from earlier end n
-    cut_back count earlier n is le kept above = record {
-      told = λ k low one. ⊎_elim (λ (lt : k < count). let was = h.told k low (sym (kept k lt) ∙ one) in (was.0, omega arith, was.2))
-          (λ (ge : count ≤ k). absurd (omega (arith, one, above k ge)))
-          (cases_lt k count);
-      marked = λ p lo hi pass. let was = h.marked p lo (omega arith) pass in (was.0, was.1, kept (p + 64 - end) (omega (arith, was.0)) ∙ was.2);
     }
 
     -- two stretches that meet are one
@@ -213,12 +177,6 @@ module _ (test : ℕ → Bool) (t : List ℕ) where
 
   -- ---- the windows of a walk
 
-  pub ahead-new : (from : ℕ) → from ≤ length t → Ahead test t from from 0
-  ahead-new from within = record { within = within; beyond = λ k lo hi. absurd (omega arith); marks = empty from from }
-
-  pub behind-new : (to : ℕ) → to ≤ length t → Behind test t to to 0
-  behind-new to within = record { within = within; beyond = λ k lo hi. absurd (omega arith); marks = empty to (to + 64) }
-
   module _ (from next m : ℕ) (h : Ahead test t from next m) where
     pub ahead-none : m ≡ 0 → Nowhere (Passes test t) from next
     ahead-none = none from next next m h.marks
@@ -238,19 +196,6 @@ module _ (test : ℕ → Bool) (t : List ℕ) where
       ahead-passed n gone others =
           let bound = low.bound in
           record { within = h.within; beyond = λ k lo hi. absurd (omega (arith, (h.marks.told r low.bound low.set).0)); marks = first-passed from next next m h.marks r low n gone others }
-
-    -- a search at or after `next` finds the first place that is left, where no mark is
-    pub ahead-far : m ≡ 0 → (r : Option ℕ) → IsFirst (Passes test t) next (length t) r → IsFirst (Passes test t) from (length t) r
-    ahead-far clear None far = λ k lo hi. ⊎_elim (λ (lt : k < next). ahead-none clear k lo lt) (λ (ge : next ≤ k). far k ge hi) (cases_lt k next)
-    ahead-far clear (Some at) far =
-        let low = far.0.low in (
-          record {
-            low = ⊎_elim (λ (lt : at < from). absurd (h.beyond at low lt far.1)) (λ (ge : from ≤ at). ge) (cases_lt at from);
-            high = far.0.high;
-            before = λ k lo hi. ⊎_elim (λ (lt : k < next). ahead-none clear k lo lt) (λ (ge : next ≤ k). far.0.before k ge hi) (cases_lt k next);
-          },
-          far.1,
-        )
 
     -- the walk goes on behind places that fail
     pub ahead-skipped : (later : ℕ) → from ≤ later → Nowhere (Passes test t) from later → Ahead test t later next m
@@ -280,16 +225,3 @@ module _ (test : ℕ → Bool) (t : List ℕ) where
 
       pub behind-passed : (n : ℕ) → bit_at n r ≡ 0 → ((k : ℕ) → k ≢ r → bit_at n k ≡ bit_at m k) → Behind test t (start + r) start n
       behind-passed n gone others = record { within = h.within; beyond = λ k lo hi. absurd (omega arith); marks = rw (← here) (last-passed start to (start + 64) m h.marks r top n gone others) }
-
-    -- a search before `start` finds the last place that is left, where no mark is
-    pub behind-far : m ≡ 0 → (r : Option ℕ) → IsLast (Passes test t) 0 start r → IsLast (Passes test t) 0 to r
-    behind-far clear None far = λ k lo hi. ⊎_elim (λ (lt : k < start). far k lo lt) (λ (ge : start ≤ k). behind-none clear k ge hi) (cases_lt k start)
-    behind-far clear (Some at) far =
-        let high = far.0.high in (
-          record {
-            low = far.0.low;
-            high = ⊎_elim (λ (lt : at < to). lt) (λ (ge : to ≤ at). absurd (h.beyond at ge high far.1)) (cases_lt at to);
-            after = λ k lo hi. ⊎_elim (λ (lt : k < start). far.0.after k lo lt) (λ (ge : start ≤ k). behind-none clear k ge hi) (cases_lt k start);
-          },
-          far.1,
-        )

@@ -55,10 +55,6 @@ pub record IsBetweenBack (text : List ℕ) (from : ℕ) (ranges : List (ℕ × �
 abbrev pub TakesLast : List (ℕ × ℕ) → Option (ℕ × ℕ) → List (ℕ × ℕ) → Type 0
 TakesLast old r new = MatchOption r ((old ≡ []) × (new ≡ [])) (λ last. old ≡ new ++ last ∷ [])
 
--- r is the only one of the old list, and none is left
-abbrev pub TakesOnly : List (ℕ × ℕ) → Option (ℕ × ℕ) → List (ℕ × ℕ) → Type 0
-TakesOnly old r new = MatchOption r (old ≡ []) (λ only. old ≡ only ∷ []) × (new ≡ [])
-
 -- r is the match of the old list whose end cuts off the last part up to n, and the new list has the matches before it
 abbrev pub TakesLastCut : ℕ → List (ℕ × ℕ) → Option (ℕ × ℕ) → List (ℕ × ℕ) → Type 0
 TakesLastCut n old r new = (i : ℕ) → InOrder i old n → MatchOption r ((ended i old n ≡ ended i [] n) × InOrder i new n)

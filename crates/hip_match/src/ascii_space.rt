@@ -1,4 +1,6 @@
 //! The runs of a text between ASCII white space.
+#![tactic(auto, using(crate::proofs::Rules::ascii_space))]
+
 ghost use Rattle.std.specs.Prelude.{◌≡◌, ◌<◌};
 ghost use Rattle.std.specs.Char.{is_ascii_whitespace};
 ghost use Rattle.hip_match.specs.Iterators.{Gives};

@@ -1,4 +1,6 @@
 //! Numbers of 64 bits, bit by bit.
+#![tactic(auto, using(crate::proofs::Rules::bits))]
+
 ghost use Rattle.std.specs.Prelude.{◌≡◌, ◌≢◌, ◌-◌, ◌<◌, ◌≤◌, ℕ, MatchOption};
 ghost use Rattle.std.specs.Int.{bit_at};
 ghost use Rattle.hip_match.specs.Bits.{IsHighest, IsLowest};

@@ -1,4 +1,6 @@
 //! The boundaries next to a place.
+#![tactic(auto, using(crate::proofs::Rules::boundaries))]
+
 ghost use Rattle.std.specs.Prelude.{◌<◌, ◌≤◌, length};
 ghost use Rattle.hip_match.specs.Ready.{IsNextBoundary, IsPreviousBoundary};
 

@@ -1,4 +1,6 @@
 //! Tests of a byte, one by one and sixteen at a time.
+#![tactic(auto, using(crate::proofs::Rules::byte_test))]
+
 ghost use Rattle.std.specs.Prelude.{◌≡◌, ◌==◌, ◌+◌, ◌≤◌, ℕ, Bool, length, IfSome};
 ghost use Rattle.memchr.specs.Find.{IsFirst, IsLast, Passes};
 ghost use Rattle.hip_match.specs.Marks.{AreMarks, has_nibbles, in_rows};

@@ -1,4 +1,6 @@
 //! The characters of a text, by position, and sets of characters.
+#![tactic(auto, using(crate::proofs::Rules::chars))]
+
 ghost use Rattle.std.specs.Prelude.{◌≡◌, ◌-◌, ◌<◌, ◌≤◌, ℕ, Bool, Some, MatchOption, length, slice_index};
 ghost use Rattle.std.specs.Str.{IsCharBoundary};
 ghost use Rattle.hip_match.specs.Occurrence.{IsNextMatch, IsLastMatch, start_of};

@@ -1,4 +1,6 @@
 //! Laws of the definitions that the contracts of this crate cite. Each function does nothing; its contract is the law.
+#![tactic(auto, using(crate::proofs::Rules::laws))]
+
 ghost use Rattle.std.specs.Prelude.{◌≡◌, ◌+◌, ◌++◌, ℕ, List, length, reverse, ◌==◌, encode_utf8};
 ghost use Rattle.std.specs.Char.{is_whitespace, is_ascii_whitespace};
 ghost use Rattle.hip_match.specs.Characters.{char_ends};

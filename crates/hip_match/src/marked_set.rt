@@ -1,4 +1,6 @@
 //! Sets of characters as patterns. A walk finds their characters by the bytes with which they begin.
+#![tactic(auto, using(crate::proofs::Rules::marked_set))]
+
 ghost use Rattle.std.specs.Prelude.{◌≡◌, ◌<◌, ℕ, Bool, IfSome, length};
 ghost use Rattle.std.specs.Str.{IsCharBoundary};
 ghost use Rattle.memchr.specs.Find.{Passes};

@@ -1,4 +1,6 @@
 //! The patterns that are characters: one of them, or any of some.
+#![tactic(auto, using(crate::proofs::Rules::sets))]
+
 ghost use Rattle.std.specs.Prelude.{◌≡◌, ◌==◌, ℕ, IfSome};
 ghost use Rattle.std.specs.List.{list_any};
 ghost use Rattle.hip_match.specs.AsciiSets.{in_set};

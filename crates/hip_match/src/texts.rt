@@ -1,4 +1,6 @@
 //! Texts found in texts, by the vector searches of `memchr`.
+#![tactic(auto, using(crate::proofs::Rules::texts))]
+
 ghost use Rattle.std.specs.Prelude.{◌≡◌, ◌==◌, ◌<◌, length, string_bytes, IfSome};
 ghost use Rattle.std.specs.Str.{IsCharBoundary};
 ghost use Rattle.memchr.specs.Find.{FindsNeedle, FindsLastNeedle};

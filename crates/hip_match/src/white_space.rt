@@ -1,4 +1,6 @@
 //! The runs of a text between white space.
+#![tactic(auto, using(crate::proofs::Rules::white_space))]
+
 ghost use Rattle.std.specs.Prelude.{◌≡◌};
 ghost use Rattle.std.proofs.Common.{refl};
 ghost use Rattle.std.specs.Char.{is_whitespace};

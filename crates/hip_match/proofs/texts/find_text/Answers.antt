@@ -1,10 +1,6 @@
 use Rattle.std.proofs.Common.{sym}
-use Rattle.std.proofs.lemmas.Bool.{eqb-true}
-use Rattle.hip_match.proofs.TextLemmas.{rest_slice, find_empty, find_text-none, positive, find_text-some}
+use Rattle.hip_match.proofs.TextLemmas.{rest_slice, find_text-none, positive, find_text-some}
 use Rattle.hip_match.proofs.texts.find_text.Goals as goal
-
-pub returns-then-is_empty : goal.returns-then-is_empty
-returns-then-is_empty c = find_empty c.args.text.now c.args.needle.now c.utf8.needle c.utf8.text c.args.from (rw c.as_bytes-wanted.ensures.value at (eqb-true _ _ (sym c.if-is_empty.ensures))) c.requires.boundary
 
 pub returns-in_err-start : goal.returns-in_err-start
 returns-in_err-start c =

@@ -1,10 +1,6 @@
 use Rattle.std.proofs.Common.{sym}
-use Rattle.std.proofs.lemmas.Bool.{eqb-true}
-use Rattle.hip_match.proofs.TextLemmas.{rfind_empty, rfind_text-none, positive, rfind_text-some}
+use Rattle.hip_match.proofs.TextLemmas.{rfind_text-none, positive, rfind_text-some}
 use Rattle.hip_match.proofs.texts.rfind_text.Goals as goal
-
-pub returns-then-is_empty : goal.returns-then-is_empty
-returns-then-is_empty c = rfind_empty c.args.text.now c.args.needle.now c.utf8.needle c.utf8.text c.args.to (rw c.as_bytes-wanted.ensures.value at (eqb-true _ _ (sym c.if-is_empty.ensures))) c.requires.boundary
 
 pub returns-in_err-start : goal.returns-in_err-start
 returns-in_err-start c =

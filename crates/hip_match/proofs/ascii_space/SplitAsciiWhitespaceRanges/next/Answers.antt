@@ -56,9 +56,3 @@ returns-in_default-clause-first c =
           ∙ ap (λ l. (from, to) ∷ l) nothing
       | in_default-via-in_default x ↦ was.4 ∙ only_run is_ascii_whitespace _ _ _ w (quiet_ahead _ was.1 _ _ _ _ w same x.in_default.ensures.found) c.loop-self-test.true ∙ ap (λ l. (from, to) ∷ l) nothing
     ]
-
-pub returns-clause-first : goal.returns-clause-first
-returns-clause-first c =
-    let was = c.loop-self.invariant in
-    let none = no_run is_ascii_whitespace _ _ _ was.0 c.loop-self-test.false in
-    (was.4 ∙ none, none)

@@ -55,9 +55,3 @@ returns-in_default-clause-last c =
           ∙ ap (λ l. l ++ (from, to) ∷ []) nothing
       | in_default-via-in_default x ↦ was.4 ∙ only_run is_ascii_whitespace _ _ _ w (quiet_back _ was.1 _ _ _ _ w same x.in_default.ensures.found) c.loop-self-test.true ∙ ap (λ l. l ++ (from, to) ∷ []) nothing
     ]
-
-pub returns-clause-last : goal.returns-clause-last
-returns-clause-last c =
-    let was = c.loop-self.invariant in
-    let none = no_run is_ascii_whitespace _ _ _ was.0 c.loop-self-test.false in
-    (was.4 ∙ none, none)
