@@ -1,17 +1,21 @@
 //! Patterns that are closures.
 ghost use Rattle.std.specs.Prelude.{◌≡◌, ◌==◌, ℕ};
 ghost use Rattle.std.specs.Char.{IsScalar, is_ascii_digit};
+ghost use Rattle.std.specs.Iterator.{IsFinite};
 ghost use Rattle.hip_match.specs.Answers.{answer_at};
 
 use super::places::{draws_digits, draws_digits_back};
+use super::suite::{OfBackend, run_by_each};
+use super::support::{equals, must, must_hold};
 use super::walks::gives;
 use hip_cuts::hip_match::chosen::Chosen;
 use hip_cuts::hip_match::pattern::Pattern;
 use hip_cuts::hip_match::predicate::{CharPred, choose_by};
-use hip_cuts::hip_match::ranges::{Ranges, RangesBack};
+use hip_cuts::hip_match::ranges::Ranges;
 use hip_cuts::hip_match::split::Split;
-use hip_cuts::{Backend, HipStr, PiecesAt, Rc, TextCuts, Unique, Walk};
+use hip_cuts::{Backend, HipStr, PiecesAt, Rc, TextCuts, Walk};
 use std::alloc::{AllocError, Global};
+use std::process::Abort;
 
 /// Answers by which the digits pass.
 fn chosen_digits() -> Chosen
@@ -42,47 +46,59 @@ fn splits<B: Backend>(alloc: Global) -> bool {
 
 /// The places of the pieces that are left, as the digits of a number.
 pub(crate) fn places_of<'h, 'b, I: Ranges + Drop>(
+    rt: &impl Abort,
     pieces: PiecesAt<'h, HipStr<'b, Rc>, I>,
-) -> Result<u64, AllocError>
+) -> u64
     requires { ⟦<PiecesAt<'h, HipStr<'b, Rc>, I> as Walk>⟧.ready pieces }
 {
     let mut seen = 0u64;
     for (place, piece) in pieces {
-        drop(piece?);
+        drop(must(rt, piece));
         seen = seen.wrapping_mul(10).wrapping_add(place as u64);
     }
-    Ok(seen)
+    seen
 }
 
 /// The places of the parts between digits.
-fn places(alloc: Global) -> Result<u64, AllocError> {
+fn places(rt: &impl Abort, alloc: Global) -> u64 {
     let source = HipStr::<Rc>::borrowed("a1b22c");
     let pattern = CharPred::with(|c| c.is_ascii_digit(), chosen_digits());
-    places_of(source.pieces_at(alloc, Split::new(source.as_str(), pattern)))
+    places_of(
+        rt,
+        source.pieces_at(alloc, Split::new(source.as_str(), pattern)),
+    )
 }
 
-/// Like [`places_of`], from the back.
-fn places_back_of<'h, 'b, I: RangesBack + Drop>(
-    pieces: PiecesAt<'h, HipStr<'b, Rc>, I>,
-) -> Result<u64, AllocError>
-    requires { ⟦<PiecesAt<'h, HipStr<'b, Rc>, I> as Walk>⟧.ready pieces }
+/// Like [`places_of`], from the back. It takes any iterator, since `rev` of a named one is dear to prove.
+fn places_back_of<T: Drop, I: DoubleEndedIterator<Item = (usize, Result<T, AllocError>)> + Drop>(
+    rt: &impl Abort,
+    pieces: I,
+) -> u64
+    requires { I.can_next_back pieces × IsFinite (I.remaining pieces) }
 {
     let mut seen = 0u64;
     for (place, part) in pieces.rev() {
-        drop(part?);
+        drop(must(rt, part));
         seen = seen.wrapping_mul(10).wrapping_add(place as u64);
     }
-    Ok(seen)
+    seen
 }
 
-fn places_back(alloc: Global) -> Result<u64, AllocError> {
+fn places_back(rt: &impl Abort, alloc: Global) -> u64 {
     let source = HipStr::<Rc>::borrowed("a1b22c");
     let pattern = CharPred::with(|c| c.is_ascii_digit(), chosen_digits());
-    places_back_of(source.pieces_at(alloc, Split::new(source.as_str(), pattern)))
+    places_back_of(
+        rt,
+        source.pieces_at(alloc, Split::new(source.as_str(), pattern)),
+    )
 }
 
-fn goes(alloc: Global) -> bool {
-    (places(alloc), places_back(alloc)) == (Ok(245), Ok(5420))
+fn goes(rt: &impl Abort, alloc: Global) {
+    equals(
+        rt,
+        &(places(rt, alloc), places_back(rt, alloc)),
+        &(245, 5420),
+    );
 }
 
 fn finds<B: Backend>(alloc: Global) -> bool {
@@ -91,8 +107,16 @@ fn finds<B: Backend>(alloc: Global) -> bool {
     draws_digits::<B, _>(alloc, pattern) & draws_digits_back::<B, _>(alloc, from_the_end)
 }
 
+struct Closures;
+
+impl OfBackend for Closures {
+    fn run<B: Backend>(rt: &impl Abort, alloc: Global) {
+        must_hold(rt, splits::<B>(alloc) & finds::<B>(alloc));
+    }
+}
+
 #[test]
 fn closures_are_patterns(rt: HostRuntime) {
-    assert!(rt; splits::<Rc>(rt.alloc()) & finds::<Rc>(rt.alloc()) & goes(rt.alloc()));
-    assert!(rt; splits::<Unique>(rt.alloc()) & finds::<Unique>(rt.alloc()));
+    run_by_each::<Closures>(&rt, rt.alloc());
+    goes(&rt, rt.alloc());
 }

@@ -1,6 +1,7 @@
 //! Trims, strips and cuts at one match, without a meter. Counted, they are those of `hipstr::run` (`cuts` of hipstr_tests).
-use super::support::must;
-use hip_cuts::{Backend, HipStr, Rc, TextCuts, Unique};
+use super::suite::{OfBackend, run_by_each};
+use super::support::{must, must_hold};
+use hip_cuts::{Backend, HipStr, TextCuts};
 use std::alloc::{AllocError, Global};
 use std::process::Abort;
 
@@ -75,17 +76,21 @@ fn parts<B: Backend>(alloc: Global) -> bool {
 fn of_a_copy<B: Backend>(rt: &impl Abort, alloc: Global) {
     let source = must(rt, HipStr::<B>::from_str(alloc, "abc"));
     let is_equal = is_copy(source.clone(alloc), &source);
-    assert!(rt; is_equal & is_left(source.strip_prefix(alloc, "a"), Some("bc")));
+    let rest = source.strip_prefix(alloc, "a");
+    must_hold(rt, is_equal & is_left(rest, Some("bc")));
 }
 
-fn cuts<B: Backend>(rt: &impl Abort, alloc: Global) {
-    assert!(rt; trims::<B>(alloc) & trims_matches::<B>(alloc));
-    assert!(rt; strips::<B>(alloc) & parts::<B>(alloc));
-    of_a_copy::<B>(rt, alloc);
+struct Cuts;
+
+impl OfBackend for Cuts {
+    fn run<B: Backend>(rt: &impl Abort, alloc: Global) {
+        must_hold(rt, trims::<B>(alloc) & trims_matches::<B>(alloc));
+        must_hold(rt, strips::<B>(alloc) & parts::<B>(alloc));
+        of_a_copy::<B>(rt, alloc);
+    }
 }
 
 #[test]
 fn cuts_take_matches_off(rt: HostRuntime) {
-    cuts::<Rc>(&rt, rt.alloc());
-    cuts::<Unique>(&rt, rt.alloc());
+    run_by_each::<Cuts>(&rt, rt.alloc());
 }

@@ -28,6 +28,11 @@ fn told_by<B: Backend>(
     })
 }
 
+/// A copy of what was lent, unless it couldn't be added to or written back.
+fn lent_if(is_so: bool, lent: Result<String, AllocError>) -> Result<String, AllocError> {
+    if is_so { lent } else { Err(AllocError) }
+}
+
 impl<B: Backend> Text for HipStr<'static, B> {
     type Bytes = HipByt<'static, B>;
 
@@ -207,11 +212,8 @@ impl<B: Backend> Text for HipStr<'static, B> {
         let mut guard = self.mutate(alloc)?;
         let added = guard.as_mut_string().push_str(addition).is_ok();
         let lent = String::from_str(alloc, guard.as_string().as_str());
-        if guard.finish(alloc).is_ok() & added {
-            lent
-        } else {
-            Err(AllocError)
-        }
+        let is_back = guard.finish(alloc).is_ok();
+        lent_if(is_back & added, lent)
     }
 
     fn mutate_push_str_drop(&mut self, alloc: Global, addition: &str) -> Result<(), AllocError> {

@@ -1,7 +1,8 @@
 //! Kinds of pieces, and how many bytes are copied for them.
-use super::support::must;
+use super::suite::{OfBackend, run_by_each};
+use super::support::{must, must_hold};
 use hip_cuts::hip_match::ranges::RangesBack;
-use hip_cuts::{Backend, HipStr, IterWrapper, Kind, Meter, Rc, TextCuts, Unique, Unnumbered};
+use hip_cuts::{Backend, HipStr, IterWrapper, Kind, Meter, TextCuts, Unnumbered};
 use std::alloc::{AllocError, Global};
 use std::process::Abort;
 
@@ -115,15 +116,17 @@ const LENT_COMMA: Seen = Seen(1, Kind::Borrowed, 0, 0);
 
 fn on<B: Backend>(rt: &impl Abort, alloc: Global) {
     let owned = must(rt, HipStr::<B>::from_str(alloc, FIELDS));
-    assert!(rt; sees(&owned, alloc, LONG, SHORT) & sees_back(&owned, alloc, LONG, SHORT));
-    assert!(rt; sees_comma(&owned, alloc, COMMA) & sees_comma_back(&owned, alloc, COMMA));
+    let front = sees(&owned, alloc, LONG, SHORT);
+    must_hold(rt, front & sees_back(&owned, alloc, LONG, SHORT));
+    let comma = sees_comma(&owned, alloc, COMMA);
+    must_hold(rt, comma & sees_comma_back(&owned, alloc, COMMA));
 }
 
 fn on_lent<B: Backend>(rt: &impl Abort, alloc: Global) {
     let lent = HipStr::<B>::borrowed(FIELDS);
     let front = sees(&lent, alloc, LENT_LONG, LENT_SHORT);
     let back = sees_back(&lent, alloc, LENT_LONG, LENT_SHORT);
-    assert!(rt; front & back & sees_comma(&lent, alloc, LENT_COMMA));
+    must_hold(rt, front & back & sees_comma(&lent, alloc, LENT_COMMA));
 }
 
 fn on_letters<B: Backend>(rt: &impl Abort, alloc: Global) {
@@ -133,15 +136,20 @@ fn on_letters<B: Backend>(rt: &impl Abort, alloc: Global) {
     );
     let inline = sees_rest(&letters, alloc, "abc", Seen(23, Kind::Inline, 23, 23));
     let shared = sees_rest(&letters, alloc, "ab", Seen(24, Kind::Allocated, 0, 24));
-    assert!(rt; inline & shared);
+    must_hold(rt, inline & shared);
+}
+
+struct Kinds;
+
+impl OfBackend for Kinds {
+    fn run<B: Backend>(rt: &impl Abort, alloc: Global) {
+        on_lent::<B>(rt, alloc);
+        on::<B>(rt, alloc);
+        on_letters::<B>(rt, alloc);
+    }
 }
 
 #[test]
 fn pieces_lie_by_their_source(rt: HostRuntime) {
-    on_lent::<Rc>(&rt, rt.alloc());
-    on_lent::<Unique>(&rt, rt.alloc());
-    on::<Rc>(&rt, rt.alloc());
-    on::<Unique>(&rt, rt.alloc());
-    on_letters::<Rc>(&rt, rt.alloc());
-    on_letters::<Unique>(&rt, rt.alloc());
+    run_by_each::<Kinds>(&rt, rt.alloc());
 }

@@ -108,7 +108,7 @@ fn compares_errors<T: Text>(rt: &impl Abort, alloc: Global) {
     let other = must_refuse(rt, T::from_utf8(T::Bytes::borrowed(b"b\xFF")));
     equals(rt, &(copied == same, copied != same), &(true, false));
     equals(rt, &(other == same, other != same), &(false, true));
-    assert!(rt; must(rt, same.clone(alloc)) == same);
+    equals(rt, &must(rt, same.clone(alloc)), &same);
 }
 
 struct Made;

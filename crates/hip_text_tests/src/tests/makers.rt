@@ -1,6 +1,6 @@
 //! Makers, conversions, pushes, `pop`, case, comparisons and guards.
 use super::suite::{Suite, run_on_each};
-use super::support::{equals, holds, is, must, must_refuse, reads};
+use super::support::{equals, holds, is, must, must_hold, must_refuse, reads};
 use super::text::Text;
 use hip_text::Kind;
 use std::alloc::{AllocError, Global};
@@ -38,7 +38,7 @@ fn rooms<T: Text>(rt: &impl Abort, alloc: Global) {
         &(true, 100),
     );
     let room = must(rt, T::with_capacity(alloc, 42));
-    assert!(rt; room.capacity() >= 42);
+    must_hold(rt, room.capacity() >= 42);
     is(rt, room, "", Kind::Allocated);
 }
 

@@ -1,7 +1,9 @@
 //! Matches with their positions.
+use super::suite::{OfBackend, run_by_each};
+use super::support::equals;
 use hip_cuts::hip_match::indices::{MatchIndices, RMatchIndices};
 use hip_cuts::hip_match::pattern::{OneChar, Pattern, ReversePattern};
-use hip_cuts::{Backend, HipStr, IterWrapper, Rc, TextCuts, Unique};
+use hip_cuts::{Backend, HipStr, IterWrapper, TextCuts};
 use std::alloc::{AllocError, Global};
 use std::process::Abort;
 
@@ -146,17 +148,20 @@ pub(crate) fn draws_digits_back<B: Backend, P: OneChar>(alloc: Global, pattern: 
         & rfinds_last(&mut matches, None, "")
 }
 
-fn match_places<B: Backend>(rt: &impl Abort, alloc: Global) {
-    for (text, pattern, places, places_back) in place_rows() {
-        let source = HipStr::<B>::borrowed(*text);
-        let is_same = lists(&source, alloc, pattern, *places)
-            & lists_back(&source, alloc, pattern, *places_back);
-        assert!(rt; is_same, "{text}");
+struct Places;
+
+impl OfBackend for Places {
+    fn run<B: Backend>(rt: &impl Abort, alloc: Global) {
+        for (text, pattern, places, places_back) in place_rows() {
+            let source = HipStr::<B>::borrowed(*text);
+            let is_same = lists(&source, alloc, pattern, *places)
+                & lists_back(&source, alloc, pattern, *places_back);
+            equals(rt, &(*text, is_same), &(*text, true));
+        }
     }
 }
 
 #[test]
 fn matches_have_their_places(rt: HostRuntime) {
-    match_places::<Rc>(&rt, rt.alloc());
-    match_places::<Unique>(&rt, rt.alloc());
+    run_by_each::<Places>(&rt, rt.alloc());
 }

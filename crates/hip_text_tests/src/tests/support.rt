@@ -10,6 +10,11 @@ pub(crate) fn equals<T: PartialEq + fmt::Debug>(rt: &impl Abort, found: &T, want
     assert_eq!(rt; *found, *wanted);
 }
 
+/// Asserts that a condition holds.
+pub(crate) fn must_hold(rt: &impl Abort, is_so: bool) {
+    assert!(rt; is_so);
+}
+
 /// The value, or the end of the test where it was refused. A test with no way out but this is a straight line, and cheap to prove.
 pub(crate) fn must<T, E: Drop>(rt: &impl Abort, outcome: Result<T, E>) -> T {
     match outcome {

@@ -1,8 +1,11 @@
 //! Pieces that are drawn without a meter, from either end. Each walk's pieces, counted, are those of `hipstr::run` (`ways` of hipstr_tests).
 use super::fields::{has_fields, longest_drawn};
+use super::suite::{OfBackend, run_by_each};
+use super::support::{must, must_hold};
 use hip_cuts::hip_match::ranges::RangesBack;
-use hip_cuts::{Backend, HipStr, IterWrapper, Rc, TextCuts, Unique, Unnumbered};
+use hip_cuts::{Backend, HipStr, IterWrapper, Rc, TextCuts, Unnumbered};
 use std::alloc::{AllocError, Global};
+use std::process::Abort;
 
 /// Whether this piece was drawn.
 fn is_piece<B: Backend>(drawn: Option<Result<HipStr<'_, B>, AllocError>>, want: &str) -> bool {
@@ -98,10 +101,8 @@ fn follows<'h, 'b, B: Backend, I: Unnumbered + RangesBack + Drop>(
 }
 
 /// Whether every script of six ends draws the pieces of a copied text.
-fn follows_all<B: Backend>(alloc: Global) -> bool {
-    let Ok(source) = HipStr::<B>::from_str(alloc, "a,b,c,d") else {
-        return false;
-    };
+fn follows_all<B: Backend>(rt: &impl Abort, alloc: Global) -> bool {
+    let source = must(rt, HipStr::<B>::from_str(alloc, "a,b,c,d"));
     let mut is_same = true;
     for script in 0..64 {
         is_same &= follows(source.split(alloc, ','), script, &["a", "b", "c", "d"]);
@@ -122,9 +123,16 @@ fn reads_fields(alloc: Global) -> bool {
         & (has_fields(&line, 3, alloc) == Ok(false))
 }
 
+struct Pieces;
+
+impl OfBackend for Pieces {
+    fn run<B: Backend>(rt: &impl Abort, alloc: Global) {
+        must_hold(rt, draws::<B>(alloc) & follows_all::<B>(rt, alloc));
+    }
+}
+
 #[test]
 fn pieces_are_drawn_from_either_end(rt: HostRuntime) {
-    assert!(rt; draws::<Rc>(rt.alloc()) & draws::<Unique>(rt.alloc()));
-    assert!(rt; follows_all::<Rc>(rt.alloc()) & follows_all::<Unique>(rt.alloc()));
-    assert!(rt; reads_fields(rt.alloc()));
+    run_by_each::<Pieces>(&rt, rt.alloc());
+    must_hold(&rt, reads_fields(rt.alloc()));
 }

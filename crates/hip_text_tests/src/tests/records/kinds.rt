@@ -1,4 +1,5 @@
 //! The kinds of fields, and how many bytes are copied for them.
+use crate::tests::suite::{OfBackend, run_by_each};
 use crate::tests::support::{equals, must};
 use hip_cuts::{Backend, HipStr, Kind, Meter, Rc, Unique};
 use hip_fields::records_metered;
@@ -38,23 +39,30 @@ fn are<B: Backend>(
     );
 }
 
-fn copied<B: Backend>(rt: &impl Abort, alloc: Global) -> HipStr<'static, B> {
-    must(rt, HipStr::from_str(alloc, LINE))
+/// Asserts how many bytes are copied for the fields of a text that has an owner.
+fn copies<B: Backend>(rt: &impl Abort, alloc: Global, copied: u128) {
+    let text = must(rt, HipStr::<B>::from_str(alloc, LINE));
+    are(rt, alloc, &text, (Kind::Allocated, Kind::Inline, copied));
 }
 
 /// The 40 bytes share the text's owner, where owners are shared; the 2 are copied into the field itself.
 #[test]
 fn allocated(rt: HostRuntime) {
-    let wanted = (Kind::Allocated, Kind::Inline, 2);
-    are::<Rc>(&rt, rt.alloc(), &copied(&rt, rt.alloc()), wanted);
-    let wanted = (Kind::Allocated, Kind::Inline, 42);
-    are::<Unique>(&rt, rt.alloc(), &copied(&rt, rt.alloc()), wanted);
+    copies::<Rc>(&rt, rt.alloc(), 2);
+    copies::<Unique>(&rt, rt.alloc(), 42);
+}
+
+struct Lent;
+
+impl OfBackend for Lent {
+    fn run<B: Backend>(rt: &impl Abort, alloc: Global) {
+        let text = HipStr::<B>::borrowed(LINE);
+        are(rt, alloc, &text, (Kind::Borrowed, Kind::Borrowed, 0));
+    }
 }
 
 /// No field copies a byte of a borrowed text.
 #[test]
 fn borrowed(rt: HostRuntime) {
-    let wanted = (Kind::Borrowed, Kind::Borrowed, 0);
-    are::<Rc>(&rt, rt.alloc(), &HipStr::borrowed(LINE), wanted);
-    are::<Unique>(&rt, rt.alloc(), &HipStr::borrowed(LINE), wanted);
+    run_by_each::<Lent>(&rt, rt.alloc());
 }

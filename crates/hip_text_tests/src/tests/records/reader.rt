@@ -1,8 +1,9 @@
 //! Records that are drawn one after another.
 use super::told::tell;
+use crate::tests::suite::{OfBackend, run_by_each};
 use crate::tests::support::{equals, must};
 use hip_cuts::hip_match::ranges::Ranges;
-use hip_cuts::{Backend, HipStr, Meter, Rc, Unique};
+use hip_cuts::{Backend, HipStr, Meter};
 use hip_fields::reader::Records;
 use std::alloc::Global;
 use std::process::Abort;
@@ -22,18 +23,21 @@ fn draws<'h, 'b, B: Backend, I: Ranges + Drop>(
     equals(rt, &(told.as_str(), meter.copied()), &wanted);
 }
 
-fn drawn<B: Backend>(rt: &impl Abort, alloc: Global) {
-    let text = must(rt, HipStr::<B>::from_str(alloc, "a,b\n\nc,,de\r\n"));
-    let mut records = Records::new(&text, ',');
-    draws(rt, alloc, &mut records, ("[a][b];", 2));
-    draws(rt, alloc, &mut records, ("[];", 0));
-    draws(rt, alloc, &mut records, ("[c][][de];", 3));
-    draws(rt, alloc, &mut records, ("", 0));
-    draws(rt, alloc, &mut records, ("", 0));
+struct Drawn;
+
+impl OfBackend for Drawn {
+    fn run<B: Backend>(rt: &impl Abort, alloc: Global) {
+        let text = must(rt, HipStr::<B>::from_str(alloc, "a,b\n\nc,,de\r\n"));
+        let mut records = Records::new(&text, ',');
+        draws(rt, alloc, &mut records, ("[a][b];", 2));
+        draws(rt, alloc, &mut records, ("[];", 0));
+        draws(rt, alloc, &mut records, ("[c][][de];", 3));
+        draws(rt, alloc, &mut records, ("", 0));
+        draws(rt, alloc, &mut records, ("", 0));
+    }
 }
 
 #[test]
 fn records_drawn(rt: HostRuntime) {
-    drawn::<Rc>(&rt, rt.alloc());
-    drawn::<Unique>(&rt, rt.alloc());
+    run_by_each::<Drawn>(&rt, rt.alloc());
 }

@@ -1,5 +1,6 @@
 //! Texts and what their records are, as Rust's `lines` and `split` answer.
 use super::told::told;
+use crate::tests::suite::{OfBackend, run_by_each};
 use crate::tests::support::{equals, must};
 use hip_cuts::{Backend, HipStr, Rc, Unique};
 use hip_fields::records;
@@ -41,19 +42,26 @@ fn has_records<B: Backend>(rt: &impl Abort, alloc: Global, row: Row) {
     let cut = must(rt, records(alloc, &copy, separator));
     let lent = must(rt, told(alloc, &lent));
     let cut = must(rt, told(alloc, &cut));
-    assert_eq!(rt; (lent.as_str(), cut.as_str()), (wanted, wanted), "{text:?}");
+    equals(
+        rt,
+        &(text, lent.as_str(), cut.as_str()),
+        &(text, wanted, wanted),
+    );
 }
 
-fn have_records<B: Backend>(rt: &impl Abort, alloc: Global) {
-    for row in ROWS {
-        has_records::<B>(rt, alloc, *row);
+struct EachRow;
+
+impl OfBackend for EachRow {
+    fn run<B: Backend>(rt: &impl Abort, alloc: Global) {
+        for row in ROWS {
+            has_records::<B>(rt, alloc, *row);
+        }
     }
 }
 
 #[test]
 fn rows(rt: HostRuntime) {
-    have_records::<Rc>(&rt, rt.alloc());
-    have_records::<Unique>(&rt, rt.alloc());
+    run_by_each::<EachRow>(&rt, rt.alloc());
 }
 
 /// Asserts how many records a text has, and how many fields and bytes are in the first.
