@@ -2,6 +2,7 @@
 use super::handle::{Change, Conversion, Copying, Handle, Lending, Making, Taking, Telling};
 use super::held::{BYTES, Held, bytes_of};
 use super::refusing::{each, equals, must, must_hold, must_meet, refuse, was_refused};
+use hipstr::{Backend, Rc, Unique};
 use std::alloc::Global;
 use std::process::Abort;
 
@@ -209,8 +210,14 @@ fn runs<H: Handle>(rt: &impl Abort, alloc: Global, trial: Trial, call: Call) -> 
     }
 }
 
+/// A type of handles, for any backend.
+pub(crate) trait Type {
+    /// Runs a call on all values of the type, and says how many requests were refused: [`of`].
+    fn refused<B: Backend>(rt: &impl Abort, alloc: Global, call: Call) -> usize;
+}
+
 /// Runs a call on all values, and says how many requests were refused.
-fn of<H: Handle>(rt: &impl Abort, alloc: Global, call: Call) -> usize {
+pub(crate) fn of<H: Handle>(rt: &impl Abort, alloc: Global, call: Call) -> usize {
     let mut refusals = 0usize;
     for bytes in H::texts() {
         for held in H::each_held() {
@@ -223,16 +230,17 @@ fn of<H: Handle>(rt: &impl Abort, alloc: Global, call: Call) -> usize {
 }
 
 /// Runs calls on a type whose owners are shared, and on the same where they aren't. Each of them allocates on one of them.
-fn are_on_both<S: Handle, U: Handle>(rt: &impl Abort, alloc: Global, calls: &[Call]) {
+fn are_on_both<T: Type>(rt: &impl Abort, alloc: Global, calls: &[Call]) {
     for (i, call) in calls.iter().enumerate() {
-        let met = of::<S>(rt, alloc, *call).saturating_add(of::<U>(rt, alloc, *call));
-        must_meet(rt, alloc, i, met);
+        let shared = T::refused::<Rc>(rt, alloc, *call);
+        let unshared = T::refused::<Unique>(rt, alloc, *call);
+        must_meet(rt, alloc, i, shared.saturating_add(unshared));
     }
 }
 
 /// Like [`are_on_both`], for the calls of several tables.
-pub(crate) fn on_both<S: Handle, U: Handle>(rt: &impl Abort, alloc: Global, tables: &[&[Call]]) {
+pub(crate) fn on_both<T: Type>(rt: &impl Abort, alloc: Global, tables: &[&[Call]]) {
     for calls in tables {
-        are_on_both::<S, U>(rt, alloc, calls);
+        are_on_both::<T>(rt, alloc, calls);
     }
 }

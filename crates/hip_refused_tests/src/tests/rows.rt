@@ -27,11 +27,8 @@ fn drawn<B: Backend>(
         match pieces.next_metered(meter) {
             Some(Ok(piece)) => {
                 all = all.saturating_add(1);
-                if piece.len() == 30 {
-                    long = long.saturating_add(1);
-                } else if piece.is_empty() {
-                    empty = empty.saturating_add(1);
-                }
+                long = long.saturating_add((piece.len() == 30) as usize);
+                empty = empty.saturating_add(piece.is_empty() as usize);
             }
             Some(Err(_)) => return (long, empty, 0),
             None => return (long, empty, all),

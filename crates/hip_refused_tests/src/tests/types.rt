@@ -1,11 +1,13 @@
 //! The calls of each type that may allocate.
-use super::calls::{Call, on_both};
+use super::calls::{Call, Type, of, on_both};
 use super::handle::{Change, Conversion, Copying, Cut, Lending, Making, Taking, Telling};
 use hipstr::bytes::HipByt;
 use hipstr::os_string::HipOsStr;
 use hipstr::path::HipPath;
 use hipstr::string::HipStr;
-use hipstr::{Allocated, Rc, Unique};
+use hipstr::{Allocated, Backend};
+use std::alloc::Global;
+use std::process::Abort;
 
 const OF_OWNERS: &[Call] = &[
     Call::Change(Change::PushSlice),
@@ -108,31 +110,71 @@ const OF_PATHS: &[Call] = &[
     Call::Making(Making::FromStr),
 ];
 
+struct Owners;
+
+impl Type for Owners {
+    fn refused<B: Backend>(rt: &impl Abort, alloc: Global, call: Call) -> usize {
+        of::<Allocated<B>>(rt, alloc, call)
+    }
+}
+
 #[test]
 fn calls_of_owners(rt: HostRuntime) {
-    on_both::<Allocated<Rc>, Allocated<Unique>>(&rt, rt.alloc(), &[OF_OWNERS]);
+    on_both::<Owners>(&rt, rt.alloc(), &[OF_OWNERS]);
+}
+
+struct ByteStrings;
+
+impl Type for ByteStrings {
+    fn refused<B: Backend>(rt: &impl Abort, alloc: Global, call: Call) -> usize {
+        of::<HipByt<'static, B>>(rt, alloc, call)
+    }
 }
 
 #[test]
 fn calls_of_byte_strings(rt: HostRuntime) {
     let tables = [OF_ALL, OF_LISTS, OF_BYTES];
-    on_both::<HipByt<'static, Rc>, HipByt<'static, Unique>>(&rt, rt.alloc(), &tables);
+    on_both::<ByteStrings>(&rt, rt.alloc(), &tables);
+}
+
+struct Texts;
+
+impl Type for Texts {
+    fn refused<B: Backend>(rt: &impl Abort, alloc: Global, call: Call) -> usize {
+        of::<HipStr<'static, B>>(rt, alloc, call)
+    }
 }
 
 #[test]
 fn calls_of_texts(rt: HostRuntime) {
     let tables = [OF_ALL, OF_LISTS, OF_TEXTS, OF_CUTS];
-    on_both::<HipStr<'static, Rc>, HipStr<'static, Unique>>(&rt, rt.alloc(), &tables);
+    on_both::<Texts>(&rt, rt.alloc(), &tables);
+}
+
+struct OsStrings;
+
+impl Type for OsStrings {
+    fn refused<B: Backend>(rt: &impl Abort, alloc: Global, call: Call) -> usize {
+        of::<HipOsStr<'static, B>>(rt, alloc, call)
+    }
 }
 
 #[test]
 fn calls_of_os_strings(rt: HostRuntime) {
     let tables = [OF_ALL, OF_OS_STRINGS];
-    on_both::<HipOsStr<'static, Rc>, HipOsStr<'static, Unique>>(&rt, rt.alloc(), &tables);
+    on_both::<OsStrings>(&rt, rt.alloc(), &tables);
+}
+
+struct Paths;
+
+impl Type for Paths {
+    fn refused<B: Backend>(rt: &impl Abort, alloc: Global, call: Call) -> usize {
+        of::<HipPath<'static, B>>(rt, alloc, call)
+    }
 }
 
 #[test]
 fn calls_of_paths(rt: HostRuntime) {
     let tables = [OF_ALL, OF_PATHS];
-    on_both::<HipPath<'static, Rc>, HipPath<'static, Unique>>(&rt, rt.alloc(), &tables);
+    on_both::<Paths>(&rt, rt.alloc(), &tables);
 }

@@ -1,10 +1,8 @@
 //! Walks over the pieces of a text. One that is refused is an error, and has been passed: those behind it are given.
-ghost use Rattle.std.specs.Iterator.{IsFinite};
-
 use super::held::{EACH_HELD, Held, PART, TEXT, text_of};
-use super::refusing::{each, equals, is_refusing, must, must_hold, refuse, was_refused};
-use hipstr::pattern::{RangesBack, Split};
-use hipstr::string::{HipStr, IterWrapper, TextCuts, Unnumbered};
+use super::refusing::{each, equals, is_refusing, must, refuse, was_refused};
+use hipstr::pattern::{Indices, Ranges, RangesBack, Split};
+use hipstr::string::{HipStr, IterWrapper, PiecesAt, TextCuts, Unnumbered, Walk as PieceWalk};
 use hipstr::{Backend, Rc, Unique};
 use std::alloc::{AllocError, Global};
 use std::process::Abort;
@@ -86,11 +84,22 @@ fn given_from_back<'h, 'b, B: Backend, I: Unnumbered + RangesBack + Drop>(
     tally
 }
 
-/// Like [`given`], of pieces with their places.
-fn given_with_places<T: Drop, I: Iterator<Item = (usize, Result<T, AllocError>)> + Drop>(
-    pieces: I,
+/// Like [`given`], of matches with their places. It names their type, since each call of one that took any iterator would be dear to prove.
+fn given_with_places<'h, 'b, B: Backend, I: Ranges + Drop>(
+    matches: IterWrapper<'h, 'b, B, Indices<I>>,
+) -> Tally {
+    let mut tally = Tally::none();
+    for (_, piece) in matches {
+        tally.count(piece);
+    }
+    tally
+}
+
+/// Like [`given_with_places`], of pieces that lie between matches.
+fn given_at_places<'h, 'b, B: Backend, I: Ranges + Drop>(
+    pieces: PiecesAt<'h, HipStr<'b, B>, I>,
 ) -> Tally
-    requires { I.can_next pieces × IsFinite (I.remaining pieces) }
+    requires { ⟦<PiecesAt<'h, HipStr<'b, B>, I> as PieceWalk>⟧.ready pieces }
 {
     let mut tally = Tally::none();
     for (_, piece) in pieces {
@@ -115,7 +124,7 @@ fn walked_with_places<B: Backend>(text: &HipStr<'_, B>, alloc: Global, placed: P
         Placed::MatchIndices => given_with_places(text.match_indices(alloc, PART)),
         Placed::RmatchIndices => given_with_places(text.rmatch_indices(alloc, PART)),
         Placed::PiecesAt => {
-            given_with_places(text.pieces_at(alloc, Split::new(text.as_str(), ',')))
+            given_at_places(text.pieces_at(alloc, Split::new(text.as_str(), ',')))
         }
     }
 }
@@ -154,18 +163,20 @@ fn are_walked<B: Backend>(rt: &impl Abort, alloc: Global, i: usize, walk: Walk) 
     equals(rt, &(i, refusals > 0), &(i, takes_memory));
 }
 
-#[test]
-fn walks_where_nothing_is_shared(rt: HostRuntime) {
+fn all_are_walked<B: Backend>(rt: &impl Abort, alloc: Global) {
     for (i, walk) in WALKS.iter().enumerate() {
-        are_walked::<Unique>(&rt, rt.alloc(), i, *walk);
+        are_walked::<B>(rt, alloc, i, *walk);
     }
 }
 
 #[test]
+fn walks_where_nothing_is_shared(rt: HostRuntime) {
+    all_are_walked::<Unique>(&rt, rt.alloc());
+}
+
+#[test]
 fn walks_where_owners_are_shared_take_none(rt: HostRuntime) {
-    for (i, walk) in WALKS.iter().enumerate() {
-        are_walked::<Rc>(&rt, rt.alloc(), i, *walk);
-    }
+    all_are_walked::<Rc>(&rt, rt.alloc());
 }
 
 /// The three parts between commas.
@@ -178,17 +189,15 @@ const PIECES: [&str; 3] = [
 const LINE: &str =
     "aaaaaaaaaaaaaaaaaaaaaaaaaaaaaa,bbbbbbbbbbbbbbbbbbbbbbbbbbbbbb,cccccccccccccccccccccccccccccc";
 
-/// Whether an item is the `i`-th piece, or, if that one was refused, an error.
-fn is_piece<B: Backend>(
-    item: Option<Result<HipStr<'_, B>, AllocError>>,
+/// Whether the next item is the `i`-th piece, or an error. Another piece is neither.
+fn draw<'h, 'b, B: Backend, I: Unnumbered>(
+    pieces: &mut IterWrapper<'h, 'b, B, I>,
     i: usize,
-    is_lost: bool,
-) -> bool {
+) -> Option<bool> {
     let text = PIECES.get(i).copied().unwrap_or_default();
-    match item {
-        Some(Ok(piece)) => piece.str_eq(text) & !is_lost,
-        Some(Err(_)) => is_lost,
-        None => false,
+    match pieces.next()? {
+        Ok(piece) => piece.str_eq(text).then_some(true),
+        Err(_) => Some(false),
     }
 }
 
@@ -197,12 +206,20 @@ fn is_passed(rt: &impl Abort, alloc: Global, k: usize) -> bool {
     let text = must(rt, HipStr::<Unique>::from_str(alloc, LINE));
     let mut pieces = text.split(alloc, ',');
     refuse(alloc, k);
-    let (first, second, third) = (pieces.next(), pieces.next(), pieces.next());
+    let first = draw(&mut pieces, 0);
+    let second = draw(&mut pieces, 1);
+    let third = draw(&mut pieces, 2);
     let refused = was_refused(alloc);
-    let is_so = is_piece(first, 0, refused & (k == 1))
-        & is_piece(second, 1, refused & (k == 2))
-        & is_piece(third, 2, refused & (k == 3));
-    must_hold(rt, is_so & pieces.next().is_none());
+    equals(
+        rt,
+        &(first, second, third, pieces.next().is_none()),
+        &(
+            Some(!refused | (k != 1)),
+            Some(!refused | (k != 2)),
+            Some(!refused | (k != 3)),
+            true,
+        ),
+    );
     refused
 }
 
