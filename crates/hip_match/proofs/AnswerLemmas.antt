@@ -1,8 +1,9 @@
 -- A predicate's answers at all characters as one list, which tells where the set of those that pass occurs.
-use Rattle.std.proofs.Common.{◌≡◌, ℕ, zero, suc, ◌+◌, ◌<◌, ◌≤◌, Bool, [], ◌∷◌, true, false, ◌&&◌, Option, Some, None, List, ap, sym, ◌∙◌, if◌then◌else◌, arith, ⊎_elim}
+use Rattle.std.proofs.lemmas.Bool.Decides.{nat_tests}
+use Rattle.std.proofs.lemmas.Grind.{common_steps}
+use Rattle.std.proofs.Common.{◌≡◌, ℕ, zero, suc, ◌+◌, ◌<◌, ◌≤◌, Bool, [], ◌∷◌, Option, List, ap, ◌∙◌, arith, ⊎_elim}
 use Rattle.std.proofs.Math.Path.{fun_ext}
 use Rattle.std.proofs.Math.Utf8.{scalar, scalar_cases}
-use Rattle.std.proofs.lemmas.Bool.{cases_Bool}
 use Rattle.std.specs.Char.{IsScalar}
 use Rattle.std.specs.Option.{option_and_then}
 use Rattle.hip_match.specs.Characters.{char_at, char_ends, end_if}
@@ -32,10 +33,7 @@ scalar_below c is = ⊎_elim (λ (low : c < 55296). omega arith) (λ (high : (57
 
 module _ (p q : ℕ → Bool) (same : (c : ℕ) → IsScalar c → p c ≡ q c) where
   same_end : (c : ℕ × ℕ) → end_if p c ≡ end_if q c
-  same_end c =
-      ⊎_elim (λ (is : scalar c.0 ≡ true). ap (λ b. if scalar c.0 && b then Some c.1 else None) (same c.0 is))
-      (λ (no : scalar c.0 ≡ false). ap (λ s. if s && p c.0 then Some c.1 else None) no ∙ sym (ap (λ s. if s && q c.0 then Some c.1 else None) no))
-      (cases_Bool (scalar c.0))
+  same_end c = grind (arith, nat_tests, common_steps, scalar)
 
   pub same_ends : char_ends p ≡ char_ends q
   same_ends = ap {B = List ℕ → ℕ → Option ℕ} (λ (f : ℕ × ℕ → Option ℕ) text i. option_and_then f (char_at text i)) (fun_ext same_end)

@@ -1,4 +1,6 @@
 -- The lowest and the highest bit of a number.
+use Rattle.std.proofs.lemmas.Bool.Decides.{nat_tests}
+use Rattle.std.proofs.lemmas.Grind.{common_steps}
 use Rattle.std.proofs.Common.{◌≡◌, ◌≢◌, ◌∙◌, ℕ, zero, suc, ◌+◌, ◌-◌, ◌*◌, ◌/◌, ◌%◌, ◌^◌, ◌<◌, ◌≤◌, Bool, true, false, cond, bit_and, ap, sym, refl, arith, ⊎_elim, shr-shr}
 use Rattle.std.proofs.Math.Nat.{mod-eq_of_lt, two-pow-succ}
 use Rattle.std.proofs.lemmas.Nat.{div-add-mod', pow_pos}
@@ -82,9 +84,7 @@ module _ (m by : ℕ) (fits : m < 2 ^ 64) where
   from_below k low = ap (λ x. bit_at x k) from_is ∙ bit_at_cat_low (m / 2 ^ by) by 0 k low ∙ bit_at-zero k
 
   pub from_kept : (k : ℕ) → by ≤ k → bit_at (m / 2 ^ by * 2 ^ by % 2 ^ 64) k ≡ bit_at m k
-  from_kept k le =
-      ap (λ x. bit_at x k) from_is ∙ bit_at_cat_high (m / 2 ^ by) by 0 k (pow_pos by) le
-      ∙ ap (λ x. x % 2) (shr-shr m by (k - by)) ∙ ap (bit_at m) (omega arith)
+  from_kept k le = grind (arith, nat_tests, common_steps, bit_at, bit_at_cat_high, from_is, pow_pos, shr-shr)
 
 -- ---- all but one
 

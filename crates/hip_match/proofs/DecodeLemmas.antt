@@ -1,4 +1,6 @@
 -- The bytes of a character of two bytes or more, and its number, which they spell.
+use Rattle.std.proofs.lemmas.Bool.Decides.{nat_tests}
+use Rattle.std.proofs.lemmas.Grind.{common_steps}
 use Rattle.std.proofs.Common.{◌≡◌, ℕ, zero, suc, ◌+◌, ◌-◌, ◌*◌, ◌/◌, ◌%◌, ◌<◌, ◌≤◌, ◌⊎◌, inl, inr, List, [], ◌∷◌, ◌++◌, Some, ⊎_elim, length, drop, sym, ap, subst, ◌∙◌, arith, add-zero, le-ltb, lt-ltb, get_or-drop}
 use Rattle.std.specs.Prelude.{slice_index}
 use Rattle.std.proofs.lemmas.Bool.{cases_lt, cases_Bool, false≢true}
@@ -53,9 +55,7 @@ module _ (t : List ℕ) (i : ℕ) (utf8 : IsUtf8 t) (cut : IsCharBoundary t i) (
     first bs e = ap (λ k. slice_index t k) (sym (add-zero i)) ∙ byte bs e 0
 
     room : (bs : List ℕ) → encode_utf8 c ≡ bs → (len_utf8 c ≡ length bs) × (i + length bs ≤ length t)
-    room bs e =
-        let width : len_utf8 c ≡ length bs = sym (length-encode c) ∙ ap length e in
-        (width, omega (arith, width, starts.end.0))
+    room bs e = grind (arith, nat_tests, common_steps, len_utf8, length-encode)
 
     spelt : Two c ⊎ (Three c ⊎ Four c)
     spelt =
@@ -88,21 +88,15 @@ module _ (t : List ℕ) (i : ℕ) (utf8 : IsUtf8 t) (cut : IsCharBoundary t i) (
   fourth high = ⊎_elim (λ h. absurd (omega (arith, h.1, h.2))) (λ r. ⊎_elim (λ h. absurd (omega (arith, h.1, h.2))) (λ h. (omega (arith, h.5), omega (arith, h.4))) r) bytes
 
   pub is_two : slice_index t i < 224 → char_at t i ≡ Some ((slice_index t i - 192) * 64 + (slice_index t (i + 1) - 128), i + 2)
-  is_two low =
-      ⊎_elim (λ h. is 2 _ h.0 (omega (arith, h.1, h.2, h.3)))
-      (λ r. ⊎_elim (λ h. absurd (omega (arith, h.2))) (λ h. absurd (omega (arith, h.1))) r) bytes
+  is_two low = grind (arith, nat_tests, common_steps, bytes, is)
 
   pub is_three : 224 ≤ slice_index t i → slice_index t i < 240
       → char_at t i ≡ Some (((slice_index t i - 224) * 64 + (slice_index t (i + 1) - 128)) * 64 + (slice_index t (i + 2) - 128), i + 3)
-  is_three high low =
-      ⊎_elim (λ h. absurd (omega (arith, h.1, h.2)))
-      (λ r. ⊎_elim (λ h. is 3 _ h.0 (omega (arith, h.1, h.2, h.3, h.4))) (λ h. absurd (omega (arith, h.1))) r) bytes
+  is_three high low = grind (arith, nat_tests, common_steps, bytes, is)
 
   pub is_four : 240 ≤ slice_index t i
       → char_at t i ≡ Some ((((slice_index t i - 240) * 64 + (slice_index t (i + 1) - 128)) * 64 + (slice_index t (i + 2) - 128)) * 64 + (slice_index t (i + 3) - 128), i + 4)
-  is_four high =
-      ⊎_elim (λ h. absurd (omega (arith, h.1, h.2)))
-      (λ r. ⊎_elim (λ h. absurd (omega (arith, h.1, h.2))) (λ h. is 4 _ h.0 (omega (arith, h.1, h.2, h.3, h.4))) r) bytes
+  is_four high = grind (arith, nat_tests, common_steps, bytes, is)
 
 -- ---- from the back
 
@@ -177,10 +171,7 @@ module _ (t : List ℕ) (to : ℕ) (utf8 : IsUtf8 t) (cut : IsCharBoundary t to)
       spelt_before
 
   pub room_3 : slice_index t (to - 2) < 192 → 3 ≤ to
-  room_3 low =
-      ⊎_elim (λ h. let e = stop 2 h.0 in absurd (omega (arith, h.2, read at (to - 2) (omega arith))))
-      (λ r. ⊎_elim (λ h. let e = stop 3 h.0 in omega arith) (λ h. let e = stop 4 h.0 in omega arith) r)
-      spelt_before
+  room_3 low = grind (arith, nat_tests, common_steps, read, spelt_before, stop)
 
   pub before_three : slice_index t (to - 2) < 192 → 192 ≤ slice_index t (to - 3)
       → (925824 ≤ (slice_index t (to - 3) * 64 + slice_index t (to - 2)) * 64 + slice_index t (to - 1))

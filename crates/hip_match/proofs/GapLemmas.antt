@@ -1,7 +1,8 @@
 -- The parts of a text between the characters of a set, from either end.
-use Rattle.std.proofs.Common.{◌≡◌, ℕ, ◌+◌, ◌-◌, ◌<◌, ◌≤◌, Bool, List, [], ◌∷◌, ◌++◌, Option, None, Some, length, refl, ap, sym, ◌∙◌, arith, ⊎_elim}
+use Rattle.std.proofs.lemmas.Bool.Decides.{nat_tests}
+use Rattle.std.proofs.lemmas.Grind.{common_steps}
+use Rattle.std.proofs.Common.{◌≡◌, ℕ, ◌+◌, ◌-◌, ◌<◌, ◌≤◌, Bool, List, [], ◌∷◌, ◌++◌, Option, None, Some, length, refl, ap, ◌∙◌, arith}
 use Rattle.std.specs.Char.{is_ascii_whitespace}
-use Rattle.std.proofs.lemmas.Bool.{cases_lt}
 use Rattle.std.proofs.lemmas.Option.{none-some}
 use Rattle.memchr.specs.Find.{IsFirst, IsLast, Passes}
 use Rattle.hip_match.specs.Characters.{char_ends}
@@ -36,9 +37,7 @@ module _ (belongs : ℕ → Bool) (t : List ℕ) (from to : ℕ) (w : IsWindow t
 
   -- no such character before the first that is found
   pub quiet_before : NoneStarts e from to → IsQuiet e from to
-  quiet_before none a b is le =
-      let holds : a < b = (chars.one a b is).holds in
-      ⊎_elim (λ (lt : a < to). absurd (none-some b (sym (none a le lt) ∙ is))) (λ (ge : to ≤ a). omega arith) (cases_lt a to)
+  quiet_before none a b is le = grind (arith, nat_tests, common_steps, chars, none-some)
 
   -- no occurrence lies behind the last
   pub quiet_behind : (at : ℕ) → EndsLast e to (at, at + 1) → at < from → IsQuiet e from to

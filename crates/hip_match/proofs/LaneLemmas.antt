@@ -1,4 +1,6 @@
 -- From the lanes of one load to the bytes of a list.
+use Rattle.std.proofs.lemmas.Bool.Decides.{nat_tests}
+use Rattle.std.proofs.lemmas.Grind.{common_steps}
 use Rattle.std.proofs.Common.{◌≡◌, ℕ, suc, ◌+◌, ◌*◌, ◌/◌, ◌%◌, ◌^◌, ◌<◌, ◌≤◌, Bool, true, false, cond, List, [], ◌∷◌, map, length, get_or, replicate, Fits, w8, bit_and, ap, sym, ◌∙◌, refl, arith}
 use Rattle.std.proofs.lemmas.Nat.{and_le_r}
 use Rattle.std.proofs.lemmas.Simd.{Each1-all, Each1-zip2, Each2-splat, SwzOk, SwzOk-from_below, bit_mask_l, get_or-chunk, get_or-swz_l_below, length-chunk, length-swz_l, length-zip2, map-map, mask_l-lt, mask_l-mod, swz_l}
@@ -10,10 +12,7 @@ use lib.Lanes.{Each1, chunk, mask_l, top, zip2}
 
 -- the mask of sixteen lanes has sixteen bits
 few_lanes : (v z : List ℕ) (f : ℕ → ℕ) → length v ≡ 16 → z ≡ map f v → mask_l (map (top 7) z) % 2 ^ 64 < 65536
-few_lanes v z f long is =
-    let n : length (map (top 7) z) ≡ 16 = length-map z (top 7) ∙ ap length is ∙ length-map v f ∙ long in
-    let room : 2 ^ length (map (top 7) z) ≡ 65536 = ap (λ (k : ℕ). 2 ^ k) n in
-    omega (arith, mask_l-lt (map (top 7) z), mask_l-mod (map (top 7) z) 64 (omega (arith, n)), room)
+few_lanes v z f long is = grind (arith, nat_tests, common_steps, length-map, mask_l-lt, mask_l-mod, top)
 
 -- lane by lane, z is f of the sixteen bytes from i on, and its lanes are set just where the bytes pass the test
 pub marked : (test : ℕ → Bool) (xs : List ℕ) (i : ℕ) (z : List ℕ) (f : ℕ → ℕ) → i + 16 ≤ length xs

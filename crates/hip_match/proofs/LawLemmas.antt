@@ -1,4 +1,6 @@
 -- The scan gives the leftmost list, no other list is leftmost, and joining undoes splitting.
+use Rattle.std.proofs.lemmas.Bool.Decides.{nat_tests}
+use Rattle.std.proofs.lemmas.Grind.{common_steps}
 use Rattle.std.proofs.Common.{◌≡◌, ℕ, zero, suc, ◌+◌, ◌-◌, ◌<◌, ◌≤◌, List, [], ◌∷◌, ◌++◌, Option, Some, refl, sym, ap, subst, ◌∙◌, arith, ⊎_elim, inl, inr, length, take, drop}
 use Rattle.std.specs.Prelude.{◌⊎◌, ⊤, max, slice_range}
 use Rattle.std.proofs.lemmas.Bool.{cases_lt, cond-true, cond-false, eq-eqb, ne_eqb, cases_eq}
@@ -92,17 +94,7 @@ not_within (r ∷ l) i a order lt h =
 
 module _ (e : ℕ → Option ℕ) where
   tail : (from : ℕ) (r : ℕ × ℕ) (l : List (ℕ × ℕ)) → IsLeftmost e from (r ∷ l) → IsLeftmost e (place_after r) l
-  tail from r l h =
-      record {
-        occur = h.occur.1;
-        in_order = h.in_order.1;
-        no_other = λ a b is lo.
-            let low : from ≤ r.0 = h.in_order.0 in
-            ⊎_elim
-            (λ listed. ⊎_elim (λ (here : (r.0 ≡ a) × (r.1 ≡ b)). let same : r.0 ≡ a = here.0 in absurd (omega arith)) (λ later. inl later) listed)
-            (λ within. ⊎_elim (λ (here : (r.0 ≤ a) × (a < r.1)). let under : a < r.1 = here.1 in absurd (omega arith)) (λ later. inr later) within)
-            (h.no_other a b is (omega arith));
-      }
+  tail from r l h = grind (arith, nat_tests, common_steps, inl, inr)
 
   -- the first of one list isn't before the first of the other
   not_before : (from : ℕ) (r : ℕ × ℕ) (l : List (ℕ × ℕ)) (s : ℕ × ℕ) (m : List (ℕ × ℕ)) → IsLeftmost e from (r ∷ l) → IsLeftmost e from (s ∷ m) → r.0 < s.0 → ⊥

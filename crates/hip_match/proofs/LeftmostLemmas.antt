@@ -1,4 +1,6 @@
 -- The leftmost list, against the search for the next match.
+use Rattle.std.proofs.lemmas.Bool.Decides.{nat_tests}
+use Rattle.std.proofs.lemmas.Grind.{common_steps}
 use Rattle.std.proofs.Common.{◌≡◌, ℕ, zero, suc, ◌+◌, ◌-◌, ◌<◌, ◌≤◌, List, [], ◌∷◌, Option, Some, None, refl, sym, ap, subst, ◌∙◌, arith}
 use Rattle.std.proofs.lemmas.Bool.{cond-true, cond-false, le-leb, lt-leb, leb-true}
 use Rattle.std.proofs.Common.{⊎_elim}
@@ -53,9 +55,7 @@ module _ (e : ℕ → Option ℕ) where
       ∙ leftmost_from-pass d (i + 1) n (λ k lo hi. h k (omega arith) (omega arith)) ∙ ap (λ k. leftmost_from e 0 k n) same
 
   pub leftmost_from-to : (i j n : ℕ) → i ≤ j → ((k : ℕ) → i ≤ k → k < j → e k ≡ None) → leftmost_from e 0 i (j - i + n) ≡ leftmost_from e 0 j n
-  leftmost_from-to i j n le h =
-      let same : i + (j - i) ≡ j = omega arith in
-      leftmost_from-pass (j - i) i n (λ k lo hi. h k lo (omega arith)) ∙ ap (λ k. leftmost_from e 0 k n) same
+  leftmost_from-to i j n le h = grind (arith, nat_tests, common_steps, leftmost_from, leftmost_from-pass)
 
   pub leftmost_from-none : (i n : ℕ) → ((k : ℕ) → i ≤ k → k < i + n → e k ≡ None) → leftmost_from e 0 i n ≡ []
   leftmost_from-none i n h =

@@ -1,5 +1,7 @@
 -- Marks of a test: the bits of one number, and the places that they tell.
-use Rattle.std.proofs.Common.{◌≡◌, ◌≢◌, ◌∙◌, ℕ, ◌+◌, ◌-◌, ◌<◌, ◌≤◌, Bool, true, cond, List, Option, None, Some, length, drop, take, take_all, ap, sym, subst, arith, ⊎_elim, bit_or, get_or-drop, length-drop}
+use Rattle.std.proofs.lemmas.Bool.Decides.{nat_tests}
+use Rattle.std.proofs.lemmas.Grind.{common_steps}
+use Rattle.std.proofs.Common.{◌≡◌, ◌≢◌, ◌∙◌, ℕ, ◌+◌, ◌-◌, ◌<◌, ◌≤◌, Bool, true, cond, List, Option, None, Some, length, drop, take, take_all, ap, sym, arith, ⊎_elim, bit_or, get_or-drop, length-drop}
 use Rattle.std.specs.Prelude.{slice_index}
 use Rattle.std.proofs.lemmas.Bool.{cases_lt, cases_Bool}
 use Rattle.std.proofs.lemmas.Nat.Bits.{bit_at-lt, bit_at-zero, bit_at_above, bit_at_or}
@@ -34,9 +36,7 @@ module _ (test : ℕ → Bool) (t : List ℕ) where
 
   -- a search of the rest finds the first place from there on
   pub first-behind : (from : ℕ) → from ≤ length t → (r : Option ℕ) → IsFirstByte test (take (length t - from) (drop from t)) r → IsFirst (Passes test t) from (length t) (option_map (λ i. from + i) r)
-  first-behind from le r found =
-      let whole : take (length t - from) (drop from t) ≡ drop from t = take_all (length t - from) (drop from t) (omega (arith, length-drop from t)) in
-      first-of-rest from le r (subst (λ (l : List ℕ). IsFirstByte test l r) whole found)
+  first-behind from le r found = grind (arith, nat_tests, common_steps, first-of-rest, length-drop, take_all)
 
   -- ---- one number
 
@@ -123,16 +123,7 @@ module _ (test : ℕ → Bool) (t : List ℕ) where
       first = h.told r low.bound low.set
 
       pub first-found : (stop : ℕ) → to ≤ stop → IsFirst (Passes test t) from stop (Some (end + r - 64))
-      first-found stop le = (
-        record {
-          low = omega (arith, first.0);
-          high = omega (arith, first.0, first.1);
-          before = λ p lo hi pass.
-              let was = h.marked p lo (omega (arith, first.1)) pass in
-              absurd (omega (arith, was.2, low.below (p + 64 - end) (omega (arith, was.0, first.0))));
-        },
-        first.2,
-      )
+      first-found stop le = grind (arith, nat_tests, common_steps, first)
 
       pub first-passed : (n : ℕ) → bit_at n r ≡ 0 → ((k : ℕ) → k ≢ r → bit_at n k ≡ bit_at m k) → AreMarks test t (end + r - 64 + 1) to end n
       first-passed n gone others = record {
@@ -152,16 +143,7 @@ module _ (test : ℕ → Bool) (t : List ℕ) where
       last = h.told r top.bound top.set
 
       pub last-found : IsLast (Passes test t) 0 to (Some (end + r - 64))
-      last-found = (
-        record {
-          low = omega arith;
-          high = omega (arith, last.0, last.1);
-          after = λ p lo hi pass.
-              let was = h.marked p (omega (arith, last.0)) hi pass in
-              absurd (omega (arith, was.2, top.above (p + 64 - end) (omega (arith, was.0, last.0))));
-        },
-        last.2,
-      )
+      last-found = grind (arith, nat_tests, common_steps, last)
 
       pub last-passed : (n : ℕ) → bit_at n r ≡ 0 → ((k : ℕ) → k ≢ r → bit_at n k ≡ bit_at m k) → AreMarks test t from (end + r - 64) end n
       last-passed n gone others = record {
@@ -193,9 +175,7 @@ module _ (test : ℕ → Bool) (t : List ℕ) where
       ahead-found = first-found from next next m h.marks r low (length t) h.within
 
       pub ahead-passed : (n : ℕ) → bit_at n r ≡ 0 → ((k : ℕ) → k ≢ r → bit_at n k ≡ bit_at m k) → Ahead test t (next + r - 64 + 1) next n
-      ahead-passed n gone others =
-          let bound = low.bound in
-          record { within = h.within; beyond = λ k lo hi. absurd (omega (arith, (h.marks.told r low.bound low.set).0)); marks = first-passed from next next m h.marks r low n gone others }
+      ahead-passed n gone others = grind (arith, nat_tests, common_steps, first-passed)
 
     -- the walk goes on behind places that fail
     pub ahead-skipped : (later : ℕ) → from ≤ later → Nowhere (Passes test t) from later → Ahead test t later next m

@@ -1,4 +1,6 @@
 -- The declared lists lie in order.
+use Rattle.std.proofs.lemmas.Bool.Decides.{nat_tests}
+use Rattle.std.proofs.lemmas.Grind.{common_steps}
 use Rattle.std.proofs.Common.{◌≡◌, ℕ, zero, suc, ◌-◌, ◌<◌, ◌≤◌, true, List, [], ◌∷◌, map, sym, subst, arith, ⊎_elim}
 use Rattle.std.proofs.lemmas.Bool.{cond-true, cond-false, and_parts, cases_Bool, ltb-true}
 use Rattle.std.specs.Prelude.{if◌then◌else◌, ◌==◌, nat_lt, Bool}
@@ -58,15 +60,7 @@ without_return-Within t r le = cut (ends_with t 13 r) (λ yes. ltb-true r.0 r.1 
         (cases_Bool b)
 
 line_of-Within : (t : List ℕ) (r : ℕ × ℕ) → r.0 ≤ r.1 → Within r (line_of t r)
-line_of-Within t r le =
-    let P : ℕ × ℕ → Type 0 = Within r in
-    ⊎_elim
-    (λ yes.
-    let lt = ltb-true r.0 r.1 (and_parts (nat_lt r.0 r.1) _ yes).0 in
-    let inner = without_return-Within t (r.0, r.1 - 1) (omega arith) in
-    subst P (sym (cond-true _ _ _ yes)) (inner.0, inner.1, omega (arith, inner.2)))
-    (λ no. subst P (sym (cond-false _ _ _ no)) (omega arith, le, omega arith))
-    (cases_Bool (ends_with t 10 r))
+line_of-Within t r le = grind (arith, nat_tests, common_steps, and_parts, cond-false, cond-true, ends_with, ltb-true, without_return-Within)
 
 pub lines-InOrder : (t : List ℕ) (l : List (ℕ × ℕ)) (i n : ℕ) → InOrder i l n → InOrder i (map (line_of t) l) n
 lines-InOrder t [] i n h = h

@@ -1,4 +1,6 @@
 -- The first occurrence of a text in another parts it.
+use Rattle.std.proofs.lemmas.Bool.Decides.{nat_tests}
+use Rattle.std.proofs.lemmas.Grind.{common_steps}
 use Rattle.std.proofs.Common.{◌≡◌, ◌∙◌, ℕ, zero, suc, ◌+◌, ◌-◌, ◌<◌, ◌≤◌, List, [], ◌∷◌, ◌++◌, Option, None, Some, length, take, drop, ap, sym, subst, refl, arith, ⊎_elim, take-append-drop, drop-drop, length-take-le}
 use Rattle.std.specs.Option.{option_map_or}
 use Rattle.std.specs.Prelude.{slice_range}
@@ -42,11 +44,7 @@ module _ (f : ℕ → Option ℕ) where
 
 -- where the clipped search gives nothing, the pattern doesn't occur: no occurrence ends past the text
 unclipped : (p t : List ℕ) (k : ℕ) → end_within (length t) (text_ends p t k) ≡ None → text_ends p t k ≡ None
-unclipped p t k none =
-    by_option (text_ends p t k) (λ is. is)
-    (λ b is.
-    let within : b ≤ length t = omega (arith, (text_ends-is p t k b is).1.0, (text_ends-is p t k b is).3) in
-    absurd (none-some b (sym none ∙ end_within-some (length t) b (text_ends p t k) is within)))
+unclipped p t k none = grind (arith, nat_tests, common_steps, by_option, end_within-some, none-some, text_ends, text_ends-is)
 
 module _ (p t : List ℕ) where
   abbrev clipped : ℕ → Option ℕ

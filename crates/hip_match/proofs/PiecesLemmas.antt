@@ -1,4 +1,6 @@
 -- The pieces round one more match.
+use Rattle.std.proofs.lemmas.Bool.Decides.{nat_tests}
+use Rattle.std.proofs.lemmas.Grind.{common_steps}
 use Rattle.std.proofs.Common.{◌≡◌, ℕ, zero, suc, ◌-◌, ◌<◌, ◌≤◌, List, [], ◌∷◌, ◌++◌, refl, sym, ap, subst, ◌∙◌, arith}
 use Rattle.std.proofs.Common.{le_trans, IfSome}
 use Rattle.hip_match.specs.Ready.{IsBetween, IsBetweenBack, TakesLastCut}
@@ -111,10 +113,7 @@ pub terminator-next_back : (ending : Bool) (old mid new : List (ℕ × ℕ)) (x 
     → old ≡ mid ++ x ∷ [] → x.0 ≡ x.1
     → MatchOption r ((mid ≡ []) × (new ≡ [])) (λ y. mid ≡ new ++ y ∷ [])
     → MatchOption r (((if ending then without_empty_last old else old) ≡ []) × (new ≡ [])) (λ y. (if ending then without_empty_last old else old) ≡ new ++ y ∷ [])
-terminator-next_back ending old mid new x r is h empty later =
-    let same = cond-true ending (without_empty_last old) old is ∙ ap without_empty_last h ∙ without_empty_last-dropped mid x empty in
-    let P : List (ℕ × ℕ) → Type 0 = λ l. MatchOption r ((l ≡ []) × (new ≡ [])) (λ y. l ≡ new ++ y ∷ []) in
-    subst P (sym same) later
+terminator-next_back ending old mid new x r is h empty later = grind (arith, nat_tests, common_steps, [], cond-true, without_empty_last, without_empty_last-dropped)
 
 -- ranges between two places of a text are between them of an equal text
 pub IsBetween-moved : (t u : List ℕ) (i j : ℕ) (l : List (ℕ × ℕ)) → u ≡ t → IsBetween t i l j → IsBetween u i l j
@@ -164,11 +163,7 @@ ended-none : (old new : List (ℕ × ℕ)) (i n : ℕ) → new ≡ [] → InOrde
 ended-none old new i n none h = let P : List (ℕ × ℕ) → Type 0 = λ l. InOrder i l n in subst P (sym none) (InOrder-le old i n h)
 
 pub TakesLastCut-before : (old new : List (ℕ × ℕ)) (n : ℕ) (m : ℕ × ℕ) → old ≡ new ++ m ∷ [] → m.0 < m.1 → m.1 < n → TakesLastCut n old (Some m) new
-TakesLastCut-before old new n m is full lt i h =
-    let P : List (ℕ × ℕ) → Type 0 = λ l. InOrder i l n in
-    let order = subst P is h in
-    let front = (InOrder-append new i n m order).0 in
-    (ap (λ l. ended i l n) is ∙ ended-append new i n m order full lt, omega arith, InOrder-widen new i m.0 m.1 front (omega arith))
+TakesLastCut-before old new n m is full lt i h = grind (arith, nat_tests, common_steps, InOrder, InOrder-append, InOrder-widen, ended, ended-append)
 
 pub TakesLastCut-at : (old mid new : List (ℕ × ℕ)) (n : ℕ) (m : ℕ × ℕ) (r : Option (ℕ × ℕ)) → old ≡ mid ++ m ∷ [] → m.0 < m.1 → n ≤ m.1
     → MatchOption r ((mid ≡ []) × (new ≡ [])) (λ y. mid ≡ new ++ y ∷ []) → IfSome r (λ y. y.0 < y.1) → TakesLastCut n old r new

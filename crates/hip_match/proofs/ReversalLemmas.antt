@@ -1,4 +1,6 @@
 -- For a pattern whose occurrences are never empty, and never start in one another, the rightmost list is the leftmost one reversed.
+use Rattle.std.proofs.lemmas.Bool.Decides.{nat_tests}
+use Rattle.std.proofs.lemmas.Grind.{common_steps}
 use Rattle.std.proofs.Common.{◌≡◌, ℕ, zero, suc, ◌+◌, ◌-◌, ◌<◌, ◌≤◌, List, [], ◌∷◌, ◌++◌, Option, Some, None, sym, ap, ◌∙◌, arith, ⊎_elim, reverse}
 use Rattle.std.proofs.lemmas.Bool.{cases_lt}
 use Rattle.std.proofs.lemmas.List.{reverse-append, reverse-reverse, append-nil}
@@ -51,11 +53,7 @@ module _ (e : ℕ → Option ℕ) (from to : ℕ)
     (apart : (a b c d : ℕ) → e a ≡ Some b → e c ≡ Some d → a < c → b ≤ c)
     (whole : NoneCrosses e from) where
   pub one : (a b c : ℕ) → e a ≡ Some c → e b ≡ Some c → a ≡ b
-  one a b c left right =
-      let up : a < c = nonempty a c left in
-      let over : b < c = nonempty b c right in
-      ⊎_elim (λ (lt : a < b). let le : c ≤ b = apart a c b c left right lt in absurd (omega arith))
-      (λ (ge : b ≤ a). ⊎_elim (λ (lt : b < a). let le : c ≤ a = apart b c a c right left lt in absurd (omega arith)) (λ (le : a ≤ b). omega arith) (cases_lt b a)) (cases_lt a b)
+  one a b c left right = grind (arith, nat_tests, common_steps)
 
   abbrev clipped : ℕ → Option ℕ
   clipped k = end_within to (e k)
@@ -154,16 +152,7 @@ module _ (e : ℕ → Option ℕ)
   clear_at a b is c d other lt = apart c d a b other is lt
 
   clear_past : (a b : ℕ) → e a ≡ Some b → NoneCrosses e b
-  clear_past a b is c d other lt =
-      ⊎_elim (λ (before : c < a).
-      let le : d ≤ a = apart c d a b other is before in
-      let up : a < b = nonempty a b is in
-      omega arith)
-      (λ (ge : a ≤ c).
-      ⊎_elim (λ (after : a < c). let le : b ≤ c = apart a b c d is other after in absurd (omega arith))
-      (λ (le : c ≤ a). let same : c ≡ a = omega arith in let end : d ≡ b = same_Some d b (sym other ∙ ap e same ∙ is) in omega arith)
-      (cases_lt a c))
-      (cases_lt c a)
+  clear_past a b is c d other lt = grind (arith, nat_tests, common_steps, same_Some)
 
   module _ (from to : ℕ) (start : NoneCrosses e from) (end : NoneCrosses e to) (le : from ≤ to) where
     same : leftmost_between e from to ≡ reverse (rightmost_between e from to)

@@ -1,4 +1,6 @@
 -- The scan gives the rightmost list, and no other list is rightmost.
+use Rattle.std.proofs.lemmas.Bool.Decides.{nat_tests}
+use Rattle.std.proofs.lemmas.Grind.{common_steps}
 use Rattle.std.proofs.Common.{◌≡◌, ℕ, zero, suc, ◌+◌, ◌-◌, ◌<◌, ◌≤◌, List, [], ◌∷◌, Option, Some, refl, sym, ap, subst, ◌∙◌, arith, ⊎_elim, inl, inr}
 use Rattle.std.specs.Prelude.{◌⊎◌, min}
 use Rattle.std.proofs.lemmas.Bool.{cases_lt}
@@ -79,17 +81,7 @@ not_within (r ∷ l) j b order le h =
 
 module _ (e : ℕ → Option ℕ) (one : (a b c : ℕ) → e a ≡ Some c → e b ≡ Some c → a ≡ b) where
   tail : (below : ℕ) (r : ℕ × ℕ) (l : List (ℕ × ℕ)) → IsRightmost e below (r ∷ l) → IsRightmost e (place_before r) l
-  tail below r l h =
-      record {
-        occur = h.occur.1;
-        in_order = h.in_order.1;
-        no_other = λ a b is lt.
-            let low : r.1 < below = h.in_order.0 in
-            ⊎_elim
-            (λ listed. ⊎_elim (λ (here : (r.0 ≡ a) × (r.1 ≡ b)). let same : r.1 ≡ b = here.1 in absurd (omega arith)) (λ later. inl later) listed)
-            (λ within. ⊎_elim (λ (here : (r.0 < b) × (b ≤ r.1)). let over : r.0 < b = here.0 in absurd (omega arith)) (λ later. inr later) within)
-            (h.no_other a b is (omega arith));
-      }
+  tail below r l h = grind (arith, nat_tests, common_steps, inl, inr)
 
   not_after : (below : ℕ) (r : ℕ × ℕ) (l : List (ℕ × ℕ)) (s : ℕ × ℕ) (m : List (ℕ × ℕ)) → IsRightmost e below (r ∷ l) → IsRightmost e below (s ∷ m) → s.1 < r.1 → ⊥
   not_after below r l s m h g lt =

@@ -1,4 +1,6 @@
 -- The rightmost list, against the search for the last match.
+use Rattle.std.proofs.lemmas.Bool.Decides.{nat_tests}
+use Rattle.std.proofs.lemmas.Grind.{common_steps}
 use Rattle.std.proofs.Common.{◌≡◌, ℕ, zero, suc, ◌+◌, ◌-◌, ◌<◌, ◌≤◌, true, List, [], ◌∷◌, Option, Some, None, refl, sym, ap, subst, ◌∙◌, arith, ⊎_elim}
 use Rattle.std.proofs.lemmas.Bool.{cond-true, cond-false, cases_lt, cases_Bool, eq-eqb, eqb-true, false≢true}
 use Rattle.std.proofs.lemmas.Option.{none-some, same_Some}
@@ -104,15 +106,7 @@ module _ (e : ℕ → Option ℕ) (from to : ℕ) (ordered : (k m : ℕ) → e k
 
   -- the last match lies before the window
   pub rightmost_between-past : (a b : ℕ) → EndsLast e to (a, b) → a < from → NoneCrosses e from → rightmost_between e from to ≡ []
-  rightmost_between-past a b h past whole =
-      rightmost_from-none starts (to + 1) (λ j hi. starts-none j (λ k lo is.
-      let low : k ≤ j = ordered k j is in
-      let reach : b ≤ from = whole a b h.occurs past in
-      ⊎_elim (λ (lt : b < j). let over : to < j = h.last k j is lt in absurd (omega arith))
-      (λ (ge : j ≤ b).
-      let same : j ≡ b = omega arith in
-      let both : a ≡ k = one a k b h.occurs (is ∙ ap (λ x. Some x) same) in
-      absurd (omega arith)) (cases_lt b j)))
+  rightmost_between-past a b h past whole = grind (arith, nat_tests, common_steps, rightmost_from-none, starts-none)
 
   -- the last match, and those that end up to `prev`
   pub rightmost_between-some : (a b : ℕ) → EndsLast e to (a, b) → from ≤ a → (prev : ℕ) → prev < b → prev ≤ a

@@ -1,4 +1,6 @@
 -- The runs outside of a set are the gaps between its characters, less the empty ones.
+use Rattle.std.proofs.lemmas.Bool.Decides.{nat_tests}
+use Rattle.std.proofs.lemmas.Grind.{common_steps}
 use Rattle.std.proofs.Common.{◌≡◌, ℕ, ◌+◌, ◌<◌, ◌≤◌, ◌⊎◌, inl, inr, List, [], ◌∷◌, Bool, Option, Some, None, length, max, refl, sym, subst, ◌∙◌, arith, ⊎_elim}
 use Rattle.std.proofs.lemmas.Bool.{cases_lt}
 use Rattle.std.proofs.lemmas.Option.{none-some, same_Some}
@@ -36,22 +38,10 @@ module _ (p : ℕ → Bool) (t : List ℕ) (utf8 : IsUtf8 t) where
   stop_before a b is s cut lo hi free = none-some b (sym (free a (omega arith) hi) ∙ is)
 
   stop_after : (a b : ℕ) → char_ends p t a ≡ Some b → Stop b
-  stop_after a b is s cut lo hi free =
-      let one = char_ends-one_char p t a b utf8 is in
-      let holds = one.holds in
-      ⊎_elim (λ (within : a < s.0). one.one s.0 within lo cut.start) (λ (le : s.0 ≤ a). none-some b (sym (free a le (omega arith)) ∙ is)) (cases_lt a s.0)
+  stop_after a b is s cut lo hi free = grind (arith, nat_tests, common_steps, char_ends-one_char, none-some)
 
   is_run : (i j : ℕ) → IsCharBoundary t i → IsCharBoundary t j → i < j → NoneStarts (char_ends p t) i j → Stop i → Stop j → IsRun p t (i, j)
-  is_run i j start end lt free before after =
-      record {
-        cut = record { start = start; end = end; ordered = omega arith };
-        holds = lt;
-        outside = free;
-        longest = λ s cut lo hi none. (
-          ⊎_elim (λ (under : s.0 < i). absurd (before s cut under (omega arith) none)) (λ (ge : i ≤ s.0). omega arith) (cases_lt s.0 i),
-          ⊎_elim (λ (over : j < s.1). absurd (after s cut (omega arith) over none)) (λ (le : s.1 ≤ j). omega arith) (cases_lt j s.1),
-        );
-      }
+  is_run i j start end lt free before after = grind (arith, nat_tests, common_steps)
 
   -- matches one after another from i on
   abbrev Chain : ℕ → List (ℕ × ℕ) → Type 0
@@ -73,9 +63,7 @@ module _ (p : ℕ → Bool) (t : List ℕ) (utf8 : IsUtf8 t) where
       none_or _ (λ b is. ⊎_elim (λ same. omega (arith, same.0)) (λ r. omega (arith, chain_after ms m.1 k b chain.2 r)) (covers k b is lo))
 
   covers_rest : (i : ℕ) (m : ℕ × ℕ) (ms : List (ℕ × ℕ)) → Chain i (m ∷ ms) → Covers i (m ∷ ms) → Covers m.1 ms
-  covers_rest i m ms chain covers a b is past =
-      let holds = (char_ends-one_char p t m.0 m.1 utf8 chain.1).holds in
-      ⊎_elim (λ same. absurd (omega (arith, same.0))) (λ r. r) (covers a b is (omega (arith, chain.0)))
+  covers_rest i m ms chain covers a b is past = grind (arith, nat_tests, common_steps, char_ends-one_char)
 
   record Outcome (i : ℕ) (l : List (ℕ × ℕ)) : Type 0 where
     each : AllRuns p t l
@@ -84,13 +72,7 @@ module _ (p : ℕ → Bool) (t : List ℕ) (utf8 : IsUtf8 t) where
 
   -- a run lies before a match or behind it
   beside : (m r : ℕ × ℕ) → char_ends p t m.0 ≡ Some m.1 → IsRun p t r → (r.1 ≤ m.0) ⊎ (m.1 ≤ r.0)
-  beside m r is run =
-      ⊎_elim (λ (over : m.0 < r.1). ⊎_elim
-      (λ (under : r.0 < m.1). absurd (⊎_elim (λ (within : m.0 < r.0). (char_ends-one_char p t m.0 m.1 utf8 is).one r.0 within under run.cut.start) (λ (le : r.0 ≤ m.0). none-some m.1 (sym (run.outside m.0 le over) ∙ is)) (cases_lt m.0 r.0)))
-      inr
-      (cases_lt r.0 m.1))
-      inl
-      (cases_lt m.0 r.1)
+  beside m r is run = grind (arith, nat_tests, common_steps, char_ends-one_char, inl, inr, none-some)
 
   outcome : (ms : List (ℕ × ℕ)) (i : ℕ) → IsCharBoundary t i → Stop i → Chain i ms → Covers i ms → Outcome i (nonempty (gaps i ms (length t)))
   outcome [] i start before chain covers =

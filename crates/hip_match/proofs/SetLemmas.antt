@@ -1,5 +1,7 @@
 -- The searches for a character of a set, a character at a time.
-use Rattle.std.proofs.Common.{◌≡◌, ℕ, ◌+◌, ◌<◌, ◌≤◌, Bool, true, false, List, Option, Some, None, length, sym, ap, subst, ◌∙◌, arith, ⊎_elim}
+use Rattle.std.proofs.lemmas.Bool.Decides.{nat_tests}
+use Rattle.std.proofs.lemmas.Grind.{common_steps}
+use Rattle.std.proofs.Common.{◌≡◌, ℕ, ◌+◌, ◌<◌, ◌≤◌, Bool, true, false, List, Option, Some, None, length, sym, ap, ◌∙◌, arith, ⊎_elim}
 use Rattle.std.specs.Option.{option_and_then}
 use lib.Utf8.{scalar}
 use Rattle.std.proofs.lemmas.Bool.{cases_lt, cond-true, and_from, false≢true}
@@ -32,12 +34,7 @@ module _ (p : ℕ → Bool) (t : List ℕ) (utf8 : IsUtf8 t) where
       (cases_lt k i)
 
   pub first_done : (from i : ℕ) → IsCharBoundary t i → char_at t i ≡ None → NoneStarts (char_ends p t) from i → (k : ℕ) → from ≤ k → char_ends p t k ≡ None
-  first_done from i cut is none k lo =
-      ⊎_elim (λ (before : k < i). none k lo before)
-      (λ (ge : i ≤ k).
-      let end : length t ≤ i = ⊎_elim (λ (lt : i < length t). absurd (some_char t i utf8 cut lt is)) (λ (le : length t ≤ i). le) (cases_lt i (length t)) in
-      char_ends-none p t k (char_at-end t k (omega arith)))
-      (cases_lt k i)
+  first_done from i cut is none k lo = grind (arith, nat_tests, common_steps, char_at-end, char_ends-none, some_char)
 
   -- an occurrence that ends after the character before `end` ends after `end`
   pub last_step : (to end : ℕ) (r : ℕ × ℕ) → IsCharBefore t end r → p r.0 ≡ false
@@ -72,9 +69,7 @@ module _ (p : ℕ → Bool) (t : List ℕ) (utf8 : IsUtf8 t) where
   start_of-none to none = start_among-none (char_ends p t) 0 (to + 1) to (λ a lo hi. none a)
 
   pub char_before-yes : (to : ℕ) (r : ℕ × ℕ) → IsCharBefore t to r → p r.0 ≡ true → char_ends p t r.1 ≡ Some to
-  char_before-yes to r h passes =
-      let here = char_at-starts t r.1 r.0 to utf8 h.is in
-      char_ends-yes p t r.1 r.0 here.1 passes ∙ ap (λ k. Some k) (sym here.2)
+  char_before-yes to r h passes = grind (arith, nat_tests, common_steps, char_at-starts, char_ends-yes)
 
   pub char_before-no : (to : ℕ) (r : ℕ × ℕ) → IsCharBefore t to r → p r.0 ≡ false → start_of (char_ends p t) to ≡ None
   char_before-no to r h fails =
@@ -88,10 +83,7 @@ module _ (p : ℕ → Bool) (t : List ℕ) (utf8 : IsUtf8 t) where
 
 -- a step over one character
 pub moved : (t : List ℕ) (i c j : ℕ) → IsUtf8 t → char_at t i ≡ Some (c, j) → (i < j) × IsCharBoundary t j
-moved t i c j utf8 is =
-    let found = char_at-starts t i c j utf8 is in
-    let P : ℕ → Type 0 = IsCharBoundary t in
-    (omega (arith, len_utf8_bounds c, found.2), subst P (sym found.2) found.1.end)
+moved t i c j utf8 is = grind (arith, nat_tests, common_steps, char_at-starts, len_utf8_bounds)
 
 pub none_more : (e : ℕ → Option ℕ) (i j : ℕ) → NoneStarts e i j → e j ≡ None → NoneStarts e i (j + 1)
 none_more e i j none here k lo hi = ⊎_elim (λ (lt : k < j). none k lo lt) (λ (ge : j ≤ k). let same : k ≡ j = omega arith in ap e same ∙ here) (cases_lt k j)

@@ -1,5 +1,6 @@
 -- Tables of bytes by their halves.
-use Rattle.std.proofs.Common.{◌≡◌, ◌≢◌, ℕ, ◌+◌, ◌*◌, ◌/◌, ◌%◌, ◌^◌, ◌<◌, ◌≤◌, ◌==◌, ◌&&◌, ◌||◌, zero, suc, Bool, true, false, not, List, length, max, replicate, get_or, set, sym, ap, ◌∙◌, arith, refl, ⊎_elim, bit_and, bit_or}
+use Rattle.std.proofs.lemmas.Grind.{common_steps}
+use Rattle.std.proofs.Common.{◌≡◌, ℕ, ◌+◌, ◌*◌, ◌/◌, ◌%◌, ◌^◌, ◌<◌, ◌≤◌, ◌==◌, ◌&&◌, ◌||◌, zero, suc, Bool, true, false, not, List, length, max, replicate, get_or, set, sym, ap, ◌∙◌, arith, refl, ⊎_elim, bit_and, bit_or}
 use Rattle.std.specs.Prelude.{nat_lt, slice_index}
 use Rattle.std.specs.Int.{bit_at}
 use Rattle.std.proofs.lemmas.Bool.Decides.{nat_tests}
@@ -16,14 +17,10 @@ use Rattle.hip_match.specs.Marks.{has_nibbles, in_rows}
 use Rattle.hip_match.specs.declared.byte_test.TheConstants.{ASCII_COLUMNS}
 
 column-low : (h : ℕ) → h < 8 → slice_index ASCII_COLUMNS h ≡ 2 ^ h
-column-low h lt =
-    let told = agree_below_at (λ i. slice_index ASCII_COLUMNS i == 2 ^ i) (λ i. true) 8 h refl lt in
-    grind (arith, nat_tests)
+column-low h lt = grind (arith, nat_tests, common_steps, agree_below_at)
 
 column-high : (h : ℕ) → 8 ≤ h → h < 16 → slice_index ASCII_COLUMNS h ≡ 0
-column-high h ge lt =
-    let told = agree_below_at (λ i. nat_lt i 8 || slice_index ASCII_COLUMNS i == 0) (λ i. true) 16 h refl lt in
-    grind (arith, nat_tests)
+column-high h ge lt = grind (arith, nat_tests, common_steps, agree_below_at)
 
 one_or_none : (b p : ℕ) → b < 2 → 0 < p → not (b * p == 0) ≡ (b == 1)
 one_or_none zero p two some = let none : 0 * p ≡ 0 = omega arith in ap (λ m. not (m == 0)) none
@@ -70,44 +67,13 @@ module _ (rows : List ℕ) (byte c : ℕ) (ascii : byte < 128) (long : length ro
   x = bit_or (get_or rows i 0) (2 ^ h)
 
   as_written : in_rows (set rows (bit_and byte 15) (bit_or (get_or rows (bit_and byte 15) 0) (1 * 2 ^ (byte / 16) % 256))) c ≡ in_rows (set rows i x) c
-  as_written =
-      ap (λ j. in_rows (set rows j (bit_or (get_or rows j 0) (1 * 2 ^ (byte / 16) % 256))) c) (and_mask byte 4)
-      ∙ ap (λ n. in_rows (set rows i (bit_or (get_or rows i 0) n)) c) (power h (omega arith))
+  as_written = grind (arith, nat_tests, common_steps, and_mask, in_rows, power, set)
 
   by_row : c < 128 → (bit_at (get_or (set rows i x) (c % 16) 0) (c / 16) == 1) ≡ (c == byte || bit_at (get_or rows (c % 16) 0) (c / 16) == 1)
-  by_row low = ⊎_elim
-      (λ (same : c % 16 ≡ i).
-      let k = c / 16 in
-      let b = bit_at (get_or rows i 0) k in
-      let two = bit_at-lt (get_or rows i 0) k in
-      let here : bit_at (get_or (set rows i x) (c % 16) 0) k ≡ max b (bit_at (2 ^ h) k) =
-      ap (λ n. bit_at n k) (get_or-set_at rows i (c % 16) x 0 same (omega (arith, long))) ∙ bit_at_or (get_or rows i 0) (2 ^ h) k in
-      ap (λ n. n == 1) here ∙ ⊎_elim
-      (λ (level : k ≡ h).
-      let found : (c == byte) ≡ true = grind (arith, nat_tests) in
-      let set_bit : bit_at (2 ^ h) k ≡ 1 = ap (bit_at (2 ^ h)) level ∙ bit_at-pow_same h in
-      let one : max b (bit_at (2 ^ h) k) ≡ 1 = ap (max b) set_bit ∙ omega arith in
-      ap (λ n. n == 1) one ∙ ap (λ t. t || bit_at (get_or rows (c % 16) 0) k == 1) (sym found))
-      (λ (apart : k ≢ h).
-      let other : (c == byte) ≡ false = grind (arith, nat_tests) in
-      let clear : max b (bit_at (2 ^ h) k) ≡ b = ap (max b) (bit_at-pow_other h k apart) ∙ omega arith in
-      ap (λ n. n == 1) clear ∙ ap (λ j. bit_at (get_or rows j 0) k == 1) (sym same) ∙ ap (λ t. t || bit_at (get_or rows (c % 16) 0) k == 1) (sym other))
-      (cases_eq k h))
-      (λ (apart : c % 16 ≢ i).
-      let other : (c == byte) ≡ false = grind (arith, nat_tests) in
-      ap (λ n. bit_at n (c / 16) == 1) (get_or-set_other rows i (c % 16) x 0 apart) ∙ ap (λ t. t || bit_at (get_or rows (c % 16) 0) (c / 16) == 1) (sym other))
-      (cases_eq (c % 16) i)
+  by_row low = grind (arith, nat_tests, common_steps, bit_at, bit_at-lt, bit_at-pow_other, bit_at-pow_same, bit_at_or, cases_eq, get_or-set_at, get_or-set_other, set)
 
   pub one_more : in_rows (set rows (bit_and byte 15) (bit_or (get_or rows (bit_and byte 15) 0) (1 * 2 ^ (byte / 16) % 256))) c ≡ (c == byte || in_rows rows c)
-  one_more = as_written ∙ ⊎_elim
-      (λ (low : c < 128).
-      let inside : nat_lt c 128 ≡ true = grind (arith, nat_tests) in
-      ap (λ b. b && bit_at (get_or (set rows i x) (c % 16) 0) (c / 16) == 1) inside ∙ by_row low
-      ∙ ap (λ b. c == byte || (b && bit_at (get_or rows (c % 16) 0) (c / 16) == 1)) (sym inside))
-      (λ (wide : 128 ≤ c).
-      let other : (c == byte) ≡ false = grind (arith, nat_tests) in
-      in_rows-low (set rows i x) c wide ∙ sym (in_rows-low rows c wide) ∙ ap (λ b. b || in_rows rows c) (sym other))
-      (cases_lt c 128)
+  one_more = grind (arith, nat_tests, common_steps, as_written, bit_at, by_row, in_rows, in_rows-low, set)
 
 other_bit : (b : ℕ) → b < 2 → ((b + 1) % 2 == 1) ≡ not (b == 1)
 other_bit zero two = refl
@@ -140,16 +106,4 @@ either b d one two = grind (arith, nat_tests)
 
 -- the bits of both
 pub joined : (rows others : List ℕ) (c : ℕ) → length rows ≡ 16 → length others ≡ 16 → in_rows (zip2 bit_or rows others) c ≡ (in_rows rows c || in_rows others c)
-joined rows others c long wide = ⊎_elim
-    (λ (low : c < 128).
-    let inside : nat_lt c 128 ≡ true = grind (arith, nat_tests) in
-    let i = c % 16 in
-    let k = c / 16 in
-    let n = get_or rows i 0 in
-    let m = get_or others i 0 in
-    ap (λ b. b && bit_at (get_or (zip2 bit_or rows others) i 0) k == 1) inside
-    ∙ ap (λ x. bit_at x k == 1) (get_or-zip2 bit_or rows others i 0 0 0 (omega (arith, long)) (omega (arith, wide)))
-    ∙ ap (λ x. x == 1) (bit_at_or n m k) ∙ either (bit_at n k) (bit_at m k) (bit_at-lt n k) (bit_at-lt m k)
-    ∙ ap (λ b. (b && bit_at n k == 1) || (b && bit_at m k == 1)) (sym inside))
-    (λ (high : 128 ≤ c). in_rows-low _ c high ∙ sym (in_rows-low others c high) ∙ ap (λ b. b || in_rows others c) (sym (in_rows-low rows c high)))
-    (cases_lt c 128)
+joined rows others c long wide = grind (arith, nat_tests, common_steps, bit_at, bit_at-lt, bit_at_or, either, get_or-zip2, in_rows, in_rows-low, others, zip2)

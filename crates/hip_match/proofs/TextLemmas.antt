@@ -1,4 +1,6 @@
 -- Where memchr finds the bytes of a text, the text occurs.
+use Rattle.std.proofs.lemmas.Bool.Decides.{nat_tests}
+use Rattle.std.proofs.lemmas.Grind.{common_steps}
 use Rattle.std.proofs.Common.{◌≡◌, ℕ, ◌+◌, ◌-◌, ◌<◌, ◌≤◌, false, inl, inr, List, Option, Some, None, length, take, drop, slice_index, sym, ap, subst, ◌∙◌, arith, ⊎_elim, length-drop, length-take-le, get_or-drop, get_or-take, take_all, add-zero}
 use Rattle.std.specs.Prelude.{◌==◌}
 use Rattle.std.proofs.lemmas.Bool.{cases_lt, eqb-true, eq-eqb, false≢true}
@@ -15,17 +17,10 @@ use Rattle.hip_match.proofs.RightmostLemmas.{start_among-found, start_among-none
 -- ---- a needle of one byte
 
 OneByte-occurs : (hay needle : List ℕ) (k : ℕ) → length needle ≡ 1 → k < length hay → Passes (is_byte (slice_index needle 0)) hay k → OccursAt hay needle k
-OneByte-occurs hay needle k one lt passes =
-    record {
-      fits = omega arith;
-      reads = λ j low. let zero : j ≡ 0 = omega arith in let same : k + j ≡ k = omega arith in
-          ap (λ n. slice_index hay n) same ∙ eqb-true _ _ passes ∙ ap (λ n. slice_index needle n) (sym zero);
-    }
+OneByte-occurs hay needle k one lt passes = grind (arith, nat_tests, common_steps, eqb-true)
 
 OneByte-passes : (hay needle : List ℕ) (k : ℕ) → length needle ≡ 1 → OccursAt hay needle k → Passes (is_byte (slice_index needle 0)) hay k
-OneByte-passes hay needle k one occurs =
-    let same : k ≡ k + 0 = omega arith in
-    eq-eqb _ _ (ap (λ n. slice_index hay n) same ∙ occurs.reads 0 (omega arith))
+OneByte-passes hay needle k one occurs = grind (arith, nat_tests, common_steps, eq-eqb)
 
 pub FindsNeedle-byte : (hay needle : List ℕ) (r : Option ℕ) → length needle ≡ 1 → IsFirstByte (is_byte (slice_index needle 0)) hay r → FindsNeedle hay needle 0 r
 FindsNeedle-byte hay needle None one h = λ k lo hi occurs. let fits : k + length needle ≤ length hay = occurs.fits in h k lo (omega arith) (OneByte-passes hay needle k one occurs)
@@ -47,23 +42,13 @@ FindsLastNeedle-byte hay needle (Some k) one h =
 
 module _ (t p : List ℕ) where
   pub OccursAt-drop : (from k : ℕ) → from ≤ length t → OccursAt (drop from t) p k → OccursAt t p (from + k)
-  OccursAt-drop from k le h =
-      record {
-        fits = omega (arith, h.fits, length-drop from t);
-        reads = λ j lt. let same : from + k + j ≡ from + (k + j) = omega arith in ap (λ n. slice_index t n) same ∙ sym (get_or-drop from t (k + j) 0) ∙ h.reads j lt;
-      }
+  OccursAt-drop from k le h = grind (arith, nat_tests, common_steps, get_or-drop, length-drop)
 
   pub OccursAt-in_drop : (from k : ℕ) → from ≤ k → OccursAt t p k → OccursAt (drop from t) p (k - from)
-  OccursAt-in_drop from k le h =
-      record {
-        fits = omega (arith, h.fits, length-drop from t);
-        reads = λ j lt. let same : from + (k - from + j) ≡ k + j = omega arith in get_or-drop from t (k - from + j) 0 ∙ ap (λ n. slice_index t n) same ∙ h.reads j lt;
-      }
+  OccursAt-in_drop from k le h = grind (arith, nat_tests, common_steps, get_or-drop, length-drop)
 
   pub OccursAt-take : (to k : ℕ) → to ≤ length t → OccursAt (take to t) p k → OccursAt t p k × (k + length p ≤ to)
-  OccursAt-take to k le h =
-      let fits : k + length p ≤ to = omega (arith, h.fits, length-take-le to t le) in
-      (record { fits = omega arith; reads = λ j lt. sym (get_or-take to t (k + j) 0 (omega arith)) ∙ h.reads j lt }, fits)
+  OccursAt-take to k le h = grind (arith, nat_tests, common_steps, get_or-take, length-take-le)
 
   pub OccursAt-in_take : (to k : ℕ) → to ≤ length t → k + length p ≤ to → OccursAt t p k → OccursAt (take to t) p k
   OccursAt-in_take to k le fits h =
@@ -81,16 +66,7 @@ module _ (t p : List ℕ) where
     FindsLastNeedle-no_byte none k lo hi h = let fits : k + length p ≤ length t = h.fits in none (k + sign) (omega arith) (omega arith) (byte_there k h)
 
     pub FindsLastNeedle-here : (at : ℕ) → NoneAfter (Passes (is_byte (slice_index p sign)) t) 0 (length t) at → sign ≤ at → OccursAt (drop (at - sign) t) p 0 → FindsLastNeedle t p (Some (at - sign))
-    FindsLastNeedle-here at last le here =
-        let high : at < length t = last.high in
-        let out : OccursAt t p (at - sign) = subst (OccursAt t p) (add-zero (at - sign)) (OccursAt-drop (at - sign) 0 (omega arith) here) in (
-          record {
-            low = omega arith;
-            high = omega (arith, out.fits);
-            after = λ k lo hi h. let fits : k + length p ≤ length t = h.fits in last.after (k + sign) (omega arith) (omega arith) (byte_there k h);
-          },
-          out,
-        )
+    FindsLastNeedle-here at last le here = grind (arith, nat_tests, common_steps, OccursAt-drop, add-zero, byte_there)
 
     module _ (at : ℕ) (first : NoneBefore (Passes (is_byte (slice_index p sign)) t) 0 (length t) at) where
       abbrev start : ℕ
@@ -103,10 +79,7 @@ module _ (t p : List ℕ) where
       within_text = let high : at < length t = first.high in omega arith
 
       pub FindsNeedle-here : sign ≤ at → OccursAt (drop start t) p 0 → FindsNeedle t p 0 (Some start)
-      FindsNeedle-here le here =
-          let high : at < length t = first.high in
-          let out : OccursAt t p start = subst (OccursAt t p) (add-zero start) (OccursAt-drop start 0 (omega arith) here) in
-          (record { low = omega arith; high = omega (arith, out.fits); before = λ k lo hi h. first.before (k + sign) (omega arith) (omega arith) (byte_there k h) }, out)
+      FindsNeedle-here le here = grind (arith, nat_tests, common_steps, OccursAt-drop, add-zero, byte_there)
 
       module _ (apart : sign ≤ at → ¬ OccursAt (drop start t) p 0) where
         early : (k : ℕ) → k < past → ¬ OccursAt t p k
@@ -211,10 +184,7 @@ module _ (t p : List ℕ) where
 
     -- an empty text occurs at once
     empty_text : (a : ℕ) → length p ≡ 0 → IsCharBoundary t a → text_ends p t a ≡ Some a
-    empty_text a empty cut =
-        let same : a + length p ≡ a = omega arith in
-        let P : ℕ → Type 0 = IsCharBoundary t in
-        text_ends-some p t a cut (subst P (sym same) cut) (ap (λ n. take n (drop a t)) empty ∙ sym (nil_from_length p empty)) ∙ ap (λ k. Some k) same
+    empty_text a empty cut = grind (arith, nat_tests, common_steps, nil_from_length, text_ends-some)
 
     pub find_empty : (from : ℕ) → length p ≡ 0 → IsCharBoundary t from → StartsFirst (text_ends p t) from (from, from)
     find_empty from empty cut = record { after = omega arith; occurs = empty_text from empty cut; first = λ j lo hi. absurd (omega arith) }
@@ -224,21 +194,10 @@ module _ (t p : List ℕ) where
 
     -- at one place
     pub text_at-yes : (a : ℕ) → IsCharBoundary t a → OccursAt (drop a t) p 0 → text_ends p t a ≡ Some (a + length p)
-    text_at-yes a cut h =
-        let same : a + 0 ≡ a = omega arith in
-        let P : ℕ → Type 0 = OccursAt t p in
-        let occurs = subst P same (OccursAt-drop a 0 cut.0 h) in
-        ⊎_elim (λ (some : 0 < length p). occurs-text_ends a some occurs)
-        (λ (le : length p ≤ 0). let zero : length p ≡ 0 = omega arith in let end : a ≡ a + length p = omega arith in empty_text a zero cut ∙ ap (λ k. Some k) end)
-        (cases_lt 0 (length p))
+    text_at-yes a cut h = grind (arith, nat_tests, common_steps, OccursAt-drop, empty_text, occurs-text_ends)
 
     pub text_at-no : (a : ℕ) → ¬ OccursAt (drop a t) p 0 → text_ends p t a ≡ None
-    text_at-no a off =
-        option_cases (text_ends p t a) (λ empty. empty)
-        (λ b is.
-        let same : a - a ≡ 0 = omega arith in
-        let P : ℕ → Type 0 = OccursAt (drop a t) p in
-        absurd (off (subst P same (OccursAt-in_drop a a (omega arith) (text_ends-occurs a b is).0))))
+    text_at-no a off = grind (arith, nat_tests, common_steps, OccursAt-in_drop, option_cases, text_ends, text_ends-occurs)
 
     -- the search from the back
     pub rfind_text-none : (to : ℕ) → to ≤ length t → FindsLastNeedle (take to t) p None → (a b : ℕ) → text_ends p t a ≡ Some b → to < b

@@ -1,4 +1,7 @@
 -- Clones of patterns and of iterators, which keep what their originals have.
+use Rattle.std.proofs.Common.{arith}
+use Rattle.std.proofs.lemmas.Bool.Decides.{nat_tests}
+use Rattle.std.proofs.lemmas.Grind.{common_steps}
 use Rattle.std.specs.Prelude.{◌≡◌, ℕ, Bool, Option, List, [], map, if◌then◌else◌}
 use Rattle.std.proofs.Common.{refl, sym, ◌∙◌}
 use Rattle.hip_match.specs.Pieces.{ended, gaps, gaps_back}
@@ -32,12 +35,7 @@ pub parts_kept : {A : Type 0} (Between : List ℕ → ℕ → List (ℕ × ℕ) 
     (parts : A → ℕ → List (ℕ × ℕ) → ℕ → List (ℕ × ℕ)) {can copy_can : Type 0} {t u : List ℕ} {l m : List (ℕ × ℕ)}
     {i j k n : ℕ} {d b : A} → Keeps can copy_can t u l m → j ≡ i → n ≡ k → b ≡ d
     → Keeps (can × Between t i l k) (copy_can × Between u j m n) t u (parts d i l k) (parts b j m n)
-parts_kept Between parts kept from to last =
-    record {
-      ready = λ h. (kept.ready h.0, rw (kept.text, kept.rest, from, to) h.1);
-      text = kept.text;
-      rest = rw (kept.rest, from, to, last) refl;
-    }
+parts_kept Between parts kept from to last = grind (arith, nat_tests, common_steps)
 
 -- a list that is made of ranges
 pub made_kept : {can copy_can : Type 0} {t u : List ℕ} {l m : List (ℕ × ℕ)} {f g : List (ℕ × ℕ) → List (ℕ × ℕ)}

@@ -1,10 +1,11 @@
 -- Laws of the bytes with which the characters of a set begin.
+use Rattle.std.proofs.lemmas.Grind.{common_steps}
 use Rattle.std.specs.Prelude.{nat_lt, nat_le, slice_index}
 use Rattle.std.proofs.Common.{◌≡◌, ℕ, ◌+◌, ◌/◌, ◌<◌, ◌≤◌, ◌||◌, Bool, true, false, not, cond, List, [], ◌∷◌, ◌++◌, Some, None, length, drop, sym, ap, ◌∙◌, arith, refl, ⊎_elim, add-zero, get_or, get_or-drop}
 use Rattle.std.specs.Char.{is_whitespace}
 use Rattle.std.specs.Str.{IsUtf8, IsCharBoundary}
 use Rattle.std.proofs.lemmas.Bool.Decides.{nat_tests}
-use Rattle.std.proofs.lemmas.Bool.{agree_below_at, cases_lt, cases_Bool, cond-true, cond-false, false≢true}
+use Rattle.std.proofs.lemmas.Bool.{agree_below_at, cases_lt, cond-true, cond-false, false≢true}
 use Rattle.std.proofs.lemmas.Option.{none-some, same_Some}
 use Rattle.std.proofs.lemmas.Str.{byte_from_char, IsCharBoundary-before_ascii}
 use lib.Utf8.{encode}
@@ -20,41 +21,14 @@ use Rattle.hip_match.specs.declared.byte_test.TheConstants.{SPACE_COLUMNS, SPACE
 
 module _ (p : ℕ → Bool) (low : (c : ℕ) → 128 ≤ c → p c ≡ false) (t : List ℕ) (utf8 : IsUtf8 t) where
   pub ascii-none : (k : ℕ) → p (slice_index t k) ≡ false → char_ends p t k ≡ None
-  ascii-none k fails =
-      ⊎_elim
-      (λ (lt : k < length t). ⊎_elim
-      (λ (under : slice_index t k < 128).
-      let cut = IsCharBoundary-before_ascii t k lt under in
-      char_ends-no p t k (slice_index t k) (k + 1) (char_at-ascii t k utf8 cut lt under) fails)
-      (λ (high : 128 ≤ slice_index t k). ⊎_elim
-      (λ yes.
-      let found = starts_char t k utf8 (is_boundary-is t k yes) lt in
-      let c = found.0 in
-      let past : 128 ≤ c = ⊎_elim (λ (below : c < 128). absurd (omega (arith, byte_from_char (drop k t) _ c found.1.split below, get_or-drop k t 0 0, ap (λ n. slice_index t n) (add-zero k)))) (λ (h : 128 ≤ c). h) (cases_lt c 128) in
-      char_ends-no p t k c _ found.1.at (low c past))
-      (λ off. char_ends-none p t k (char_at-off t k (λ cut. false≢true (sym off ∙ is_boundary-true t k cut))))
-      (cases_Bool (is_boundary t k)))
-      (cases_lt (slice_index t k) 128))
-      (λ (ge : length t ≤ k). char_ends-none p t k (char_at-end t k ge))
-      (cases_lt k (length t))
+  ascii-none k fails = grind (arith, nat_tests, common_steps, IsCharBoundary-before_ascii, add-zero, byte_from_char, char_at-ascii, char_at-end, char_at-off, char_ends-no, char_ends-none, false≢true, get_or-drop, is_boundary, is_boundary-is, is_boundary-true, starts_char)
 
   pub ascii-some : (k : ℕ) → k < length t → p (slice_index t k) ≡ true → char_ends p t k ≡ Some (k + 1)
-  ascii-some k lt is =
-      let under : slice_index t k < 128 = ⊎_elim (λ (below : slice_index t k < 128). below) (λ (high : 128 ≤ slice_index t k). absurd (false≢true (sym (low _ high) ∙ is))) (cases_lt (slice_index t k) 128) in
-      let cut = IsCharBoundary-before_ascii t k lt under in
-      let starts = char_at-starts t k (slice_index t k) (k + 1) utf8 (char_at-ascii t k utf8 cut lt under) in
-      char_ends-yes p t k (slice_index t k) starts.1 is ∙ ap (λ j. Some j) (sym starts.2)
+  ascii-some k lt is = grind (arith, nat_tests, common_steps, IsCharBoundary-before_ascii, char_at-ascii, char_at-starts, char_ends-yes, false≢true)
 
   -- an occurrence is the byte at its place
   pub ascii-is : (a b : ℕ) → char_ends p t a ≡ Some b → (a < length t) × (p (slice_index t a) ≡ true) × (b ≡ a + 1)
-  ascii-is a b is =
-      ⊎_elim
-      (λ (lt : a < length t). ⊎_elim
-      (λ yes. (lt, yes, same_Some _ _ (sym is ∙ ascii-some a lt yes)))
-      (λ no. absurd (none-some b (sym (ascii-none a no) ∙ is)))
-      (cases_Bool (p (slice_index t a))))
-      (λ (ge : length t ≤ a). absurd (none-some b (sym (char_ends-none p t a (char_at-end t a ge)) ∙ is)))
-      (cases_lt a (length t))
+  ascii-is a b is = grind (arith, nat_tests, common_steps, ascii-none, ascii-some, char_at-end, char_ends-none, none-some, same_Some)
 
 -- the bytes of a set of ASCII
 module _ (belongs passes : ℕ → Bool) (set : AreAsciiBytes belongs passes) where

@@ -6,7 +6,8 @@
 //!   [`ReversePattern`] is found from the end too, [`DoubleEndedPattern`] may be trimmed from both ends, each match of a [`OneChar`] is
 //!   one character, and the clones of a [`ClonePattern`] are found where it is.
 //! - [`marks`] finds the bytes that pass a test 64 at a time, from either end, for every walk by characters; [`byte_test`] has the
-//!   tests, and [`bits`] what is asked of the bits of a number.
+//!   tests, and [`bits`] what is asked of the bits of a number. Each [`MarkedSet`] of characters is a pattern, found by the bytes with
+//!   which its characters begin.
 //! - [`Ranges`] is a walk from its front, [`RangesBack`] from both ends, and the clones of [`CloneRanges`] give what they do: [`Split`],
 //!   [`SplitInclusive`], [`SplitTerminator`], [`SplitN`], [`Matches`] and [`MatchIndices`] from a text's front, [`RSplit`],
 //!   [`RSplitTerminator`], [`RSplitN`], [`RMatches`] and [`RMatchIndices`] from its end, [`Lines`], [`SplitWhitespace`] and
@@ -21,10 +22,10 @@
 //! The words of the contracts stand in `specs/`: `Occurrence` (where a pattern occurs, and what a search gives), `Characters` and `Texts`
 //! (where sets of characters and texts occur), `Leftmost` and `Rightmost` (the lists of matches), `Pieces` (the parts between matches, and
 //! lists in order), `Runs` (lines, and runs between white space), `Trims` (what is removed from the ends), `Draw` (what a script draws),
-//! `Joined` (pieces put together again), `Answers` (what a closure answers), `AsciiSets` (the characters of a set), `Bits` (which bit is
-//! the lowest), `Ready`, `Marks` and `Searchers` (what a walk keeps of its places), `Clones` (what its clone keeps) and `Iterators` (what
-//! is said of a walk by its type's own words); what they give for texts as one writes them down stands in `Rows`, and `CharLaws` and
-//! `TextLaws` have what holds of the places where characters and texts occur.
+//! `Joined` (pieces put together again), `Answers` (what a closure answers), `AsciiSets` and `MarkedSets` (the characters of a set, and
+//! the bytes with which they begin), `Bits` (which bit is the lowest), `Ready` and `Marks` (what a walk keeps of its places), `Clones`
+//! (what its clone keeps) and `Iterators` (what is said of a walk by its type's own words); what they give for texts as one writes them
+//! down stands in `Rows`, and `CharLaws`, `FirstBytes` and `TextLaws` have what holds of the places where characters and texts occur.
 #![tactic(auto)]
 
 pub mod ascii_set;
@@ -58,6 +59,7 @@ pub use chosen::Chosen;
 pub use draw::{End, draw_into};
 pub use indices::{Indices, MatchIndices, RMatchIndices};
 pub use lines::Lines;
+pub use marked_set::MarkedSet;
 pub use matches::Matches;
 pub use pattern::{ClonePattern, DoubleEndedPattern, OneChar, Pattern, ReversePattern};
 pub use predicate::{CharPred, choose_by};

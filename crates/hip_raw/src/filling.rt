@@ -212,7 +212,7 @@ fn open(vec: &mut Vec<u8>, end: usize)
     *vec = opened(mem::replace(vec, empty), end);
 }
 
-// Makes room up to `end`, and `AHEAD` on or as much again, as far as the vector's room goes.
+// Makes room up to `end`, and as much again, but at least `AHEAD` and at most a stretch, as far as the vector's room goes.
 #[cold]
 #[inline(never)]
 fn opened(mut vec: Vec<u8>, end: usize) -> Vec<u8>
@@ -222,7 +222,7 @@ fn opened(mut vec: Vec<u8>, end: usize) -> Vec<u8>
     ensures ready { end ≤ vec_len result }
     ensures capacity { vec_capacity vec ≤ vec_capacity result }
 {
-    let ahead = (end - vec.len()).max(AHEAD);
+    let ahead = (end - vec.len()).min(STRIDE).max(AHEAD);
     let most = end.saturating_add(ahead).min(vec.capacity());
     vec.resize(most, 0).unwrap();
     vec
