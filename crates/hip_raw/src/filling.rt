@@ -10,7 +10,7 @@ use std::mem;
 /// The number of bytes that a long addition copies at a time.
 const STRIDE: usize = 4096;
 
-/// The number of bytes that are made ready beyond what is needed, where that is no more. It is small, so that short parts find them in the
+/// The number of bytes that are made ready beyond what a short part needs. It is small, so that short parts find them in the
 /// first cache.
 const AHEAD: usize = 1024;
 
@@ -212,7 +212,7 @@ fn open(vec: &mut Vec<u8>, end: usize)
     *vec = opened(mem::replace(vec, empty), end);
 }
 
-// Makes room up to `end`, and as much again, but at least `AHEAD` and at most a stretch, as far as the vector's room goes.
+// Makes room up to `end`, and `AHEAD` on, or a stretch where a longer part asks for it, as far as the vector's room goes.
 #[cold]
 #[inline(never)]
 fn opened(mut vec: Vec<u8>, end: usize) -> Vec<u8>
@@ -222,7 +222,11 @@ fn opened(mut vec: Vec<u8>, end: usize) -> Vec<u8>
     ensures ready { end ≤ vec_len result }
     ensures capacity { vec_capacity vec ≤ vec_capacity result }
 {
-    let ahead = (end - vec.len()).min(STRIDE).max(AHEAD);
+    let ahead = if end - vec.len() <= AHEAD {
+        AHEAD
+    } else {
+        STRIDE
+    };
     let most = end.saturating_add(ahead).min(vec.capacity());
     vec.resize(most, 0).unwrap();
     vec
