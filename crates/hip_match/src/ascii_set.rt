@@ -1,18 +1,21 @@
 //! Sets of characters of ASCII.
 #![tactic(auto, using(crate::proofs::Rules::ascii_set))]
 
-ghost use Rattle.std.specs.Prelude.{◌≡◌, ◌==◌, ◌+◌, ◌<◌, ◌≤◌, ◌&&◌, ◌||◌, ℕ, false, not, length, slice_index, if◌then◌else◌};
+ghost use Rattle.std.specs.Prelude.{IfSome, ◌≡◌, ◌==◌, ◌+◌, ◌<◌, ◌≤◌, ◌&&◌, ◌||◌, ℕ, false, not, length, slice_index, if◌then◌else◌};
 ghost use Rattle.std.specs.Int.{bit_at};
 ghost use Rattle.std.specs.Char.{is_ascii, is_ascii_alphabetic, is_ascii_alphanumeric, is_ascii_whitespace};
 ghost use Rattle.hip_match.specs.AsciiSets.{in_set};
+ghost use Rattle.hip_match.specs.Characters.{char_ends};
+ghost use Rattle.hip_match.specs.CharLaws.{char_ends-spans, char_ends-one_start, char_ends-one_char};
 ghost use Rattle.hip_match.specs.FirstBytes.{ascii_first_bytes};
+ghost use Rattle.hip_match.specs.Marks.{Ahead, Behind};
 ghost use Rattle.hip_match.specs.MarkedSets.{AreAsciiBytes};
 
 use crate::byte_test::{AsciiTable, ByteTest};
-use crate::chars::CharSet;
-use crate::marked_set::MarkedSet;
-use crate::marks::block;
-use crate::pattern::{ClonePattern, DoubleEndedPattern};
+use crate::chars::{CharSet, end_of, start_before};
+use crate::marked_set::{MarkedSet, last_marked, marked_searcher, next_marked};
+use crate::marks::{Marks, block};
+use crate::pattern::{ClonePattern, DoubleEndedPattern, OneChar, Pattern, ReversePattern};
 use std::simd::prelude::*;
 
 /// A set of characters of ASCII. A walk finds them 64 bytes at a time.
@@ -157,6 +160,83 @@ impl MarkedSet for AsciiSet {
     fn end_at_mark(&self, _test: &AsciiTable, _text: &str, at: usize) -> Option<usize> {
         Some(at + 1)
     }
+}
+
+impl Pattern for AsciiSet {
+    type Searcher = Option<Marks<AsciiTable>>;
+
+    ghost ends = { λ s. char_ends (in_set s) };
+
+    ghost is_ready = { λ s m text from. IfSome m (λ marks. AreAsciiBytes (in_set s) (⟦<AsciiTable as ByteTest>⟧.passes marks.test)
+        × Ahead (⟦<AsciiTable as ByteTest>⟧.passes marks.test) text from marks.front.next marks.front.bits) };
+
+    ghost is_ready_back = { λ s m text to. IfSome m (λ marks. AreAsciiBytes (in_set s) (⟦<AsciiTable as ByteTest>⟧.passes marks.test)
+        × Behind (⟦<AsciiTable as ByteTest>⟧.passes marks.test) text to marks.back.start marks.back.bits) };
+
+    #[inline]
+    fn searcher(&self, _text: &str, from: usize, to: usize) -> Option<Marks<AsciiTable>> {
+        marked_searcher(self, from, to)
+    }
+
+    #[inline]
+    fn next_match(&self, text: &str, from: usize) -> Option<(usize, usize)> {
+        next_marked(
+            self,
+            &mut marked_searcher(self, from, text.len()),
+            text,
+            from,
+        )
+    }
+
+    #[inline(always)]
+    fn next_match_by(
+        &self,
+        searcher: &mut Option<Marks<AsciiTable>>,
+        text: &str,
+        from: usize,
+    ) -> Option<(usize, usize)> {
+        next_marked(self, searcher, text, from)
+    }
+
+    #[inline]
+    fn match_at(&self, text: &str, at: usize) -> Option<usize> {
+        end_of(self, text, at)
+    }
+
+    ghost spans = { λ s. char_ends-spans (in_set s) };
+}
+
+impl ReversePattern for AsciiSet {
+    #[inline]
+    fn reverse_searcher(&self, _text: &str, from: usize, to: usize) -> Option<Marks<AsciiTable>> {
+        marked_searcher(self, from, to)
+    }
+
+    #[inline]
+    fn last_match(&self, text: &str, to: usize) -> Option<(usize, usize)> {
+        last_marked(self, &mut marked_searcher(self, 0, to), text, to)
+    }
+
+    #[inline(always)]
+    fn last_match_by(
+        &self,
+        searcher: &mut Option<Marks<AsciiTable>>,
+        text: &str,
+        to: usize,
+    ) -> Option<(usize, usize)> {
+        last_marked(self, searcher, text, to)
+    }
+
+    #[inline]
+    fn match_before(&self, text: &str, to: usize) -> Option<usize> {
+        start_before(self, text, to)
+    }
+
+    ghost one_start = { λ s. char_ends-one_start (in_set s) };
+}
+
+impl OneChar for AsciiSet {
+    ghost one_char = { λ s. char_ends-one_char (in_set s) };
 }
 
 impl ClonePattern for AsciiSet {

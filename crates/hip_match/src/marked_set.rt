@@ -1,21 +1,19 @@
-//! Sets of characters as patterns. A walk finds their characters by the bytes with which they begin.
+//! Sets of characters, which a walk finds by the bytes with which they begin.
 #![tactic(auto, using(crate::proofs::Rules::marked_set))]
 
-ghost use Rattle.std.specs.Prelude.{◌≡◌, ◌<◌, ℕ, Bool, IfSome, length};
+ghost use Rattle.std.specs.Prelude.{◌≡◌, ◌<◌, ◌≤◌, ℕ, Bool, List, IfSome, length};
 ghost use Rattle.std.specs.Str.{IsCharBoundary};
 ghost use Rattle.memchr.specs.Find.{Passes};
 ghost use Rattle.hip_match.specs.Characters.{char_ends};
-ghost use Rattle.hip_match.specs.CharLaws.{char_ends-spans, char_ends-one_start, char_ends-one_char};
 ghost use Rattle.hip_match.specs.MarkedSets.{AreFirstBytes};
 ghost use Rattle.hip_match.specs.Marks.{Ahead, Behind};
-ghost use Rattle.hip_match.specs.Occurrence.{IsLastMatch, IsNextMatch};
+ghost use Rattle.hip_match.specs.Occurrence.{GoesOnAt, GoesOnBefore, IsLastMatch, IsNextMatch};
 
 use crate::byte_test::ByteTest;
-use crate::chars::{CharSet, end_of, first_of, last_of, start_before};
+use crate::chars::{CharSet, first_of, last_of};
 use crate::marks::Marks;
-use crate::pattern::{OneChar, Pattern, ReversePattern};
 
-/// A set of characters that is a pattern.
+/// A set of characters that is found by the bytes with which they begin.
 pub trait MarkedSet: CharSet + Drop {
     /// Tests the bytes with which the characters begin.
     type Test: ByteTest;
@@ -60,98 +58,87 @@ pub trait MarkedSet: CharSet + Drop {
     ghost first_bytes: { (s : Self) (passes : ℕ → Bool) → is_found_by s passes → AreFirstBytes (Self.belongs s) passes };
 }
 
-impl<S: MarkedSet> Pattern for S {
-    type Searcher = Option<Marks<S::Test>>;
-
-    ghost can_search = { λ s. S.can_test s };
-
-    ghost ends = { λ s. char_ends (S.belongs s) };
-
-    ghost is_ready = { λ s m text from. IfSome m (λ marks. S.is_found_by s (⟦<S::Test as ByteTest>⟧.passes marks.test)
-        × Ahead (⟦<S::Test as ByteTest>⟧.passes marks.test) text from marks.front.next marks.front.bits) };
-
-    ghost is_ready_back = { λ s m text to. IfSome m (λ marks. S.is_found_by s (⟦<S::Test as ByteTest>⟧.passes marks.test)
-        × Behind (⟦<S::Test as ByteTest>⟧.passes marks.test) text to marks.back.start marks.back.bits) };
-
-    #[inline]
-    fn searcher(&self, _text: &str, from: usize, to: usize) -> Option<Marks<S::Test>> {
-        Some(Marks::new(self.test()?, from, to))
-    }
-
-    #[inline]
-    fn next_match(&self, text: &str, from: usize) -> Option<(usize, usize)> {
-        self.next_match_by(&mut self.searcher(text, from, text.len()), text, from)
-    }
-
-    #[inline(always)]
-    fn next_match_by(
-        &self,
-        searcher: &mut Option<Marks<S::Test>>,
-        text: &str,
-        from: usize,
-    ) -> Option<(usize, usize)> {
-        let Some(marks) = searcher else {
-            return self.first_unmarked(text, from);
-        };
-        let bytes = text.as_bytes();
-        let mut past = from;
-        while let Some(at) = marks.front.next(&marks.test, bytes, past) {
-            if let Some(end) = self.end_at_mark(&marks.test, text, at) {
-                return Some((at, end));
-            }
-            past = at + 1;
-        }
-        None
-    }
-
-    #[inline]
-    fn match_at(&self, text: &str, at: usize) -> Option<usize> {
-        end_of(self, text, at)
-    }
-
-    ghost spans = { λ s. char_ends-spans (S.belongs s) };
+// The searcher of a walk over what lies between two places.
+#[inline]
+pub(crate) fn marked_searcher<S: MarkedSet>(
+    set: &S,
+    from: usize,
+    to: usize,
+) -> Option<Marks<S::Test>>
+    ensures front { (t : List ℕ) → from ≤ length t → IfSome result (λ marks. S.is_found_by set.now (⟦<S::Test as ByteTest>⟧.passes marks.test)
+        × Ahead (⟦<S::Test as ByteTest>⟧.passes marks.test) t from marks.front.next marks.front.bits) }
+    ensures back { (t : List ℕ) → to ≤ length t → IfSome result (λ marks. S.is_found_by set.now (⟦<S::Test as ByteTest>⟧.passes marks.test)
+        × Behind (⟦<S::Test as ByteTest>⟧.passes marks.test) t to marks.back.start marks.back.bits) }
+{
+    Some(Marks::new(set.test()?, from, to))
 }
 
-impl<S: MarkedSet> ReversePattern for S {
-    #[inline]
-    fn reverse_searcher(&self, text: &str, from: usize, to: usize) -> Option<Marks<S::Test>> {
-        self.searcher(text, from, to)
-    }
-
-    #[inline]
-    fn last_match(&self, text: &str, to: usize) -> Option<(usize, usize)> {
-        self.last_match_by(&mut self.searcher(text, 0, to), text, to)
-    }
-
-    #[inline(always)]
-    fn last_match_by(
-        &self,
-        searcher: &mut Option<Marks<S::Test>>,
-        text: &str,
-        to: usize,
-    ) -> Option<(usize, usize)> {
-        let Some(marks) = searcher else {
-            return self.last_unmarked(text, to);
-        };
-        let bytes = text.as_bytes();
-        let mut past = to;
-        while let Some(at) = marks.back.last(&marks.test, bytes, past) {
-            if let Some(end) = self.end_at_mark(&marks.test, text, at) {
-                return Some((at, end));
-            }
-            past = at;
+// The first character of a set at or after `from`, by a walk's searcher.
+#[inline(always)]
+pub(crate) fn next_marked<S: MarkedSet>(
+    set: &S,
+    searcher: &mut Option<Marks<S::Test>>,
+    text: &str,
+    from: usize,
+) -> Option<(usize, usize)>
+    requires can { S.can_test set.now }
+    requires ready { IfSome searcher.old (λ marks. S.is_found_by set.now (⟦<S::Test as ByteTest>⟧.passes marks.test)
+        × Ahead (⟦<S::Test as ByteTest>⟧.passes marks.test) text.now from marks.front.next marks.front.bits) }
+    requires boundary { IsCharBoundary text.now from }
+    ensures found { IsNextMatch (char_ends (S.belongs set.now) text.now) from result }
+    ensures front { IfSome result (λ m. (k : ℕ) → GoesOnAt m k
+        → IfSome searcher.new (λ marks. S.is_found_by set.now (⟦<S::Test as ByteTest>⟧.passes marks.test)
+        × Ahead (⟦<S::Test as ByteTest>⟧.passes marks.test) text.now k marks.front.next marks.front.bits)) }
+    ensures back { (to : ℕ) → IfSome searcher.old (λ marks. S.is_found_by set.now (⟦<S::Test as ByteTest>⟧.passes marks.test)
+        × Behind (⟦<S::Test as ByteTest>⟧.passes marks.test) text.now to marks.back.start marks.back.bits)
+        → IfSome searcher.new (λ marks. S.is_found_by set.now (⟦<S::Test as ByteTest>⟧.passes marks.test)
+        × Behind (⟦<S::Test as ByteTest>⟧.passes marks.test) text.now to marks.back.start marks.back.bits) }
+{
+    let Some(marks) = searcher else {
+        return set.first_unmarked(text, from);
+    };
+    let bytes = text.as_bytes();
+    let mut past = from;
+    while let Some(at) = marks.front.next(&marks.test, bytes, past) {
+        if let Some(end) = set.end_at_mark(&marks.test, text, at) {
+            return Some((at, end));
         }
-        None
+        past = at + 1;
     }
-
-    #[inline]
-    fn match_before(&self, text: &str, to: usize) -> Option<usize> {
-        start_before(self, text, to)
-    }
-
-    ghost one_start = { λ s. char_ends-one_start (S.belongs s) };
+    None
 }
 
-impl<S: MarkedSet> OneChar for S {
-    ghost one_char = { λ s. char_ends-one_char (S.belongs s) };
+// The last character of a set at or before `to`, by a walk's searcher.
+#[inline(always)]
+pub(crate) fn last_marked<S: MarkedSet>(
+    set: &S,
+    searcher: &mut Option<Marks<S::Test>>,
+    text: &str,
+    to: usize,
+) -> Option<(usize, usize)>
+    requires can { S.can_test set.now }
+    requires ready { IfSome searcher.old (λ marks. S.is_found_by set.now (⟦<S::Test as ByteTest>⟧.passes marks.test)
+        × Behind (⟦<S::Test as ByteTest>⟧.passes marks.test) text.now to marks.back.start marks.back.bits) }
+    requires boundary { IsCharBoundary text.now to }
+    ensures found { IsLastMatch (char_ends (S.belongs set.now) text.now) to result }
+    ensures back { IfSome result (λ m. (k : ℕ) → GoesOnBefore m k
+        → IfSome searcher.new (λ marks. S.is_found_by set.now (⟦<S::Test as ByteTest>⟧.passes marks.test)
+        × Behind (⟦<S::Test as ByteTest>⟧.passes marks.test) text.now k marks.back.start marks.back.bits)) }
+    ensures front { (from : ℕ) → IfSome searcher.old (λ marks. S.is_found_by set.now (⟦<S::Test as ByteTest>⟧.passes marks.test)
+        × Ahead (⟦<S::Test as ByteTest>⟧.passes marks.test) text.now from marks.front.next marks.front.bits)
+        → IfSome searcher.new (λ marks. S.is_found_by set.now (⟦<S::Test as ByteTest>⟧.passes marks.test)
+        × Ahead (⟦<S::Test as ByteTest>⟧.passes marks.test) text.now from marks.front.next marks.front.bits) }
+{
+    let Some(marks) = searcher else {
+        return set.last_unmarked(text, to);
+    };
+    let bytes = text.as_bytes();
+    let mut past = to;
+    while let Some(at) = marks.back.last(&marks.test, bytes, past) {
+        if let Some(end) = set.end_at_mark(&marks.test, text, at) {
+            return Some((at, end));
+        }
+        past = at;
+    }
+    None
 }

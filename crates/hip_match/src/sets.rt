@@ -4,14 +4,18 @@
 ghost use Rattle.std.specs.Prelude.{◌≡◌, ◌==◌, ℕ, IfSome};
 ghost use Rattle.std.specs.List.{list_any};
 ghost use Rattle.hip_match.specs.AsciiSets.{in_set};
+ghost use Rattle.hip_match.specs.Characters.{char_ends};
+ghost use Rattle.hip_match.specs.CharLaws.{char_ends-spans, char_ends-one_start, char_ends-one_char};
 ghost use Rattle.hip_match.specs.MarkedSets.{AreAsciiBytes};
+ghost use Rattle.hip_match.specs.Marks.{Ahead, Behind};
 ghost use Rattle.hip_match.specs.FirstBytes.{ascii_first_bytes};
 
 use crate::ascii_set::AsciiSet;
-use crate::byte_test::{AsciiTable, OneByte};
-use crate::chars::CharSet;
-use crate::marked_set::MarkedSet;
-use crate::pattern::{ClonePattern, DoubleEndedPattern};
+use crate::byte_test::{AsciiTable, ByteTest, OneByte};
+use crate::chars::{CharSet, end_of, start_before};
+use crate::marked_set::{MarkedSet, last_marked, marked_searcher, next_marked};
+use crate::marks::Marks;
+use crate::pattern::{ClonePattern, DoubleEndedPattern, OneChar, Pattern, ReversePattern};
 use crate::texts::{find_char, rfind_char};
 
 impl CharSet for char {
@@ -53,6 +57,83 @@ impl MarkedSet for char {
     fn last_unmarked(&self, text: &str, to: usize) -> Option<(usize, usize)> {
         rfind_char(text, *self, to)
     }
+}
+
+impl Pattern for char {
+    type Searcher = Option<Marks<OneByte>>;
+
+    ghost ends = { λ c. char_ends (λ d. d == c) };
+
+    ghost is_ready = { λ c m text from. IfSome m (λ marks. AreAsciiBytes (λ d. d == c) (⟦<OneByte as ByteTest>⟧.passes marks.test)
+        × Ahead (⟦<OneByte as ByteTest>⟧.passes marks.test) text from marks.front.next marks.front.bits) };
+
+    ghost is_ready_back = { λ c m text to. IfSome m (λ marks. AreAsciiBytes (λ d. d == c) (⟦<OneByte as ByteTest>⟧.passes marks.test)
+        × Behind (⟦<OneByte as ByteTest>⟧.passes marks.test) text to marks.back.start marks.back.bits) };
+
+    #[inline]
+    fn searcher(&self, _text: &str, from: usize, to: usize) -> Option<Marks<OneByte>> {
+        marked_searcher(self, from, to)
+    }
+
+    #[inline]
+    fn next_match(&self, text: &str, from: usize) -> Option<(usize, usize)> {
+        next_marked(
+            self,
+            &mut marked_searcher(self, from, text.len()),
+            text,
+            from,
+        )
+    }
+
+    #[inline(always)]
+    fn next_match_by(
+        &self,
+        searcher: &mut Option<Marks<OneByte>>,
+        text: &str,
+        from: usize,
+    ) -> Option<(usize, usize)> {
+        next_marked(self, searcher, text, from)
+    }
+
+    #[inline]
+    fn match_at(&self, text: &str, at: usize) -> Option<usize> {
+        end_of(self, text, at)
+    }
+
+    ghost spans = { λ c. char_ends-spans (λ d. d == c) };
+}
+
+impl ReversePattern for char {
+    #[inline]
+    fn reverse_searcher(&self, _text: &str, from: usize, to: usize) -> Option<Marks<OneByte>> {
+        marked_searcher(self, from, to)
+    }
+
+    #[inline]
+    fn last_match(&self, text: &str, to: usize) -> Option<(usize, usize)> {
+        last_marked(self, &mut marked_searcher(self, 0, to), text, to)
+    }
+
+    #[inline(always)]
+    fn last_match_by(
+        &self,
+        searcher: &mut Option<Marks<OneByte>>,
+        text: &str,
+        to: usize,
+    ) -> Option<(usize, usize)> {
+        last_marked(self, searcher, text, to)
+    }
+
+    #[inline]
+    fn match_before(&self, text: &str, to: usize) -> Option<usize> {
+        start_before(self, text, to)
+    }
+
+    ghost one_start = { λ c. char_ends-one_start (λ d. d == c) };
+}
+
+impl OneChar for char {
+    ghost one_char = { λ c. char_ends-one_char (λ d. d == c) };
 }
 
 impl ClonePattern for char {
@@ -121,6 +202,83 @@ impl<'a> MarkedSet for &'a [char] {
     }
 }
 
+impl<'a> Pattern for &'a [char] {
+    type Searcher = Option<Marks<AsciiTable>>;
+
+    ghost ends = { λ s. char_ends (λ d. list_any (λ c. c == d) s.now) };
+
+    ghost is_ready = { λ s m text from. IfSome m (λ marks. AreAsciiBytes (λ d. list_any (λ c. c == d) s.now) (⟦<AsciiTable as ByteTest>⟧.passes marks.test)
+        × Ahead (⟦<AsciiTable as ByteTest>⟧.passes marks.test) text from marks.front.next marks.front.bits) };
+
+    ghost is_ready_back = { λ s m text to. IfSome m (λ marks. AreAsciiBytes (λ d. list_any (λ c. c == d) s.now) (⟦<AsciiTable as ByteTest>⟧.passes marks.test)
+        × Behind (⟦<AsciiTable as ByteTest>⟧.passes marks.test) text to marks.back.start marks.back.bits) };
+
+    #[inline]
+    fn searcher(&self, _text: &str, from: usize, to: usize) -> Option<Marks<AsciiTable>> {
+        marked_searcher(self, from, to)
+    }
+
+    #[inline]
+    fn next_match(&self, text: &str, from: usize) -> Option<(usize, usize)> {
+        next_marked(
+            self,
+            &mut marked_searcher(self, from, text.len()),
+            text,
+            from,
+        )
+    }
+
+    #[inline(always)]
+    fn next_match_by(
+        &self,
+        searcher: &mut Option<Marks<AsciiTable>>,
+        text: &str,
+        from: usize,
+    ) -> Option<(usize, usize)> {
+        next_marked(self, searcher, text, from)
+    }
+
+    #[inline]
+    fn match_at(&self, text: &str, at: usize) -> Option<usize> {
+        end_of(self, text, at)
+    }
+
+    ghost spans = { λ s. char_ends-spans (λ d. list_any (λ c. c == d) s.now) };
+}
+
+impl<'a> ReversePattern for &'a [char] {
+    #[inline]
+    fn reverse_searcher(&self, _text: &str, from: usize, to: usize) -> Option<Marks<AsciiTable>> {
+        marked_searcher(self, from, to)
+    }
+
+    #[inline]
+    fn last_match(&self, text: &str, to: usize) -> Option<(usize, usize)> {
+        last_marked(self, &mut marked_searcher(self, 0, to), text, to)
+    }
+
+    #[inline(always)]
+    fn last_match_by(
+        &self,
+        searcher: &mut Option<Marks<AsciiTable>>,
+        text: &str,
+        to: usize,
+    ) -> Option<(usize, usize)> {
+        last_marked(self, searcher, text, to)
+    }
+
+    #[inline]
+    fn match_before(&self, text: &str, to: usize) -> Option<usize> {
+        start_before(self, text, to)
+    }
+
+    ghost one_start = { λ s. char_ends-one_start (λ d. list_any (λ c. c == d) s.now) };
+}
+
+impl<'a> OneChar for &'a [char] {
+    ghost one_char = { λ s. char_ends-one_char (λ d. list_any (λ c. c == d) s.now) };
+}
+
 impl<'a> ClonePattern for &'a [char] {
     ghost use Rattle.std.proofs.Common.{rules};
 
@@ -154,6 +312,83 @@ impl<'a, const N: usize> MarkedSet for &'a [char; N] {
     fn end_at_mark(&self, _test: &AsciiTable, _text: &str, at: usize) -> Option<usize> {
         Some(at + 1)
     }
+}
+
+impl<'a, const N: usize> Pattern for &'a [char; N] {
+    type Searcher = Option<Marks<AsciiTable>>;
+
+    ghost ends = { λ s. char_ends (λ d. list_any (λ c. c == d) s.now) };
+
+    ghost is_ready = { λ s m text from. IfSome m (λ marks. AreAsciiBytes (λ d. list_any (λ c. c == d) s.now) (⟦<AsciiTable as ByteTest>⟧.passes marks.test)
+        × Ahead (⟦<AsciiTable as ByteTest>⟧.passes marks.test) text from marks.front.next marks.front.bits) };
+
+    ghost is_ready_back = { λ s m text to. IfSome m (λ marks. AreAsciiBytes (λ d. list_any (λ c. c == d) s.now) (⟦<AsciiTable as ByteTest>⟧.passes marks.test)
+        × Behind (⟦<AsciiTable as ByteTest>⟧.passes marks.test) text to marks.back.start marks.back.bits) };
+
+    #[inline]
+    fn searcher(&self, _text: &str, from: usize, to: usize) -> Option<Marks<AsciiTable>> {
+        marked_searcher(self, from, to)
+    }
+
+    #[inline]
+    fn next_match(&self, text: &str, from: usize) -> Option<(usize, usize)> {
+        next_marked(
+            self,
+            &mut marked_searcher(self, from, text.len()),
+            text,
+            from,
+        )
+    }
+
+    #[inline(always)]
+    fn next_match_by(
+        &self,
+        searcher: &mut Option<Marks<AsciiTable>>,
+        text: &str,
+        from: usize,
+    ) -> Option<(usize, usize)> {
+        next_marked(self, searcher, text, from)
+    }
+
+    #[inline]
+    fn match_at(&self, text: &str, at: usize) -> Option<usize> {
+        end_of(self, text, at)
+    }
+
+    ghost spans = { λ s. char_ends-spans (λ d. list_any (λ c. c == d) s.now) };
+}
+
+impl<'a, const N: usize> ReversePattern for &'a [char; N] {
+    #[inline]
+    fn reverse_searcher(&self, _text: &str, from: usize, to: usize) -> Option<Marks<AsciiTable>> {
+        marked_searcher(self, from, to)
+    }
+
+    #[inline]
+    fn last_match(&self, text: &str, to: usize) -> Option<(usize, usize)> {
+        last_marked(self, &mut marked_searcher(self, 0, to), text, to)
+    }
+
+    #[inline(always)]
+    fn last_match_by(
+        &self,
+        searcher: &mut Option<Marks<AsciiTable>>,
+        text: &str,
+        to: usize,
+    ) -> Option<(usize, usize)> {
+        last_marked(self, searcher, text, to)
+    }
+
+    #[inline]
+    fn match_before(&self, text: &str, to: usize) -> Option<usize> {
+        start_before(self, text, to)
+    }
+
+    ghost one_start = { λ s. char_ends-one_start (λ d. list_any (λ c. c == d) s.now) };
+}
+
+impl<'a, const N: usize> OneChar for &'a [char; N] {
+    ghost one_char = { λ s. char_ends-one_char (λ d. list_any (λ c. c == d) s.now) };
 }
 
 impl<'a, const N: usize> ClonePattern for &'a [char; N] {

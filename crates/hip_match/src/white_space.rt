@@ -1,19 +1,23 @@
 //! The runs of a text between white space.
 #![tactic(auto, using(crate::proofs::Rules::white_space))]
 
-ghost use Rattle.std.specs.Prelude.{◌≡◌};
+ghost use Rattle.std.specs.Prelude.{◌≡◌, IfSome};
 ghost use Rattle.std.proofs.Common.{refl};
 ghost use Rattle.std.specs.Char.{is_whitespace};
 ghost use Rattle.hip_match.specs.Clones.{gaps_kept, made_kept};
 ghost use Rattle.hip_match.specs.Iterators.{Gives};
+ghost use Rattle.hip_match.specs.Characters.{char_ends};
+ghost use Rattle.hip_match.specs.CharLaws.{char_ends-spans, char_ends-one_start, char_ends-one_char};
 ghost use Rattle.hip_match.specs.FirstBytes.{space_first_bytes, space_leads};
+ghost use Rattle.hip_match.specs.Marks.{Ahead, Behind};
 ghost use Rattle.hip_match.specs.Runs.{nonempty, split_whitespace};
 
 pub use crate::ascii_space::SplitAsciiWhitespace;
-use crate::byte_test::SpaceLeads;
-use crate::chars::{CharSet, end_of};
-use crate::marked_set::MarkedSet;
-use crate::pattern::{ClonePattern, DoubleEndedPattern};
+use crate::byte_test::{ByteTest, SpaceLeads};
+use crate::chars::{CharSet, end_of, start_before};
+use crate::marked_set::{MarkedSet, last_marked, marked_searcher, next_marked};
+use crate::marks::Marks;
+use crate::pattern::{ClonePattern, DoubleEndedPattern, OneChar, Pattern, ReversePattern};
 use crate::ranges::{CloneRanges, Ranges, RangesBack};
 use crate::split::Split;
 
@@ -51,6 +55,83 @@ impl MarkedSet for WhiteSpace {
     fn end_at_mark(&self, _test: &SpaceLeads, text: &str, at: usize) -> Option<usize> {
         end_of(self, text, at)
     }
+}
+
+impl Pattern for WhiteSpace {
+    type Searcher = Option<Marks<SpaceLeads>>;
+
+    ghost ends = { λ _. char_ends (is_whitespace) };
+
+    ghost is_ready = { λ _ m text from. IfSome m (λ marks. ((⟦<SpaceLeads as ByteTest>⟧.passes marks.test) ≡ space_leads)
+        × Ahead (⟦<SpaceLeads as ByteTest>⟧.passes marks.test) text from marks.front.next marks.front.bits) };
+
+    ghost is_ready_back = { λ _ m text to. IfSome m (λ marks. ((⟦<SpaceLeads as ByteTest>⟧.passes marks.test) ≡ space_leads)
+        × Behind (⟦<SpaceLeads as ByteTest>⟧.passes marks.test) text to marks.back.start marks.back.bits) };
+
+    #[inline]
+    fn searcher(&self, _text: &str, from: usize, to: usize) -> Option<Marks<SpaceLeads>> {
+        marked_searcher(self, from, to)
+    }
+
+    #[inline]
+    fn next_match(&self, text: &str, from: usize) -> Option<(usize, usize)> {
+        next_marked(
+            self,
+            &mut marked_searcher(self, from, text.len()),
+            text,
+            from,
+        )
+    }
+
+    #[inline(always)]
+    fn next_match_by(
+        &self,
+        searcher: &mut Option<Marks<SpaceLeads>>,
+        text: &str,
+        from: usize,
+    ) -> Option<(usize, usize)> {
+        next_marked(self, searcher, text, from)
+    }
+
+    #[inline]
+    fn match_at(&self, text: &str, at: usize) -> Option<usize> {
+        end_of(self, text, at)
+    }
+
+    ghost spans = { λ _. char_ends-spans (is_whitespace) };
+}
+
+impl ReversePattern for WhiteSpace {
+    #[inline]
+    fn reverse_searcher(&self, _text: &str, from: usize, to: usize) -> Option<Marks<SpaceLeads>> {
+        marked_searcher(self, from, to)
+    }
+
+    #[inline]
+    fn last_match(&self, text: &str, to: usize) -> Option<(usize, usize)> {
+        last_marked(self, &mut marked_searcher(self, 0, to), text, to)
+    }
+
+    #[inline(always)]
+    fn last_match_by(
+        &self,
+        searcher: &mut Option<Marks<SpaceLeads>>,
+        text: &str,
+        to: usize,
+    ) -> Option<(usize, usize)> {
+        last_marked(self, searcher, text, to)
+    }
+
+    #[inline]
+    fn match_before(&self, text: &str, to: usize) -> Option<usize> {
+        start_before(self, text, to)
+    }
+
+    ghost one_start = { λ _. char_ends-one_start (is_whitespace) };
+}
+
+impl OneChar for WhiteSpace {
+    ghost one_char = { λ _. char_ends-one_char (is_whitespace) };
 }
 
 impl ClonePattern for WhiteSpace {

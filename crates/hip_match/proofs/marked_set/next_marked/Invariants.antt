@@ -2,14 +2,14 @@ use Rattle.std.proofs.Common.{ℕ, ◌-◌, ◌≤◌, length}
 use Rattle.hip_match.specs.Characters.{char_ends}
 use Rattle.hip_match.specs.Marks.{Ahead, Behind}
 use Rattle.hip_match.specs.Occurrence.{NoneStarts}
-use Rattle.hip_match.proofs.marked_set.AnyPattern.next_match_by.Given as goal
+use Rattle.hip_match.proofs.marked_set.next_marked.Given as goal
 
 abbrev pub invariant-loop-at : goal.invariant-loop-at
 invariant-loop-at g l =
     let passes = g.S.Test.ByteTest.passes in
-    let is_found_by = g.S.MarkedSet.is_found_by l.self in
+    let is_found_by = g.S.MarkedSet.is_found_by l.set in
     is_found_by (passes l.marks.test) × Ahead (passes l.marks.test) l.text l.past l.marks.front.next l.marks.front.bits × (l.from ≤ l.past)
-    × NoneStarts (char_ends (g.S.CharSet.belongs l.self) l.text) l.from l.past
+    × NoneStarts (char_ends (g.S.CharSet.belongs l.set) l.text) l.from l.past
     × ((to : ℕ) → is_found_by (passes l.initial.marks.test) × Behind (passes l.initial.marks.test) l.text to l.initial.marks.back.start l.initial.marks.back.bits
     → is_found_by (passes l.marks.test) × Behind (passes l.marks.test) l.text to l.marks.back.start l.marks.back.bits)
 

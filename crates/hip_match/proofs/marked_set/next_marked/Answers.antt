@@ -2,7 +2,7 @@ use Rattle.std.proofs.Common.{◌+◌, ℕ, List, None, length, subst, sym}
 use Rattle.memchr.specs.Find.{IsFirst, Passes}
 use Rattle.hip_match.specs.Marks.{Ahead}
 use Rattle.hip_match.proofs.MarkedSetLemmas.{none_left, past_char}
-use Rattle.hip_match.proofs.marked_set.AnyPattern.next_match_by.Goals as goal
+use Rattle.hip_match.proofs.marked_set.next_marked.Goals as goal
 
 pub returns-in-Some-end_at_mark-clause-front : goal.returns-in-Some-end_at_mark-clause-front
 returns-in-Some-end_at_mark-clause-front g c k goes =

@@ -3,7 +3,7 @@ use Rattle.memchr.specs.Find.{IsLast, Passes}
 use Rattle.hip_match.specs.CharLaws.{char_ends-one_char}
 use Rattle.hip_match.specs.Marks.{Behind}
 use Rattle.hip_match.proofs.MarkedSetLemmas.{ends_last}
-use Rattle.hip_match.proofs.marked_set.AnyReversePattern.last_match_by.Goals as goal
+use Rattle.hip_match.proofs.marked_set.last_marked.Goals as goal
 
 pub returns-in-Some-end_at_mark-clause-found : goal.returns-in-Some-end_at_mark-clause-found
 returns-in-Some-end_at_mark-clause-found g c =
@@ -16,7 +16,7 @@ returns-in-Some-end_at_mark-clause-found g c =
 pub returns-in-Some-end_at_mark-clause-back : goal.returns-in-Some-end_at_mark-clause-back
 returns-in-Some-end_at_mark-clause-back g c k goes =
     let at = c.in-Some-last.at in
-    let one = char_ends-one_char (g.S.CharSet.belongs c.args.self.now) c.args.text.now at c.in-Some-end_at_mark.end c.utf8.text (sym c.in-Some-end_at_mark.ensures) in
+    let one = char_ends-one_char (g.S.CharSet.belongs c.args.set.now) c.args.text.now at c.in-Some-end_at_mark.end c.utf8.text (sym c.in-Some-end_at_mark.ensures) in
     let same : k ≡ at = goes.1 one.holds in
     let behind = subst (λ (l : List ℕ). Behind (g.S.Test.ByteTest.passes c.loop-at.marks.test) l at c.last.new.self.start c.last.new.self.bits) c.as_bytes-bytes.ensures.value c.in-Some-last.ensures.behind in
     (c.loop-at.invariant.0, rw same behind)
