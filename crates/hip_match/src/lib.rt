@@ -6,8 +6,8 @@
 //!   [`ReversePattern`] is found from the end too, [`DoubleEndedPattern`] may be trimmed from both ends, each match of a [`OneChar`] is
 //!   one character, and the clones of a [`ClonePattern`] are found where it is.
 //! - [`marks`] finds the bytes that pass a test 64 at a time, from either end, for every walk by characters; [`byte_test`] has the
-//!   tests, and [`bits`] what is asked of the bits of a number. Each [`MarkedSet`] of characters is a pattern, found by the bytes with
-//!   which its characters begin.
+//!   tests, and [`bits`] what is asked of the bits of a number. A [`MarkedSet`] of characters is found by the bytes with which they
+//!   begin.
 //! - [`Ranges`] is a walk from its front, [`RangesBack`] from both ends, and the clones of [`CloneRanges`] give what they do: [`Split`],
 //!   [`SplitInclusive`], [`SplitTerminator`], [`SplitN`], [`Matches`] and [`MatchIndices`] from a text's front, [`RSplit`],
 //!   [`RSplitTerminator`], [`RSplitN`], [`RMatches`] and [`RMatchIndices`] from its end, [`Lines`], [`SplitWhitespace`] and
