@@ -4,7 +4,7 @@ use Rattle.hip_match.proofs.DecodeLemmas.{before_four, before_three, before_two,
 use Rattle.hip_match.proofs.DrawLemmas.{ends_meet}
 use Rattle.hip_match.proofs.GapLemmas.{no_run}
 use Rattle.hip_match.proofs.LawLemmas.{split-joined, split_inclusive-together}
-use Rattle.hip_match.proofs.MarkLemmas.{ahead-found, ahead-loaded, ahead-none, ahead-passed, alike, behind-found, behind-loaded, behind-none, behind-passed, first-behind}
+use Rattle.hip_match.proofs.MarkLemmas.{alike, first-behind}
 use Rattle.hip_match.proofs.MarkedSetLemmas.{beyond-new, beyond_it, none_before, none_up_to, of_some, starts_first}
 use Rattle.hip_match.proofs.PiecesLemmas.{InOrder-append, InOrder-le, IsBetween-moved, at_most_to-end, at_most_to-more, at_most_to-one, ended-nil, gaps-append, nonempty-append_dropped, nonempty-append_kept, without_empty_last-kept}
 use Rattle.hip_match.proofs.RunLemmas.{are_runs}
@@ -32,8 +32,6 @@ pub ruleset chars = (before_four, before_three, before_two, fourth, is_four, is_
 pub ruleset laws = (ends_meet, split-joined, split_inclusive-together, are_runs)
 
 pub ruleset marked_set = (beyond-new, beyond_it, none_before, none_up_to, of_some, starts_first)
-
-pub ruleset marks = (ahead-found, ahead-loaded, ahead-none, ahead-passed, behind-found, behind-loaded, behind-none, behind-passed)
 
 pub ruleset sets = (ascii_end)
 

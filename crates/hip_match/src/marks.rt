@@ -1,8 +1,6 @@
 //! The places of a text whose bytes pass a test, found 64 at a time from either end.
 //!
 //! Functions that aren't inlined take a test by value, so that a walk's own fields stay in registers.
-#![tactic(auto, using(crate::proofs::Rules::marks))]
-
 ghost use Rattle.std.specs.Prelude.{◌≡◌, ◌+◌, ◌-◌, ◌<◌, ◌≤◌, ℕ, Bool, List, length, IfSome, IfNone};
 ghost use Rattle.memchr.specs.Find.{IsFirst, IsLast, Passes};
 ghost use Rattle.hip_match.specs.Marks.{Ahead, AreMarks, Behind};
