@@ -20,6 +20,7 @@ pub mod BitLemmas
 pub mod LaneLemmas
 pub mod MarkLemmas
 pub mod MarkedSetLemmas
+pub mod SpaceLemmas
 pub mod GapLemmas
 pub mod OrderLemmas
 pub mod PartedLemmas

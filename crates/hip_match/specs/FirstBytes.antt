@@ -1,21 +1,17 @@
 -- Laws of the bytes with which the characters of a set begin.
 use Rattle.std.proofs.lemmas.Grind.{common_steps}
-use Rattle.std.specs.Prelude.{nat_lt, nat_le, slice_index}
-use Rattle.std.proofs.Common.{◌≡◌, ℕ, ◌+◌, ◌/◌, ◌<◌, ◌≤◌, ◌||◌, Bool, true, false, not, cond, List, [], ◌∷◌, ◌++◌, Some, None, length, drop, sym, ap, ◌∙◌, arith, refl, ⊎_elim, add-zero, get_or, get_or-drop}
-use Rattle.std.specs.Char.{is_whitespace}
-use Rattle.std.specs.Str.{IsUtf8, IsCharBoundary}
+use Rattle.std.specs.Prelude.{slice_index}
+use Rattle.std.proofs.Common.{◌≡◌, ℕ, ◌+◌, ◌<◌, ◌≤◌, Bool, true, false, List, Some, None, length, sym, ◌∙◌, arith, ⊎_elim, add-zero, get_or-drop}
+use Rattle.std.specs.Str.{IsUtf8}
 use Rattle.std.proofs.lemmas.Bool.Decides.{nat_tests}
-use Rattle.std.proofs.lemmas.Bool.{agree_below_at, cases_lt, cond-true, cond-false, false≢true}
+use Rattle.std.proofs.lemmas.Bool.{cases_lt, false≢true}
 use Rattle.std.proofs.lemmas.Option.{none-some, same_Some}
 use Rattle.std.proofs.lemmas.Str.{byte_from_char, IsCharBoundary-before_ascii}
-use lib.Utf8.{encode}
 use Rattle.memchr.specs.Find.{Passes}
 use Rattle.hip_match.specs.Occurrence.{is_boundary}
 use Rattle.hip_match.specs.Characters.{char_ends}
-use Rattle.hip_match.specs.CharLaws.{is_boundary-true, is_boundary-is, starts_char, char_at-ascii, char_at-end, char_at-off, char_at-starts, char_ends-is, char_ends-no, char_ends-none, char_ends-yes}
+use Rattle.hip_match.specs.CharLaws.{is_boundary-true, is_boundary-is, starts_char, char_at-ascii, char_at-end, char_at-off, char_at-starts, char_ends-no, char_ends-none, char_ends-yes}
 use Rattle.hip_match.specs.MarkedSets.{AreAsciiBytes, AreFirstBytes}
-use Rattle.hip_match.specs.Marks.{has_nibbles}
-use Rattle.hip_match.specs.declared.byte_test.TheConstants.{SPACE_COLUMNS, SPACE_ROWS}
 
 -- ---- characters of ASCII: no byte of another character is one of ASCII
 
@@ -44,67 +40,3 @@ module _ (belongs passes : ℕ → Bool) (set : AreAsciiBytes belongs passes) wh
 
   pub ascii_end : (t : List ℕ) (k : ℕ) → IsUtf8 t → k < length t → Passes passes t k → char_ends belongs t k ≡ Some (k + 1)
   ascii_end t k utf8 within pass = ascii-some belongs low t utf8 k within (sym (set.same (slice_index t k)) ∙ pass)
-
--- ---- white space
-
--- the bytes with which white space begins, and some others that aren't of ASCII
-abbrev pub space_leads : ℕ → Bool
-space_leads = has_nibbles SPACE_ROWS SPACE_COLUMNS
-
--- the first byte of a character
-abbrev lead : ℕ → ℕ
-lead c = cond (nat_lt c 128) c (cond (nat_lt c 2048) (192 + c / 64) (cond (nat_lt c 65536) (224 + c / 4096) (240 + c / 262144)))
-
-first_by : (x y z : Bool) (a b d e : ℕ) (k l m n rest : List ℕ) → get_or (cond x (a ∷ k) (cond y (b ∷ l) (cond z (d ∷ m) (e ∷ n))) ++ rest) 0 0 ≡ cond x a (cond y b (cond z d e))
-first_by true y z a b d e k l m n rest = refl
-first_by false true z a b d e k l m n rest = refl
-first_by false false true a b d e k l m n rest = refl
-first_by false false false a b d e k l m n rest = refl
-
-first_of : (c : ℕ) (rest : List ℕ) → get_or (encode c ++ rest) 0 0 ≡ lead c
-unfolding encode
-first_of c rest = first_by (nat_lt c 128) (nat_lt c 2048) (nat_lt c 65536) c (192 + c / 64) (224 + c / 4096) (240 + c / 262144) [] _ _ _ rest
-
-lead-passes : (c : ℕ) → is_whitespace c ≡ true → space_leads (lead c) ≡ true
-lead-passes c is = ⊎_elim
-    (λ (one : c < 128).
-    let here : nat_lt c 128 ≡ true = grind (arith, nat_tests) in
-    let told = agree_below_at (λ i. not (is_whitespace i) || space_leads i) (λ i. true) 128 c refl one in
-    ap space_leads (cond-true _ _ _ here) ∙ ap (λ b. not b || space_leads c) (sym is) ∙ told)
-    (λ (ge : 128 ≤ c).
-    let over : nat_lt c 128 ≡ false = grind (arith, nat_tests) in
-    ⊎_elim
-    (λ (two : c < 2048).
-    let here : nat_lt c 2048 ≡ true = grind (arith, nat_tests) in
-    let byte : c / 64 ≡ 2 = grind (arith, nat_tests) in
-    ap space_leads (cond-false _ _ _ over ∙ cond-true _ _ _ here) ∙ ap (λ n. space_leads (192 + n)) byte)
-    (λ (ge2 : 2048 ≤ c).
-    let past : nat_lt c 2048 ≡ false = grind (arith, nat_tests) in
-    let here : nat_lt c 65536 ≡ true = grind (arith, nat_tests) in
-    let least : 1 ≤ c / 4096 = grind (arith, nat_tests) in
-    let most : c / 4096 ≤ 3 = grind (arith, nat_tests) in
-    let told = agree_below_at (λ i. nat_lt i 1 || space_leads (224 + i)) (λ i. true) 4 (c / 4096) refl (omega arith) in
-    let some : nat_lt (c / 4096) 1 ≡ false = grind (arith, nat_tests) in
-    ap space_leads (cond-false _ _ _ over ∙ cond-false _ _ _ past ∙ cond-true _ _ _ here) ∙ ap (λ b. b || space_leads (224 + c / 4096)) (sym some) ∙ told)
-    (cases_lt c 2048))
-    (cases_lt c 128)
-
-module _ (t : List ℕ) (utf8 : IsUtf8 t) where
-  -- the first byte of white space passes
-  space-passes : (a b : ℕ) → char_ends is_whitespace t a ≡ Some b → Passes space_leads t a
-  space-passes a b is =
-      let found = char_ends-is is_whitespace t a b utf8 is in
-      let c = found.1.0 in
-      let byte : slice_index t a ≡ get_or (encode c ++ drop _ t) 0 0 =
-      ap (λ n. slice_index t n) (sym (add-zero a)) ∙ sym (get_or-drop a t 0 0) ∙ ap (λ l. get_or l 0 0) found.1.1.split in
-      ap space_leads (byte ∙ first_of c _) ∙ lead-passes c found.1.2
-
-  -- each byte that passes begins a character
-  lead-boundary : (k : ℕ) → slice_index t k < 256 → k < length t → Passes space_leads t k → IsCharBoundary t k
-  lead-boundary k fits within passes =
-      let told = agree_below_at (λ i. not (space_leads i) || (nat_lt i 128 || nat_le 192 i)) (λ i. true) 256 (slice_index t k) refl fits in
-      let starts : (nat_lt (slice_index t k) 128 || nat_le 192 (slice_index t k)) ≡ true = ap (λ b. not b || (nat_lt (slice_index t k) 128 || nat_le 192 (slice_index t k))) (sym passes) ∙ told in
-      is_boundary-is t k (grind (arith, nat_tests))
-
-pub space_first_bytes : (passes : ℕ → Bool) → passes ≡ space_leads → AreFirstBytes is_whitespace passes
-space_first_bytes passes same = rw same (record { leads = λ t a b utf8 is. space-passes t utf8 a b is; begins = λ t k utf8 fits within pass. lead-boundary t utf8 k fits within pass })

@@ -8,7 +8,7 @@ ghost use Rattle.hip_match.specs.Clones.{gaps_kept, made_kept};
 ghost use Rattle.hip_match.specs.Iterators.{Gives};
 ghost use Rattle.hip_match.specs.Characters.{char_ends};
 ghost use Rattle.hip_match.specs.CharLaws.{char_ends-spans, char_ends-one_start, char_ends-one_char};
-ghost use Rattle.hip_match.specs.FirstBytes.{space_first_bytes, space_leads};
+ghost use Rattle.hip_match.specs.MarkedSets.{AreFirstBytes};
 ghost use Rattle.hip_match.specs.Marks.{Ahead, Behind};
 ghost use Rattle.hip_match.specs.Runs.{nonempty, split_whitespace};
 
@@ -42,9 +42,9 @@ impl CharSet for WhiteSpace {
 impl MarkedSet for WhiteSpace {
     type Test = SpaceLeads;
 
-    ghost is_found_by = { λ _ passes. passes ≡ space_leads };
+    ghost is_found_by = { λ _ passes. AreFirstBytes is_whitespace passes };
 
-    ghost first_bytes = { λ _ passes found. space_first_bytes passes found };
+    ghost first_bytes = { λ _ _ found. found };
 
     #[inline]
     fn test(&self) -> Option<SpaceLeads> {
@@ -62,10 +62,10 @@ impl Pattern for WhiteSpace {
 
     ghost ends = { λ _. char_ends (is_whitespace) };
 
-    ghost is_ready = { λ _ m text from. IfSome m (λ marks. ((⟦<SpaceLeads as ByteTest>⟧.passes marks.test) ≡ space_leads)
+    ghost is_ready = { λ _ m text from. IfSome m (λ marks. AreFirstBytes is_whitespace (⟦<SpaceLeads as ByteTest>⟧.passes marks.test)
         × Ahead (⟦<SpaceLeads as ByteTest>⟧.passes marks.test) text from marks.front.next marks.front.bits) };
 
-    ghost is_ready_back = { λ _ m text to. IfSome m (λ marks. ((⟦<SpaceLeads as ByteTest>⟧.passes marks.test) ≡ space_leads)
+    ghost is_ready_back = { λ _ m text to. IfSome m (λ marks. AreFirstBytes is_whitespace (⟦<SpaceLeads as ByteTest>⟧.passes marks.test)
         × Behind (⟦<SpaceLeads as ByteTest>⟧.passes marks.test) text to marks.back.start marks.back.bits) };
 
     #[inline]
