@@ -15,6 +15,7 @@ pub mod Bits
 pub mod Marks
 pub mod AsciiSets
 pub mod MarkedSets
+pub mod Searchers
 pub mod FirstBytes
 pub mod Ready
 pub mod Clones

@@ -8,7 +8,7 @@ ghost use Rattle.hip_match.specs.AsciiSets.{in_set};
 ghost use Rattle.hip_match.specs.Characters.{char_ends};
 ghost use Rattle.hip_match.specs.CharLaws.{char_ends-spans, char_ends-one_start, char_ends-one_char};
 ghost use Rattle.hip_match.specs.FirstBytes.{ascii_first_bytes};
-ghost use Rattle.hip_match.specs.Marks.{Ahead, Behind};
+ghost use Rattle.hip_match.specs.Searchers.{AreAhead, AreBehind};
 ghost use Rattle.hip_match.specs.MarkedSets.{AreAsciiBytes};
 
 use crate::byte_test::{AsciiTable, ByteTest};
@@ -167,11 +167,9 @@ impl Pattern for AsciiSet {
 
     ghost ends = { λ s. char_ends (in_set s) };
 
-    ghost is_ready = { λ s m text from. IfSome m (λ marks. AreAsciiBytes (in_set s) (⟦<AsciiTable as ByteTest>⟧.passes marks.test)
-        × Ahead (⟦<AsciiTable as ByteTest>⟧.passes marks.test) text from marks.front.next marks.front.bits) };
+    ghost is_ready = { λ s m text from. AreAhead (AreAsciiBytes (in_set s)) (⟦<AsciiTable as ByteTest>⟧.passes) m text from };
 
-    ghost is_ready_back = { λ s m text to. IfSome m (λ marks. AreAsciiBytes (in_set s) (⟦<AsciiTable as ByteTest>⟧.passes marks.test)
-        × Behind (⟦<AsciiTable as ByteTest>⟧.passes marks.test) text to marks.back.start marks.back.bits) };
+    ghost is_ready_back = { λ s m text to. AreBehind (AreAsciiBytes (in_set s)) (⟦<AsciiTable as ByteTest>⟧.passes) m text to };
 
     #[inline]
     fn searcher(&self, _text: &str, from: usize, to: usize) -> Option<Marks<AsciiTable>> {

@@ -6,8 +6,8 @@ ghost use Rattle.std.specs.Str.{IsCharBoundary};
 ghost use Rattle.memchr.specs.Find.{Passes};
 ghost use Rattle.hip_match.specs.Characters.{char_ends};
 ghost use Rattle.hip_match.specs.MarkedSets.{AreFirstBytes};
-ghost use Rattle.hip_match.specs.Marks.{Ahead, Behind};
 ghost use Rattle.hip_match.specs.Occurrence.{GoesOnAt, GoesOnBefore, IsLastMatch, IsNextMatch};
+ghost use Rattle.hip_match.specs.Searchers.{AreAhead, AreBehind};
 
 use crate::byte_test::ByteTest;
 use crate::chars::{CharSet, first_of, last_of};
@@ -65,10 +65,8 @@ pub(crate) fn marked_searcher<S: MarkedSet>(
     from: usize,
     to: usize,
 ) -> Option<Marks<S::Test>>
-    ensures front { (t : List ℕ) → from ≤ length t → IfSome result (λ marks. S.is_found_by set.now (⟦<S::Test as ByteTest>⟧.passes marks.test)
-        × Ahead (⟦<S::Test as ByteTest>⟧.passes marks.test) t from marks.front.next marks.front.bits) }
-    ensures back { (t : List ℕ) → to ≤ length t → IfSome result (λ marks. S.is_found_by set.now (⟦<S::Test as ByteTest>⟧.passes marks.test)
-        × Behind (⟦<S::Test as ByteTest>⟧.passes marks.test) t to marks.back.start marks.back.bits) }
+    ensures front { (t : List ℕ) → from ≤ length t → AreAhead (S.is_found_by set.now) (⟦<S::Test as ByteTest>⟧.passes) result t from }
+    ensures back { (t : List ℕ) → to ≤ length t → AreBehind (S.is_found_by set.now) (⟦<S::Test as ByteTest>⟧.passes) result t to }
 {
     Some(Marks::new(set.test()?, from, to))
 }
@@ -82,17 +80,13 @@ pub(crate) fn next_marked<S: MarkedSet>(
     from: usize,
 ) -> Option<(usize, usize)>
     requires can { S.can_test set.now }
-    requires ready { IfSome searcher.old (λ marks. S.is_found_by set.now (⟦<S::Test as ByteTest>⟧.passes marks.test)
-        × Ahead (⟦<S::Test as ByteTest>⟧.passes marks.test) text.now from marks.front.next marks.front.bits) }
+    requires ready { AreAhead (S.is_found_by set.now) (⟦<S::Test as ByteTest>⟧.passes) searcher.old text.now from }
     requires boundary { IsCharBoundary text.now from }
     ensures found { IsNextMatch (char_ends (S.belongs set.now) text.now) from result }
     ensures front { IfSome result (λ m. (k : ℕ) → GoesOnAt m k
-        → IfSome searcher.new (λ marks. S.is_found_by set.now (⟦<S::Test as ByteTest>⟧.passes marks.test)
-        × Ahead (⟦<S::Test as ByteTest>⟧.passes marks.test) text.now k marks.front.next marks.front.bits)) }
-    ensures back { (to : ℕ) → IfSome searcher.old (λ marks. S.is_found_by set.now (⟦<S::Test as ByteTest>⟧.passes marks.test)
-        × Behind (⟦<S::Test as ByteTest>⟧.passes marks.test) text.now to marks.back.start marks.back.bits)
-        → IfSome searcher.new (λ marks. S.is_found_by set.now (⟦<S::Test as ByteTest>⟧.passes marks.test)
-        × Behind (⟦<S::Test as ByteTest>⟧.passes marks.test) text.now to marks.back.start marks.back.bits) }
+        → AreAhead (S.is_found_by set.now) (⟦<S::Test as ByteTest>⟧.passes) searcher.new text.now k) }
+    ensures back { (to : ℕ) → AreBehind (S.is_found_by set.now) (⟦<S::Test as ByteTest>⟧.passes) searcher.old text.now to
+        → AreBehind (S.is_found_by set.now) (⟦<S::Test as ByteTest>⟧.passes) searcher.new text.now to }
 {
     let Some(marks) = searcher else {
         return set.first_unmarked(text, from);
@@ -117,17 +111,13 @@ pub(crate) fn last_marked<S: MarkedSet>(
     to: usize,
 ) -> Option<(usize, usize)>
     requires can { S.can_test set.now }
-    requires ready { IfSome searcher.old (λ marks. S.is_found_by set.now (⟦<S::Test as ByteTest>⟧.passes marks.test)
-        × Behind (⟦<S::Test as ByteTest>⟧.passes marks.test) text.now to marks.back.start marks.back.bits) }
+    requires ready { AreBehind (S.is_found_by set.now) (⟦<S::Test as ByteTest>⟧.passes) searcher.old text.now to }
     requires boundary { IsCharBoundary text.now to }
     ensures found { IsLastMatch (char_ends (S.belongs set.now) text.now) to result }
     ensures back { IfSome result (λ m. (k : ℕ) → GoesOnBefore m k
-        → IfSome searcher.new (λ marks. S.is_found_by set.now (⟦<S::Test as ByteTest>⟧.passes marks.test)
-        × Behind (⟦<S::Test as ByteTest>⟧.passes marks.test) text.now k marks.back.start marks.back.bits)) }
-    ensures front { (from : ℕ) → IfSome searcher.old (λ marks. S.is_found_by set.now (⟦<S::Test as ByteTest>⟧.passes marks.test)
-        × Ahead (⟦<S::Test as ByteTest>⟧.passes marks.test) text.now from marks.front.next marks.front.bits)
-        → IfSome searcher.new (λ marks. S.is_found_by set.now (⟦<S::Test as ByteTest>⟧.passes marks.test)
-        × Ahead (⟦<S::Test as ByteTest>⟧.passes marks.test) text.now from marks.front.next marks.front.bits) }
+        → AreBehind (S.is_found_by set.now) (⟦<S::Test as ByteTest>⟧.passes) searcher.new text.now k) }
+    ensures front { (from : ℕ) → AreAhead (S.is_found_by set.now) (⟦<S::Test as ByteTest>⟧.passes) searcher.old text.now from
+        → AreAhead (S.is_found_by set.now) (⟦<S::Test as ByteTest>⟧.passes) searcher.new text.now from }
 {
     let Some(marks) = searcher else {
         return set.last_unmarked(text, to);

@@ -7,7 +7,7 @@ ghost use Rattle.hip_match.specs.AsciiSets.{in_set};
 ghost use Rattle.hip_match.specs.Characters.{char_ends};
 ghost use Rattle.hip_match.specs.CharLaws.{char_ends-spans, char_ends-one_start, char_ends-one_char};
 ghost use Rattle.hip_match.specs.MarkedSets.{AreAsciiBytes};
-ghost use Rattle.hip_match.specs.Marks.{Ahead, Behind};
+ghost use Rattle.hip_match.specs.Searchers.{AreAhead, AreBehind};
 ghost use Rattle.hip_match.specs.FirstBytes.{ascii_first_bytes};
 
 use crate::ascii_set::AsciiSet;
@@ -64,11 +64,9 @@ impl Pattern for char {
 
     ghost ends = { λ c. char_ends (λ d. d == c) };
 
-    ghost is_ready = { λ c m text from. IfSome m (λ marks. AreAsciiBytes (λ d. d == c) (⟦<OneByte as ByteTest>⟧.passes marks.test)
-        × Ahead (⟦<OneByte as ByteTest>⟧.passes marks.test) text from marks.front.next marks.front.bits) };
+    ghost is_ready = { λ c m text from. AreAhead (AreAsciiBytes (λ d. d == c)) (⟦<OneByte as ByteTest>⟧.passes) m text from };
 
-    ghost is_ready_back = { λ c m text to. IfSome m (λ marks. AreAsciiBytes (λ d. d == c) (⟦<OneByte as ByteTest>⟧.passes marks.test)
-        × Behind (⟦<OneByte as ByteTest>⟧.passes marks.test) text to marks.back.start marks.back.bits) };
+    ghost is_ready_back = { λ c m text to. AreBehind (AreAsciiBytes (λ d. d == c)) (⟦<OneByte as ByteTest>⟧.passes) m text to };
 
     #[inline]
     fn searcher(&self, _text: &str, from: usize, to: usize) -> Option<Marks<OneByte>> {
@@ -207,11 +205,9 @@ impl<'a> Pattern for &'a [char] {
 
     ghost ends = { λ s. char_ends (λ d. list_any (λ c. c == d) s.now) };
 
-    ghost is_ready = { λ s m text from. IfSome m (λ marks. AreAsciiBytes (λ d. list_any (λ c. c == d) s.now) (⟦<AsciiTable as ByteTest>⟧.passes marks.test)
-        × Ahead (⟦<AsciiTable as ByteTest>⟧.passes marks.test) text from marks.front.next marks.front.bits) };
+    ghost is_ready = { λ s m text from. AreAhead (AreAsciiBytes (λ d. list_any (λ c. c == d) s.now)) (⟦<AsciiTable as ByteTest>⟧.passes) m text from };
 
-    ghost is_ready_back = { λ s m text to. IfSome m (λ marks. AreAsciiBytes (λ d. list_any (λ c. c == d) s.now) (⟦<AsciiTable as ByteTest>⟧.passes marks.test)
-        × Behind (⟦<AsciiTable as ByteTest>⟧.passes marks.test) text to marks.back.start marks.back.bits) };
+    ghost is_ready_back = { λ s m text to. AreBehind (AreAsciiBytes (λ d. list_any (λ c. c == d) s.now)) (⟦<AsciiTable as ByteTest>⟧.passes) m text to };
 
     #[inline]
     fn searcher(&self, _text: &str, from: usize, to: usize) -> Option<Marks<AsciiTable>> {
@@ -319,11 +315,9 @@ impl<'a, const N: usize> Pattern for &'a [char; N] {
 
     ghost ends = { λ s. char_ends (λ d. list_any (λ c. c == d) s.now) };
 
-    ghost is_ready = { λ s m text from. IfSome m (λ marks. AreAsciiBytes (λ d. list_any (λ c. c == d) s.now) (⟦<AsciiTable as ByteTest>⟧.passes marks.test)
-        × Ahead (⟦<AsciiTable as ByteTest>⟧.passes marks.test) text from marks.front.next marks.front.bits) };
+    ghost is_ready = { λ s m text from. AreAhead (AreAsciiBytes (λ d. list_any (λ c. c == d) s.now)) (⟦<AsciiTable as ByteTest>⟧.passes) m text from };
 
-    ghost is_ready_back = { λ s m text to. IfSome m (λ marks. AreAsciiBytes (λ d. list_any (λ c. c == d) s.now) (⟦<AsciiTable as ByteTest>⟧.passes marks.test)
-        × Behind (⟦<AsciiTable as ByteTest>⟧.passes marks.test) text to marks.back.start marks.back.bits) };
+    ghost is_ready_back = { λ s m text to. AreBehind (AreAsciiBytes (λ d. list_any (λ c. c == d) s.now)) (⟦<AsciiTable as ByteTest>⟧.passes) m text to };
 
     #[inline]
     fn searcher(&self, _text: &str, from: usize, to: usize) -> Option<Marks<AsciiTable>> {

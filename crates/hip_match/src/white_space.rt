@@ -9,7 +9,7 @@ ghost use Rattle.hip_match.specs.Iterators.{Gives};
 ghost use Rattle.hip_match.specs.Characters.{char_ends};
 ghost use Rattle.hip_match.specs.CharLaws.{char_ends-spans, char_ends-one_start, char_ends-one_char};
 ghost use Rattle.hip_match.specs.MarkedSets.{AreFirstBytes};
-ghost use Rattle.hip_match.specs.Marks.{Ahead, Behind};
+ghost use Rattle.hip_match.specs.Searchers.{AreAhead, AreBehind};
 ghost use Rattle.hip_match.specs.Runs.{nonempty, split_whitespace};
 
 pub use crate::ascii_space::SplitAsciiWhitespace;
@@ -60,13 +60,11 @@ impl MarkedSet for WhiteSpace {
 impl Pattern for WhiteSpace {
     type Searcher = Option<Marks<SpaceLeads>>;
 
-    ghost ends = { λ _. char_ends (is_whitespace) };
+    ghost ends = { λ _. char_ends is_whitespace };
 
-    ghost is_ready = { λ _ m text from. IfSome m (λ marks. AreFirstBytes is_whitespace (⟦<SpaceLeads as ByteTest>⟧.passes marks.test)
-        × Ahead (⟦<SpaceLeads as ByteTest>⟧.passes marks.test) text from marks.front.next marks.front.bits) };
+    ghost is_ready = { λ _ m text from. AreAhead (AreFirstBytes is_whitespace) (⟦<SpaceLeads as ByteTest>⟧.passes) m text from };
 
-    ghost is_ready_back = { λ _ m text to. IfSome m (λ marks. AreFirstBytes is_whitespace (⟦<SpaceLeads as ByteTest>⟧.passes marks.test)
-        × Behind (⟦<SpaceLeads as ByteTest>⟧.passes marks.test) text to marks.back.start marks.back.bits) };
+    ghost is_ready_back = { λ _ m text to. AreBehind (AreFirstBytes is_whitespace) (⟦<SpaceLeads as ByteTest>⟧.passes) m text to };
 
     #[inline]
     fn searcher(&self, _text: &str, from: usize, to: usize) -> Option<Marks<SpaceLeads>> {
@@ -98,7 +96,7 @@ impl Pattern for WhiteSpace {
         end_of(self, text, at)
     }
 
-    ghost spans = { λ _. char_ends-spans (is_whitespace) };
+    ghost spans = { λ _. char_ends-spans is_whitespace };
 }
 
 impl ReversePattern for WhiteSpace {
@@ -127,11 +125,11 @@ impl ReversePattern for WhiteSpace {
         start_before(self, text, to)
     }
 
-    ghost one_start = { λ _. char_ends-one_start (is_whitespace) };
+    ghost one_start = { λ _. char_ends-one_start is_whitespace };
 }
 
 impl OneChar for WhiteSpace {
-    ghost one_char = { λ _. char_ends-one_char (is_whitespace) };
+    ghost one_char = { λ _. char_ends-one_char is_whitespace };
 }
 
 impl ClonePattern for WhiteSpace {
