@@ -3,7 +3,7 @@ use Rattle.std.proofs.lemmas.Bool.Decides.{nat_tests}
 use Rattle.std.proofs.lemmas.Grind.{common_steps}
 use Rattle.std.proofs.Common.{◌≡◌, ℕ, zero, suc, ◌+◌, ◌<◌, ◌≤◌, Bool, [], ◌∷◌, Option, List, ap, ◌∙◌, arith, ⊎_elim}
 use Rattle.std.proofs.Math.Path.{fun_ext}
-use Rattle.std.proofs.Math.Utf8.{scalar, scalar_cases}
+use Rattle.std.proofs.Math.Utf8.{scalar_cases}
 use Rattle.std.specs.Char.{IsScalar}
 use Rattle.std.specs.Option.{option_and_then}
 use Rattle.hip_match.specs.Characters.{char_at, char_ends, end_if}
@@ -33,7 +33,7 @@ scalar_below c is = ⊎_elim (λ (low : c < 55296). omega arith) (λ (high : (57
 
 module _ (p q : ℕ → Bool) (same : (c : ℕ) → IsScalar c → p c ≡ q c) where
   same_end : (c : ℕ × ℕ) → end_if p c ≡ end_if q c
-  same_end c = grind (arith, nat_tests, common_steps, scalar)
+  same_end c = grind (arith, nat_tests, common_steps)
 
   pub same_ends : char_ends p ≡ char_ends q
   same_ends = ap {B = List ℕ → ℕ → Option ℕ} (λ (f : ℕ × ℕ → Option ℕ) text i. option_and_then f (char_at text i)) (fun_ext same_end)

@@ -84,7 +84,7 @@ module _ (m by : ℕ) (fits : m < 2 ^ 64) where
   from_below k low = ap (λ x. bit_at x k) from_is ∙ bit_at_cat_low (m / 2 ^ by) by 0 k low ∙ bit_at-zero k
 
   pub from_kept : (k : ℕ) → by ≤ k → bit_at (m / 2 ^ by * 2 ^ by % 2 ^ 64) k ≡ bit_at m k
-  from_kept k le = grind (arith, nat_tests, common_steps, bit_at, bit_at_cat_high, from_is, pow_pos, shr-shr)
+  from_kept k le = grind (arith, nat_tests, common_steps, bit_at_cat_high, from_is, pow_pos, shr-shr)
 
 -- ---- all but one
 

@@ -55,7 +55,7 @@ module _ (t : List ℕ) (i : ℕ) (utf8 : IsUtf8 t) (cut : IsCharBoundary t i) (
     first bs e = ap (λ k. slice_index t k) (sym (add-zero i)) ∙ byte bs e 0
 
     room : (bs : List ℕ) → encode_utf8 c ≡ bs → (len_utf8 c ≡ length bs) × (i + length bs ≤ length t)
-    room bs e = grind (arith, nat_tests, common_steps, len_utf8, length-encode)
+    room bs e = grind (arith, nat_tests, common_steps, length-encode)
 
     spelt : Two c ⊎ (Three c ⊎ Four c)
     spelt =
@@ -171,7 +171,7 @@ module _ (t : List ℕ) (to : ℕ) (utf8 : IsUtf8 t) (cut : IsCharBoundary t to)
       spelt_before
 
   pub room_3 : slice_index t (to - 2) < 192 → 3 ≤ to
-  room_3 low = grind (arith, nat_tests, common_steps, read, spelt_before, stop)
+  room_3 low = grind (arith, nat_tests, common_steps, spelt_before)
 
   pub before_three : slice_index t (to - 2) < 192 → 192 ≤ slice_index t (to - 3)
       → (925824 ≤ (slice_index t (to - 3) * 64 + slice_index t (to - 2)) * 64 + slice_index t (to - 1))

@@ -12,7 +12,7 @@ use lib.Lanes.{Each1, chunk, mask_l, top, zip2}
 
 -- the mask of sixteen lanes has sixteen bits
 few_lanes : (v z : List ℕ) (f : ℕ → ℕ) → length v ≡ 16 → z ≡ map f v → mask_l (map (top 7) z) % 2 ^ 64 < 65536
-few_lanes v z f long is = grind (arith, nat_tests, common_steps, length-map, mask_l-lt, mask_l-mod, top)
+few_lanes v z f long is = grind (arith, nat_tests, common_steps, length-map, mask_l-lt, mask_l-mod)
 
 -- lane by lane, z is f of the sixteen bytes from i on, and its lanes are set just where the bytes pass the test
 pub marked : (test : ℕ → Bool) (xs : List ℕ) (i : ℕ) (z : List ℕ) (f : ℕ → ℕ) → i + 16 ≤ length xs

@@ -94,7 +94,7 @@ not_within (r ∷ l) i a order lt h =
 
 module _ (e : ℕ → Option ℕ) where
   tail : (from : ℕ) (r : ℕ × ℕ) (l : List (ℕ × ℕ)) → IsLeftmost e from (r ∷ l) → IsLeftmost e (place_after r) l
-  tail from r l h = grind (arith, nat_tests, common_steps, inl, inr)
+  tail from r l h = grind (arith, nat_tests, common_steps)
 
   -- the first of one list isn't before the first of the other
   not_before : (from : ℕ) (r : ℕ × ℕ) (l : List (ℕ × ℕ)) (s : ℕ × ℕ) (m : List (ℕ × ℕ)) → IsLeftmost e from (r ∷ l) → IsLeftmost e from (s ∷ m) → r.0 < s.0 → ⊥

@@ -55,7 +55,7 @@ module _ (e : ℕ → Option ℕ) where
       ∙ leftmost_from-pass d (i + 1) n (λ k lo hi. h k (omega arith) (omega arith)) ∙ ap (λ k. leftmost_from e 0 k n) same
 
   pub leftmost_from-to : (i j n : ℕ) → i ≤ j → ((k : ℕ) → i ≤ k → k < j → e k ≡ None) → leftmost_from e 0 i (j - i + n) ≡ leftmost_from e 0 j n
-  leftmost_from-to i j n le h = grind (arith, nat_tests, common_steps, leftmost_from, leftmost_from-pass)
+  leftmost_from-to i j n le h = grind (arith, nat_tests, common_steps, leftmost_from-pass)
 
   pub leftmost_from-none : (i n : ℕ) → ((k : ℕ) → i ≤ k → k < i + n → e k ≡ None) → leftmost_from e 0 i n ≡ []
   leftmost_from-none i n h =

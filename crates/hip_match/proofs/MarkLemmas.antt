@@ -123,7 +123,7 @@ module _ (test : ℕ → Bool) (t : List ℕ) where
       first = h.told r low.bound low.set
 
       pub first-found : (stop : ℕ) → to ≤ stop → IsFirst (Passes test t) from stop (Some (end + r - 64))
-      first-found stop le = grind (arith, nat_tests, common_steps, first)
+      first-found stop le = grind (arith, nat_tests, common_steps)
 
       pub first-passed : (n : ℕ) → bit_at n r ≡ 0 → ((k : ℕ) → k ≢ r → bit_at n k ≡ bit_at m k) → AreMarks test t (end + r - 64 + 1) to end n
       first-passed n gone others = record {
@@ -143,7 +143,7 @@ module _ (test : ℕ → Bool) (t : List ℕ) where
       last = h.told r top.bound top.set
 
       pub last-found : IsLast (Passes test t) 0 to (Some (end + r - 64))
-      last-found = grind (arith, nat_tests, common_steps, last)
+      last-found = grind (arith, nat_tests, common_steps)
 
       pub last-passed : (n : ℕ) → bit_at n r ≡ 0 → ((k : ℕ) → k ≢ r → bit_at n k ≡ bit_at m k) → AreMarks test t from (end + r - 64) end n
       last-passed n gone others = record {

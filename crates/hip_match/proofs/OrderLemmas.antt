@@ -60,7 +60,7 @@ without_return-Within t r le = cut (ends_with t 13 r) (λ yes. ltb-true r.0 r.1 
         (cases_Bool b)
 
 line_of-Within : (t : List ℕ) (r : ℕ × ℕ) → r.0 ≤ r.1 → Within r (line_of t r)
-line_of-Within t r le = grind (arith, nat_tests, common_steps, and_parts, cond-false, cond-true, ends_with, ltb-true, without_return-Within)
+line_of-Within t r le = grind (arith, nat_tests, common_steps, and_parts, cond-false, cond-true, ltb-true, without_return-Within)
 
 pub lines-InOrder : (t : List ℕ) (l : List (ℕ × ℕ)) (i n : ℕ) → InOrder i l n → InOrder i (map (line_of t) l) n
 lines-InOrder t [] i n h = h

@@ -44,7 +44,7 @@ module _ (f : ℕ → Option ℕ) where
 
 -- where the clipped search gives nothing, the pattern doesn't occur: no occurrence ends past the text
 unclipped : (p t : List ℕ) (k : ℕ) → end_within (length t) (text_ends p t k) ≡ None → text_ends p t k ≡ None
-unclipped p t k none = grind (arith, nat_tests, common_steps, by_option, end_within-some, none-some, text_ends, text_ends-is)
+unclipped p t k none = grind (arith, nat_tests, common_steps, by_option, end_within-some, none-some, text_ends-is)
 
 module _ (p t : List ℕ) where
   abbrev clipped : ℕ → Option ℕ

@@ -113,7 +113,7 @@ pub terminator-next_back : (ending : Bool) (old mid new : List (ℕ × ℕ)) (x 
     → old ≡ mid ++ x ∷ [] → x.0 ≡ x.1
     → MatchOption r ((mid ≡ []) × (new ≡ [])) (λ y. mid ≡ new ++ y ∷ [])
     → MatchOption r (((if ending then without_empty_last old else old) ≡ []) × (new ≡ [])) (λ y. (if ending then without_empty_last old else old) ≡ new ++ y ∷ [])
-terminator-next_back ending old mid new x r is h empty later = grind (arith, nat_tests, common_steps, [], cond-true, without_empty_last, without_empty_last-dropped)
+terminator-next_back ending old mid new x r is h empty later = grind (arith, nat_tests, common_steps, cond-true, without_empty_last-dropped)
 
 -- ranges between two places of a text are between them of an equal text
 pub IsBetween-moved : (t u : List ℕ) (i j : ℕ) (l : List (ℕ × ℕ)) → u ≡ t → IsBetween t i l j → IsBetween u i l j
@@ -163,7 +163,7 @@ ended-none : (old new : List (ℕ × ℕ)) (i n : ℕ) → new ≡ [] → InOrde
 ended-none old new i n none h = let P : List (ℕ × ℕ) → Type 0 = λ l. InOrder i l n in subst P (sym none) (InOrder-le old i n h)
 
 pub TakesLastCut-before : (old new : List (ℕ × ℕ)) (n : ℕ) (m : ℕ × ℕ) → old ≡ new ++ m ∷ [] → m.0 < m.1 → m.1 < n → TakesLastCut n old (Some m) new
-TakesLastCut-before old new n m is full lt i h = grind (arith, nat_tests, common_steps, InOrder, InOrder-append, InOrder-widen, ended, ended-append)
+TakesLastCut-before old new n m is full lt i h = grind (arith, nat_tests, common_steps, InOrder-append, InOrder-widen, ended-append)
 
 pub TakesLastCut-at : (old mid new : List (ℕ × ℕ)) (n : ℕ) (m : ℕ × ℕ) (r : Option (ℕ × ℕ)) → old ≡ mid ++ m ∷ [] → m.0 < m.1 → n ≤ m.1
     → MatchOption r ((mid ≡ []) × (new ≡ [])) (λ y. mid ≡ new ++ y ∷ []) → IfSome r (λ y. y.0 < y.1) → TakesLastCut n old r new

@@ -81,7 +81,7 @@ not_within (r ∷ l) j b order le h =
 
 module _ (e : ℕ → Option ℕ) (one : (a b c : ℕ) → e a ≡ Some c → e b ≡ Some c → a ≡ b) where
   tail : (below : ℕ) (r : ℕ × ℕ) (l : List (ℕ × ℕ)) → IsRightmost e below (r ∷ l) → IsRightmost e (place_before r) l
-  tail below r l h = grind (arith, nat_tests, common_steps, inl, inr)
+  tail below r l h = grind (arith, nat_tests, common_steps)
 
   not_after : (below : ℕ) (r : ℕ × ℕ) (l : List (ℕ × ℕ)) (s : ℕ × ℕ) (m : List (ℕ × ℕ)) → IsRightmost e below (r ∷ l) → IsRightmost e below (s ∷ m) → s.1 < r.1 → ⊥
   not_after below r l s m h g lt =

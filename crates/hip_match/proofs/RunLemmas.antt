@@ -72,7 +72,7 @@ module _ (p : ℕ → Bool) (t : List ℕ) (utf8 : IsUtf8 t) where
 
   -- a run lies before a match or behind it
   beside : (m r : ℕ × ℕ) → char_ends p t m.0 ≡ Some m.1 → IsRun p t r → (r.1 ≤ m.0) ⊎ (m.1 ≤ r.0)
-  beside m r is run = grind (arith, nat_tests, common_steps, char_ends-one_char, inl, inr, none-some)
+  beside m r is run = grind (arith, nat_tests, common_steps, char_ends-one_char, none-some)
 
   outcome : (ms : List (ℕ × ℕ)) (i : ℕ) → IsCharBoundary t i → Stop i → Chain i ms → Covers i ms → Outcome i (nonempty (gaps i ms (length t)))
   outcome [] i start before chain covers =

@@ -67,13 +67,13 @@ module _ (rows : List ℕ) (byte c : ℕ) (ascii : byte < 128) (long : length ro
   x = bit_or (get_or rows i 0) (2 ^ h)
 
   as_written : in_rows (set rows (bit_and byte 15) (bit_or (get_or rows (bit_and byte 15) 0) (1 * 2 ^ (byte / 16) % 256))) c ≡ in_rows (set rows i x) c
-  as_written = grind (arith, nat_tests, common_steps, and_mask, in_rows, power, set)
+  as_written = grind (arith, nat_tests, common_steps, and_mask, power)
 
   by_row : c < 128 → (bit_at (get_or (set rows i x) (c % 16) 0) (c / 16) == 1) ≡ (c == byte || bit_at (get_or rows (c % 16) 0) (c / 16) == 1)
-  by_row low = grind (arith, nat_tests, common_steps, bit_at, bit_at-lt, bit_at-pow_other, bit_at-pow_same, bit_at_or, cases_eq, get_or-set_at, get_or-set_other, set)
+  by_row low = grind (arith, nat_tests, common_steps, bit_at-lt, bit_at-pow_other, bit_at-pow_same, bit_at_or, cases_eq, get_or-set_at, get_or-set_other)
 
   pub one_more : in_rows (set rows (bit_and byte 15) (bit_or (get_or rows (bit_and byte 15) 0) (1 * 2 ^ (byte / 16) % 256))) c ≡ (c == byte || in_rows rows c)
-  one_more = grind (arith, nat_tests, common_steps, as_written, bit_at, by_row, in_rows, in_rows-low, set)
+  one_more = grind (arith, nat_tests, common_steps, as_written, by_row, in_rows-low)
 
 other_bit : (b : ℕ) → b < 2 → ((b + 1) % 2 == 1) ≡ not (b == 1)
 other_bit zero two = refl
@@ -106,4 +106,4 @@ either b d one two = grind (arith, nat_tests)
 
 -- the bits of both
 pub joined : (rows others : List ℕ) (c : ℕ) → length rows ≡ 16 → length others ≡ 16 → in_rows (zip2 bit_or rows others) c ≡ (in_rows rows c || in_rows others c)
-joined rows others c long wide = grind (arith, nat_tests, common_steps, bit_at, bit_at-lt, bit_at_or, either, get_or-zip2, in_rows, in_rows-low, others, zip2)
+joined rows others c long wide = grind (arith, nat_tests, common_steps, bit_at-lt, bit_at_or, either, get_or-zip2, in_rows-low, others)

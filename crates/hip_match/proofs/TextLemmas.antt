@@ -197,7 +197,7 @@ module _ (t p : List ℕ) where
     text_at-yes a cut h = grind (arith, nat_tests, common_steps, OccursAt-drop, empty_text, occurs-text_ends)
 
     pub text_at-no : (a : ℕ) → ¬ OccursAt (drop a t) p 0 → text_ends p t a ≡ None
-    text_at-no a off = grind (arith, nat_tests, common_steps, OccursAt-in_drop, option_cases, text_ends, text_ends-occurs)
+    text_at-no a off = grind (arith, nat_tests, common_steps, OccursAt-in_drop, option_cases, text_ends-occurs)
 
     -- the search from the back
     pub rfind_text-none : (to : ℕ) → to ≤ length t → FindsLastNeedle (take to t) p None → (a b : ℕ) → text_ends p t a ≡ Some b → to < b

@@ -110,7 +110,7 @@ char_ends-is p t a b utf8 is =
     (found.0, (x.0, found.1, (and_parts (scalar x.0) (p x.0) both.0).1, sym both.1 ∙ found.2)))
 
 pub char_ends-spans : (p : ℕ → Bool) (t : List ℕ) (a b : ℕ) → IsUtf8 t → char_ends p t a ≡ Some b → IsCut t (a, b)
-char_ends-spans p t a b utf8 is = grind (arith, nat_tests, common_steps, char_ends-is, len_utf8)
+char_ends-spans p t a b utf8 is = grind (arith, nat_tests, common_steps, char_ends-is)
 
 pub char_ends-one_char : (p : ℕ → Bool) (t : List ℕ) (a b : ℕ) → IsUtf8 t → char_ends p t a ≡ Some b → IsOneChar t (a, b)
 char_ends-one_char p t a b utf8 is =
@@ -135,7 +135,7 @@ char_ends-yes p t i c starts passes =
     ap (option_and_then (end_if p)) starts.at ∙ cond-true _ _ _ (and_from (scalar c) (p c) starts.scalar passes)
 
 pub char_ends-no : (p : ℕ → Bool) (t : List ℕ) (i c j : ℕ) → char_at t i ≡ Some (c, j) → p c ≡ false → char_ends p t i ≡ None
-char_ends-no p t i c j at fails = grind (arith, nat_tests, common_steps, and_parts, cond-false, end_if, false≢true, option_and_then, scalar)
+char_ends-no p t i c j at fails = grind (arith, nat_tests, common_steps, and_parts, cond-false, false≢true)
 
 pub char_ends-none : (p : ℕ → Bool) (t : List ℕ) (i : ℕ) → char_at t i ≡ None → char_ends p t i ≡ None
 char_ends-none p t i at = ap (option_and_then (end_if p)) at
