@@ -23,21 +23,25 @@ pub trait ByteTest: Copy {
         requires { at + 16 ≤ length bytes.now }
         ensures { AreMarks (passes self.now) bytes.now at (at + 16) (at + 64) result };
 
-    /// The first byte at or after `from` that passes, where the test has a search for far ones.
+    /// The first byte at or after `from` that passes, by a search of the test's own for bytes that are far, where it has one.
     #[inline(always)]
-    fn far_first(&self, _bytes: &[u8], _from: usize) -> Option<Option<usize>>
-        requires { _from ≤ length _bytes.now }
-        ensures { IfSome result (IsFirst (Passes (passes self.now) _bytes.now) _from (length _bytes.now)) }
+    fn far_first(&self, bytes: &[u8], from: usize) -> Option<Option<usize>>
+        requires { from ≤ length bytes.now }
+        ensures { IfSome result (IsFirst (Passes (passes self.now) bytes.now) from (length bytes.now)) }
     {
+        let _ = bytes;
+        let _ = from;
         None
     }
 
-    /// The last byte before `to` that passes, where the test has a search for far ones.
+    /// Like `far_first`, but the last byte before `to`.
     #[inline(always)]
-    fn far_last(&self, _bytes: &[u8], _to: usize) -> Option<Option<usize>>
-        requires { _to ≤ length _bytes.now }
-        ensures { IfSome result (IsLast (Passes (passes self.now) _bytes.now) 0 _to) }
+    fn far_last(&self, bytes: &[u8], to: usize) -> Option<Option<usize>>
+        requires { to ≤ length bytes.now }
+        ensures { IfSome result (IsLast (Passes (passes self.now) bytes.now) 0 to) }
     {
+        let _ = bytes;
+        let _ = to;
         None
     }
 }
