@@ -124,7 +124,7 @@ pub(crate) fn char_before(text: &str, to: usize) -> Option<(char, usize)>
 }
 
 /// A set of characters. It occurs in a text at each character that belongs.
-pub trait CharSet {
+pub(crate) trait CharSet {
     /// The condition under which the set can be tested.
     ghost can_test: { Self → Type 0 } = { λ _. Unit {0} };
 

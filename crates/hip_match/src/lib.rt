@@ -6,8 +6,7 @@
 //!   [`ReversePattern`] is found from the end too, [`DoubleEndedPattern`] may be trimmed from both ends, each match of a [`OneChar`] is
 //!   one character, and the clones of a [`ClonePattern`] are found where it is.
 //! - [`marks`] finds the bytes that pass a test 64 at a time, from either end, for every walk by characters; [`byte_test`] has the
-//!   tests, and [`bits`] what is asked of the bits of a number. A [`MarkedSet`] of characters is found by the bytes with which they
-//!   begin.
+//!   tests, and [`bits`] what is asked of the bits of a number.
 //! - [`Ranges`] is a walk from its front, [`RangesBack`] from both ends, and the clones of [`CloneRanges`] give what they do: [`Split`],
 //!   [`SplitInclusive`], [`SplitTerminator`], [`SplitN`], [`Matches`] and [`MatchIndices`] from a text's front, [`RSplit`],
 //!   [`RSplitTerminator`], [`RSplitN`], [`RMatches`] and [`RMatchIndices`] from its end, [`Lines`], [`SplitWhitespace`] and
@@ -33,13 +32,13 @@ mod ascii_space;
 pub mod bits;
 mod boundaries;
 pub mod byte_test;
-pub mod chars;
+mod chars;
 pub mod chosen;
 pub mod draw;
 pub mod indices;
 pub mod laws;
 pub mod lines;
-pub mod marked_set;
+mod marked_set;
 pub mod marks;
 pub mod matches;
 pub mod pattern;
@@ -59,7 +58,6 @@ pub use chosen::Chosen;
 pub use draw::{End, draw_into};
 pub use indices::{Indices, MatchIndices, RMatchIndices};
 pub use lines::Lines;
-pub use marked_set::MarkedSet;
 pub use matches::Matches;
 pub use pattern::{ClonePattern, DoubleEndedPattern, OneChar, Pattern, ReversePattern};
 pub use predicate::{CharPred, choose_by};

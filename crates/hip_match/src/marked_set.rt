@@ -14,7 +14,7 @@ use crate::chars::{CharSet, first_of, last_of};
 use crate::marks::Marks;
 
 /// A set of characters that is found by the bytes with which they begin.
-pub trait MarkedSet: CharSet + Drop {
+pub(crate) trait MarkedSet: CharSet + Drop {
     /// Tests the bytes with which the characters begin.
     type Test: ByteTest;
 
