@@ -35,6 +35,7 @@ impl<'b, B: Backend> HipOsStr<'b, B> {
 }
 
 /// The value under the one key of an object, if that is `Unix`.
+#[tactic(auto, using(crate::proofs::Json::unix))]
 fn under_unix(value: &Value) -> Option<&Value>
     ensures { option_map (λ inner. view inner.now) result ≡ unix_of (view value.now) }
 {
