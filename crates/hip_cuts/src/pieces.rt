@@ -16,7 +16,7 @@ use hip_match::ranges::{CloneRanges, Ranges, RangesBack};
 use hip_match::rmatches::RMatches;
 use hip_match::rsplit::{RSplit, RSplitN, RSplitTerminator};
 use hip_match::split::{Split, SplitInclusive, SplitN, SplitTerminator};
-use hip_match::white_space::{SplitAsciiWhitespace, SplitWhitespace};
+use hip_match::white_space::Runs;
 use hip_text::{Backend, HipStr, Meter};
 use std::alloc::{AllocError, Global};
 use std::marker::Model;
@@ -54,9 +54,7 @@ impl<'h, P: ReversePattern> Unnumbered for RMatches<'h, P> {}
 
 impl<'h> Unnumbered for Lines<'h> {}
 
-impl<'h> Unnumbered for SplitWhitespace<'h> {}
-
-impl<'h> Unnumbered for SplitAsciiWhitespace<'h> {}
+impl<R: Ranges> Unnumbered for Runs<R> {}
 
 /// The pieces of a source at the ranges that `I` gives. Seen as the source and the ranges that are left.
 #[derive(Drop)]

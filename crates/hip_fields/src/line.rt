@@ -5,9 +5,9 @@ ghost use Rattle.hip_match.specs.Joined.{parts_at};
 ghost use Rattle.hip_match.specs.Occurrence.{IsCut};
 ghost use Rattle.hip_fields.specs.Records.{AreFields, fields_cost, fields_of};
 
+use hip_cuts::hip_match::marked_parts::SplitByte;
 use hip_cuts::hip_match::ranges::Ranges;
 use hip_cuts::hip_match::split::Split;
-use hip_cuts::hip_match::split_byte::SplitByte;
 use hip_cuts::{Backend, HipStr, Meter};
 use hip_text::laws::slice_of_slice;
 use std::alloc::{AllocError, Global};

@@ -1,12 +1,9 @@
 -- A predicate's answers at all characters as one list, which tells where the set of those that pass occurs.
-use Rattle.std.proofs.lemmas.Bool.Decides.{nat_tests}
-use Rattle.std.proofs.lemmas.Grind.{common_steps}
-use Rattle.std.proofs.Common.{◌≡◌, ℕ, zero, suc, ◌+◌, ◌<◌, ◌≤◌, Bool, [], ◌∷◌, Option, List, ap, ◌∙◌, arith, ⊎_elim}
+use Rattle.std.proofs.Common.{◌≡◌, ℕ, zero, suc, ◌+◌, ◌<◌, Bool, [], ◌∷◌, List, arith}
 use Rattle.std.proofs.Math.Path.{fun_ext}
 use Rattle.std.proofs.Math.Utf8.{scalar_cases}
 use Rattle.std.specs.Char.{IsScalar}
-use Rattle.std.specs.Option.{option_and_then}
-use Rattle.hip_match.specs.Characters.{char_at, char_ends, end_if}
+use Rattle.hip_match.specs.Characters.{char_ends, end_if}
 use Rattle.hip_match.specs.Answers.{answer_at}
 
 -- the answers at the n numbers from i on
@@ -21,26 +18,26 @@ answers_of passes = answers_from passes 0 1114112
 answer_at-from : (passes : ℕ → Bool) (i n c : ℕ) → c < n → answer_at (answers_from passes i n) c ≡ passes (i + c)
 unfolding answers_from
 answer_at-from passes i zero c lt = absurd (omega arith)
-answer_at-from passes i (suc n) zero lt = let same : i ≡ i + 0 = omega arith in ap passes same
-answer_at-from passes i (suc n) (suc c) lt = let same : i + 1 + c ≡ i + suc c = omega arith in answer_at-from passes (i + 1) n c (omega arith) ∙ ap passes same
+answer_at-from passes i (suc n) zero lt = grind arith
+answer_at-from passes i (suc n) (suc c) lt = grind (arith, answer_at-from passes (i + 1) n c (omega arith))
 
 answer_at-of : (passes : ℕ → Bool) (c : ℕ) → c < 1114112 → answer_at (answers_of passes) c ≡ passes c
 unfolding answers_of
-answer_at-of passes c lt = let same : 0 + c ≡ c = omega arith in answer_at-from passes 0 1114112 c lt ∙ ap passes same
+answer_at-of passes c lt = grind (arith, answer_at-from)
 
 pub scalar_below : (c : ℕ) → IsScalar c → c < 1114112
-scalar_below c is = ⊎_elim (λ (low : c < 55296). omega arith) (λ (high : (57344 ≤ c) × (c < 1114112)). high.1) (scalar_cases c is)
+scalar_below c is = grind (arith, scalar_cases)
 
 module _ (p q : ℕ → Bool) (same : (c : ℕ) → IsScalar c → p c ≡ q c) where
   same_end : (c : ℕ × ℕ) → end_if p c ≡ end_if q c
-  same_end c = grind (arith, nat_tests, common_steps)
+  same_end c = grind arith
 
   pub same_ends : char_ends p ≡ char_ends q
-  same_ends = ap {B = List ℕ → ℕ → Option ℕ} (λ (f : ℕ × ℕ → Option ℕ) text i. option_and_then f (char_at text i)) (fun_ext same_end)
+  same_ends = grind (arith, fun_ext, same_end)
 
 -- a list of all answers gives them
 pub answered : (passes : ℕ → Bool) (answers : List Bool) → answers ≡ answers_of passes → (c : ℕ) → IsScalar c → answer_at answers c ≡ passes c
-answered passes answers are c is = ap (λ l. answer_at l c) are ∙ answer_at-of passes c (scalar_below c is)
+answered passes answers are c is = grind (arith, answer_at-of, scalar_below)
 
 pub answered_ends : (passes : ℕ → Bool) (answers : List Bool) → answers ≡ answers_of passes → char_ends (λ c. answer_at answers c) ≡ char_ends passes
-answered_ends passes answers are = same_ends (λ c. answer_at answers c) passes (answered passes answers are)
+answered_ends passes answers are = grind (arith, same_ends, answered)

@@ -1,13 +1,11 @@
 -- The bytes of a character of two bytes or more, and its number, which they spell.
 use Rattle.std.proofs.lemmas.Bool.Decides.{nat_tests}
 use Rattle.std.proofs.lemmas.Grind.{common_steps}
-use Rattle.std.proofs.Common.{◌≡◌, ℕ, zero, suc, ◌+◌, ◌-◌, ◌*◌, ◌/◌, ◌%◌, ◌<◌, ◌≤◌, ◌⊎◌, inl, inr, List, [], ◌∷◌, ◌++◌, Some, ⊎_elim, length, drop, sym, ap, subst, ◌∙◌, arith, add-zero, le-ltb, lt-ltb, get_or-drop}
-use Rattle.std.specs.Prelude.{slice_index}
-use Rattle.std.proofs.lemmas.Bool.{cases_lt, cases_Bool, false≢true}
+use Rattle.std.proofs.Common.{◌≡◌, ℕ, zero, suc, ◌+◌, ◌-◌, ◌*◌, ◌/◌, ◌%◌, ◌<◌, ◌≤◌, ◌⊎◌, List, [], ◌∷◌, ◌++◌, Some, ⊎_elim, length, drop, sym, ap, ◌∙◌, arith, add-zero, le-ltb, lt-ltb, get_or-drop, slice_index, IsUtf8, IsCharBoundary}
+use Rattle.std.proofs.lemmas.Bool.{cases_lt, cases_Bool}
 use Rattle.std.proofs.lemmas.Str.{length-encode, IsCharBoundary-start}
 use Rattle.std.proofs.lemmas.Option.{some_pair_parts}
 use Rattle.std.specs.Char.{encode_utf8, len_utf8}
-use Rattle.std.specs.Str.{IsUtf8, IsCharBoundary}
 use Rattle.hip_match.specs.Characters.{char_at, IsCharBefore}
 use Rattle.hip_match.specs.CharLaws.{StartsChar, starts_char, is_boundary-true, is_boundary-is, char_at-ascii, char_at-between}
 use Rattle.hip_match.specs.Occurrence.{is_boundary}
@@ -23,11 +21,11 @@ encode_2 c lo hi = rw (le-ltb c 128 lo, lt-ltb c 2048 hi)
 
 encode_3 : (c : ℕ) → 2048 ≤ c → c < 65536 → encode_utf8 c ≡ (224 + c / 4096) ∷ (128 + c / 64 % 64) ∷ (128 + c % 64) ∷ []
 unfolding encode_utf8
-encode_3 c lo hi = rw (le-ltb c 128 (omega arith), le-ltb c 2048 lo, lt-ltb c 65536 hi)
+encode_3 c lo hi = grind (arith, le-ltb, lt-ltb)
 
 encode_4 : (c : ℕ) → 65536 ≤ c → encode_utf8 c ≡ (240 + c / 262144) ∷ (128 + c / 4096 % 64) ∷ (128 + c / 64 % 64) ∷ (128 + c % 64) ∷ []
 unfolding encode_utf8
-encode_4 c lo = rw (le-ltb c 128 (omega arith), le-ltb c 2048 (omega arith), le-ltb c 65536 lo)
+encode_4 c lo = grind (arith, le-ltb)
 
 module _ (t : List ℕ) (i : ℕ) (utf8 : IsUtf8 t) (cut : IsCharBoundary t i) (lt : i < length t) (wide : 128 ≤ slice_index t i) where
   -- the bytes of c from i on, if c has two, three or four of them
@@ -49,25 +47,16 @@ module _ (t : List ℕ) (i : ℕ) (utf8 : IsUtf8 t) (cut : IsCharBoundary t i) (
     rest = drop (i + len_utf8 c) t
 
     byte : (bs : List ℕ) → encode_utf8 c ≡ bs → (k : ℕ) → slice_index t (i + k) ≡ slice_index (bs ++ rest) k
-    byte bs e k = sym (get_or-drop i t k 0) ∙ ap (λ l. slice_index l k) (starts.split ∙ ap (λ b. b ++ rest) e)
+    byte bs e k = grind (arith, get_or-drop, starts)
 
     first : (bs : List ℕ) → encode_utf8 c ≡ bs → slice_index t i ≡ slice_index (bs ++ rest) 0
-    first bs e = ap (λ k. slice_index t k) (sym (add-zero i)) ∙ byte bs e 0
+    first bs e = grind (arith, add-zero, byte)
 
     room : (bs : List ℕ) → encode_utf8 c ≡ bs → (len_utf8 c ≡ length bs) × (i + length bs ≤ length t)
-    room bs e = grind (arith, nat_tests, common_steps, length-encode)
+    room bs e = grind (arith, length-encode)
 
     spelt : Two c ⊎ (Three c ⊎ Four c)
-    spelt =
-        ⊎_elim (λ (h : c < 128). absurd (omega (arith, first _ (encode_1 c h))))
-        (λ (h : 128 ≤ c). ⊎_elim
-        (λ (u : c < 2048). let e = encode_2 c h u in inl ((room _ e).0, u, first _ e, byte _ e 1, (room _ e).1))
-        (λ (u : 2048 ≤ c). ⊎_elim
-        (λ (v : c < 65536). let e = encode_3 c u v in inr (inl ((room _ e).0, v, first _ e, byte _ e 1, byte _ e 2, (room _ e).1)))
-        (λ (v : 65536 ≤ c). let e = encode_4 c v in inr (inr ((room _ e).0, first _ e, byte _ e 1, byte _ e 2, byte _ e 3, (room _ e).1)))
-        (cases_lt c 65536))
-        (cases_lt c 2048))
-        (cases_lt c 128)
+    spelt = grind (arith, nat_tests, common_steps, first, encode_1, encode_2, room, byte, encode_3, encode_4, cases_lt)
 
   here : (c : ℕ) × StartsChar t i c
   here = starts_char t i utf8 cut lt
@@ -76,52 +65,47 @@ module _ (t : List ℕ) (i : ℕ) (utf8 : IsUtf8 t) (cut : IsCharBoundary t i) (
   bytes = spelt here.0 here.1
 
   is : (width code : ℕ) → len_utf8 here.0 ≡ width → code ≡ here.0 → char_at t i ≡ Some (code, i + width)
-  is width code one two = here.1.at ∙ ap (λ k. Some (here.0, i + k)) one ∙ ap (λ k. Some (k, i + width)) (sym two)
+  is width code one two = grind (arith, here)
 
   pub second : (i + 1 < length t) × (128 ≤ slice_index t (i + 1))
-  second = ⊎_elim (λ h. (omega (arith, h.4), omega (arith, h.3))) (λ r. ⊎_elim (λ h. (omega (arith, h.5), omega (arith, h.3))) (λ h. (omega (arith, h.5), omega (arith, h.2))) r) bytes
+  second = grind (arith, bytes)
 
   pub third : 224 ≤ slice_index t i → (i + 2 < length t) × (128 ≤ slice_index t (i + 2))
-  third high = ⊎_elim (λ h. absurd (omega (arith, h.1, h.2))) (λ r. ⊎_elim (λ h. (omega (arith, h.5), omega (arith, h.4))) (λ h. (omega (arith, h.5), omega (arith, h.3))) r) bytes
+  third high = grind (arith, bytes)
 
   pub fourth : 240 ≤ slice_index t i → (i + 3 < length t) × (128 ≤ slice_index t (i + 3))
-  fourth high = ⊎_elim (λ h. absurd (omega (arith, h.1, h.2))) (λ r. ⊎_elim (λ h. absurd (omega (arith, h.1, h.2))) (λ h. (omega (arith, h.5), omega (arith, h.4))) r) bytes
+  fourth high = grind (arith, bytes)
 
   pub is_two : slice_index t i < 224 → char_at t i ≡ Some ((slice_index t i - 192) * 64 + (slice_index t (i + 1) - 128), i + 2)
-  is_two low = grind (arith, nat_tests, common_steps, bytes, is)
+  is_two low = grind (arith, bytes, is)
 
   pub is_three : 224 ≤ slice_index t i → slice_index t i < 240
       → char_at t i ≡ Some (((slice_index t i - 224) * 64 + (slice_index t (i + 1) - 128)) * 64 + (slice_index t (i + 2) - 128), i + 3)
-  is_three high low = grind (arith, nat_tests, common_steps, bytes, is)
+  is_three high low = grind (arith, bytes, is)
 
   pub is_four : 240 ≤ slice_index t i
       → char_at t i ≡ Some ((((slice_index t i - 240) * 64 + (slice_index t (i + 1) - 128)) * 64 + (slice_index t (i + 2) - 128)) * 64 + (slice_index t (i + 3) - 128), i + 4)
-  is_four high = grind (arith, nat_tests, common_steps, bytes, is)
+  is_four high = grind (arith, bytes, is)
 
 -- ---- from the back
 
 -- the last boundary before `to` starts the character that ends there
 module _ (t : List ℕ) (to : ℕ) (utf8 : IsUtf8 t) (cut : IsCharBoundary t to) (some : 0 < to) (wide : 128 ≤ slice_index t (to - 1)) where
   found : (n : ℕ) → n < to → ((k : ℕ) → n < k → k < to → ¬ IsCharBoundary t k) → (i : ℕ) × IsPreviousBoundary t to i
-  found zero lt none = (0, record { before = lt; boundary = IsCharBoundary-start t utf8; none = none })
+  found zero lt none = grind (arith, IsCharBoundary-start t utf8)
   found (suc n) lt none =
-      ⊎_elim (λ yes. (suc n, record { before = lt; boundary = is_boundary-is t (suc n) yes; none = none }))
-      (λ no. found n (omega arith) (λ k lo hi at. ⊎_elim
-      (λ (past : suc n < k). none k past hi at)
-      (λ (le : k ≤ suc n).
-      let same : k ≡ suc n = omega arith in
-      false≢true (sym no ∙ ap (is_boundary t) (sym same) ∙ is_boundary-true t k at))
-      (cases_lt (suc n) k)))
+      ⊎_elim (λ yes. grind (arith, is_boundary-is))
+      (λ no. found n (omega arith) (λ k lo hi at. grind (arith, is_boundary-true)))
       (cases_Bool (is_boundary t (suc n)))
 
   prev : (i : ℕ) × IsPreviousBoundary t to i
-  prev = found (to - 1) (omega arith) (λ k lo hi. absurd (omega arith))
+  prev = grind (arith, found (to - 1))
 
   abbrev at : ℕ
   at = prev.0
 
   within : at < length t
-  within = let before = prev.1.before in omega (arith, cut.0)
+  within = grind (arith, prev)
 
   ends : (c k : ℕ) → char_at t at ≡ Some (c, k) → k ≡ to
   ends c k is = (some_pair_parts _ _ _ _ (sym is ∙ char_at-between t at to utf8 prev.1.boundary cut prev.1.before prev.1.none c k is)).1
@@ -130,8 +114,7 @@ module _ (t : List ℕ) (to : ℕ) (utf8 : IsUtf8 t) (cut : IsCharBoundary t to)
   wide_at =
       ⊎_elim (λ (low : slice_index t at < 128).
       let end : at + 1 ≡ to = ends _ _ (char_at-ascii t at utf8 prev.1.boundary within low) in
-      let same : at ≡ to - 1 = omega arith in
-      absurd (omega (arith, low, wide, ap (slice_index t) same)))
+      grind arith)
       (λ (high : 128 ≤ slice_index t at). high)
       (cases_lt (slice_index t at) 128)
 
@@ -150,55 +133,37 @@ module _ (t : List ℕ) (to : ℕ) (utf8 : IsUtf8 t) (cut : IsCharBoundary t to)
   read j k same = ap (slice_index t) same
 
   starts : (width code i : ℕ) → len_utf8 char.0 ≡ width → code ≡ char.0 → i + width ≡ to → IsCharBefore t to (code, i)
-  starts width code i one two end =
-      let back : at + width ≡ to = stop width one in
-      let same : at ≡ i = omega arith in
-      let P : ℕ → Type 0 = λ j. IsCharBefore t to (code, j) in
-      subst P same
-      (record {
-        before = prev.1.before;
-        boundary = prev.1.boundary;
-        is = char.1.at ∙ ap (λ k. Some (char.0, k)) (ends char.0 _ char.1.at) ∙ ap (λ k. Some (k, to)) (sym two);
-      })
+  starts width code i one two end = grind (arith, stop width one, prev, is, ends char.0)
 
   pub room_2 : 2 ≤ to
-  room_2 = ⊎_elim (λ h. let e = stop 2 h.0 in omega arith) (λ r. ⊎_elim (λ h. let e = stop 3 h.0 in omega arith) (λ h. let e = stop 4 h.0 in omega arith) r) spelt_before
+  room_2 = grind (arith, stop, spelt_before)
 
   pub before_two : 192 ≤ slice_index t (to - 2) → IsCharBefore t to (slice_index t (to - 2) * 64 + slice_index t (to - 1) - 12416, to - 2)
   before_two lead =
-      ⊎_elim (λ h. let e = stop 2 h.0 in starts 2 _ (to - 2) h.0 (omega (arith, h.2, h.3, read at (to - 2) (omega arith), read (at + 1) (to - 1) (omega arith))) (omega arith))
-      (λ r. ⊎_elim (λ h. let e = stop 3 h.0 in absurd (omega (arith, h.3, read (at + 1) (to - 2) (omega arith)))) (λ h. let e = stop 4 h.0 in absurd (omega (arith, h.3, read (at + 2) (to - 2) (omega arith)))) r)
+      ⊎_elim (λ h. grind (arith, stop 2 h.0, starts 2, read at (to - 2), read (at + 1) (to - 1)))
+      (λ r. ⊎_elim (λ h. grind (arith, stop 3 h.0, read (at + 1) (to - 2))) (λ h. grind (arith, stop 4 h.0, read (at + 2) (to - 2))) r)
       spelt_before
 
   pub room_3 : slice_index t (to - 2) < 192 → 3 ≤ to
-  room_3 low = grind (arith, nat_tests, common_steps, spelt_before)
+  room_3 low = grind (arith, spelt_before)
 
   pub before_three : slice_index t (to - 2) < 192 → 192 ≤ slice_index t (to - 3)
       → (925824 ≤ (slice_index t (to - 3) * 64 + slice_index t (to - 2)) * 64 + slice_index t (to - 1))
       × IsCharBefore t to ((slice_index t (to - 3) * 64 + slice_index t (to - 2)) * 64 + slice_index t (to - 1) - 925824, to - 3)
   before_three low lead =
-      ⊎_elim (λ h. let e = stop 2 h.0 in absurd (omega (arith, h.2, read at (to - 2) (omega arith))))
+      ⊎_elim (λ h. grind (arith, stop 2 h.0, read at (to - 2)))
       (λ r. ⊎_elim
       (λ h.
-      let e = stop 3 h.0 in
-      let one = read at (to - 3) (omega arith) in
-      let two = read (at + 1) (to - 2) (omega arith) in
-      let three = read (at + 2) (to - 1) (omega arith) in
-      (omega (arith, h.2, h.3, h.4, one, two, three), starts 3 _ (to - 3) h.0 (omega (arith, h.2, h.3, h.4, one, two, three)) (omega arith)))
-      (λ h. let e = stop 4 h.0 in absurd (omega (arith, h.2, read (at + 1) (to - 3) (omega arith)))) r)
+      grind (arith, stop 3 h.0, read at (to - 3), read (at + 1) (to - 2), read (at + 2) (to - 1), starts 3))
+      (λ h. grind (arith, stop 4 h.0, read (at + 1) (to - 3))) r)
       spelt_before
 
   pub before_four : slice_index t (to - 2) < 192 → slice_index t (to - 3) < 192
       → (4 ≤ to) × (63447168 ≤ ((slice_index t (to - 4) * 64 + slice_index t (to - 3)) * 64 + slice_index t (to - 2)) * 64 + slice_index t (to - 1))
       × IsCharBefore t to (((slice_index t (to - 4) * 64 + slice_index t (to - 3)) * 64 + slice_index t (to - 2)) * 64 + slice_index t (to - 1) - 63447168, to - 4)
   before_four low lower =
-      ⊎_elim (λ h. let e = stop 2 h.0 in absurd (omega (arith, h.2, read at (to - 2) (omega arith))))
-      (λ r. ⊎_elim (λ h. let e = stop 3 h.0 in absurd (omega (arith, h.2, read at (to - 3) (omega arith))))
+      ⊎_elim (λ h. grind (arith, stop 2 h.0, read at (to - 2)))
+      (λ r. ⊎_elim (λ h. grind (arith, stop 3 h.0, read at (to - 3)))
       (λ h.
-      let e = stop 4 h.0 in
-      let one = read at (to - 4) (omega arith) in
-      let two = read (at + 1) (to - 3) (omega arith) in
-      let three = read (at + 2) (to - 2) (omega arith) in
-      let four = read (at + 3) (to - 1) (omega arith) in
-      (omega arith, omega (arith, h.1, h.2, h.3, h.4, one, two, three, four), starts 4 _ (to - 4) h.0 (omega (arith, h.1, h.2, h.3, h.4, one, two, three, four)) (omega arith))) r)
+      grind (arith, stop 4 h.0, read at (to - 4), read (at + 1) (to - 3), read (at + 2) (to - 2), read (at + 3) (to - 1), starts 4)) r)
       spelt_before

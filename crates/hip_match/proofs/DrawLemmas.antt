@@ -1,7 +1,8 @@
 -- Draws from one end.
-use Rattle.std.proofs.Common.{◌≡◌, ℕ, List, [], ◌∷◌, ◌++◌, Option, Some, None, refl, ap, sym, append_assoc, ◌∙◌, reverse}
-use Rattle.std.proofs.lemmas.List.{append-nil, reverse-append}
-use Rattle.std.specs.Prelude.{MatchOption}
+use Rattle.std.proofs.lemmas.Bool.Decides.{nat_tests}
+use Rattle.std.proofs.lemmas.Grind.{common_steps}
+use Rattle.std.proofs.Common.{arith, ◌≡◌, ℕ, List, [], ◌∷◌, ◌++◌, Option, Some, None, refl, ap, append_assoc, reverse, append-nil, MatchOption}
+use Rattle.std.proofs.lemmas.List.{reverse-append}
 use Rattle.hip_match.specs.declared.draw.End.{End}
 use Rattle.hip_match.specs.declared.draw.End.TheVariants.{Front, Back}
 use Rattle.hip_match.specs.Draw.{last_of, but_last, draw, left_by, fronts, backs, TakesEnd}
@@ -16,14 +17,11 @@ but_last-append y (z ∷ l) x = ap (λ r. y ∷ r) (but_last-append z l x)
 
 back : (l : List (ℕ × ℕ)) (x : ℕ × ℕ) (es : List End) → (draw (l ++ x ∷ []) (Back ∷ es) ≡ x ∷ draw l es) × (left_by (l ++ x ∷ []) (Back ∷ es) ≡ left_by l es)
 back [] x es = (refl, refl)
-back (y ∷ l) x es = (
-  ap (λ z. z ∷ draw (but_last y (l ++ x ∷ [])) es) (last_of-append y l x) ∙ ap (λ r. x ∷ draw r es) (but_last-append y l x),
-  ap (λ r. left_by r es) (but_last-append y l x),
-)
+back (y ∷ l) x es = grind (arith, last_of-append, but_last-append)
 
 pub TakesEnd-back : (old new : List (ℕ × ℕ)) (r : Option (ℕ × ℕ)) → MatchOption r ((old ≡ []) × (new ≡ [])) (λ x. old ≡ new ++ x ∷ []) → TakesEnd Back old new r
 TakesEnd-back old new None h = h
-TakesEnd-back old new (Some x) h = λ es. (ap (λ l. draw l (Back ∷ es)) h ∙ (back new x es).0, ap (λ l. left_by l (Back ∷ es)) h ∙ (back new x es).1)
+TakesEnd-back old new (Some x) h = λ es. grind (arith, back new x es)
 
 but_last-last : (x : ℕ × ℕ) (l : List (ℕ × ℕ)) → but_last x l ++ last_of x l ∷ [] ≡ x ∷ l
 but_last-last x [] = refl
@@ -33,14 +31,4 @@ pub ends_meet : (es : List End) (l : List (ℕ × ℕ)) → fronts es (draw l es
 ends_meet [] l = append-nil l
 ends_meet (e ∷ es) [] = refl
 ends_meet (Front ∷ es) (x ∷ l) = ap (λ r. x ∷ r) (ends_meet es l)
-ends_meet (Back ∷ es) (x ∷ l) =
-    let rest = but_last x l in
-    let f = fronts es (draw rest es) in
-    let m = left_by rest es in
-    let b = backs es (draw rest es) in
-    let z = last_of x l in
-    ap (λ r. f ++ (m ++ r)) (reverse-append (z ∷ []) b)
-    ∙ ap (λ r. f ++ r) (sym (append_assoc m (reverse b) (z ∷ [])))
-    ∙ sym (append_assoc f (m ++ reverse b) (z ∷ []))
-    ∙ ap (λ r. r ++ z ∷ []) (ends_meet es rest)
-    ∙ but_last-last x l
+ends_meet (Back ∷ es) (x ∷ l) = grind (arith, nat_tests, common_steps, reverse-append, append_assoc, but_last-last, ends_meet es (but_last x l))

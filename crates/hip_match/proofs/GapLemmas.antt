@@ -1,100 +1,74 @@
--- The parts of a text between the characters of a set, from either end.
-use Rattle.std.proofs.lemmas.Bool.Decides.{nat_tests}
+-- The parts of a text between the characters of ASCII that pass a test, from either end.
 use Rattle.std.proofs.lemmas.Grind.{common_steps}
-use Rattle.std.proofs.Common.{◌≡◌, ℕ, ◌+◌, ◌-◌, ◌<◌, ◌≤◌, Bool, List, [], ◌∷◌, ◌++◌, Option, None, Some, length, refl, ap, ◌∙◌, arith}
-use Rattle.std.specs.Char.{is_ascii_whitespace}
-use Rattle.std.proofs.lemmas.Option.{none-some}
+use Rattle.std.proofs.Common.{◌≡◌, ◌∙◌, ℕ, ◌+◌, ◌-◌, ◌<◌, ◌≤◌, Bool, false, List, [], ◌∷◌, ◌++◌, Option, None, Some, length, ap, refl, arith, option_map}
 use Rattle.memchr.specs.Find.{IsFirst, IsLast, Passes}
 use Rattle.hip_match.specs.Characters.{char_ends}
 use Rattle.hip_match.specs.CharLaws.{char_ends-spans, char_ends-one_char}
 use Rattle.hip_match.specs.Leftmost.{leftmost_between, end_within}
-use Rattle.hip_match.specs.Marks.{in_rows, marked_parts}
-use Rattle.hip_match.specs.Occurrence.{EndsLast, IsCut, NoneStarts, StartsFirst}
+use Rattle.hip_match.specs.Marks.{marked_parts}
+use Rattle.hip_match.specs.FirstBytes.{ascii-some, ascii_first_bytes}
+use Rattle.hip_match.specs.MarkedSets.{AreFirstBytes}
+use Rattle.hip_match.specs.Occurrence.{IsCut, IsLastMatch, IsNextMatch}
 use Rattle.hip_match.specs.Pieces.{gaps}
 use Rattle.hip_match.specs.Ready.{IsWindow}
-use Rattle.hip_match.specs.Runs.{nonempty}
-use Rattle.hip_match.proofs.AsciiSetLemmas.{in_rows-low, last-match, next-match}
 use Rattle.hip_match.proofs.LeftmostLemmas.{leftmost_between-some, leftmost_from-none, end_within-none, end_within-past}
+use Rattle.hip_match.proofs.MarkedSetLemmas.{beyond-new, ends_last, none_before, none_left, starts_first}
 use Rattle.hip_match.proofs.OneCharLemmas.{HasCharOccurrences, back_match}
-use Rattle.hip_match.proofs.PiecesLemmas.{gaps-append, nonempty-kept, nonempty-dropped, nonempty-append_kept, nonempty-append_dropped}
+use Rattle.hip_match.proofs.PiecesLemmas.{gaps-append}
 
--- each occurrence that starts at or after `from` ends behind `to`
-abbrev pub IsQuiet : (ℕ → Option ℕ) → ℕ → ℕ → Type 0
-IsQuiet ends from to = (a b : ℕ) → ends a ≡ Some b → from ≤ a → to < b
-
-module _ (belongs : ℕ → Bool) (t : List ℕ) (from to : ℕ) (w : IsWindow t from to) where
+module _ (p : ℕ → Bool) (low : (c : ℕ) → 128 ≤ c → p c ≡ false) (t : List ℕ) (from to : ℕ) (w : IsWindow t from to) where
   abbrev e : ℕ → Option ℕ
-  e = char_ends belongs t
+  e = char_ends p t
+
+  first : AreFirstBytes p p
+  first = ascii_first_bytes p p (record { same = λ c. refl; ascii = low })
+
+  next-match : (r : Option ℕ) → IsFirst (Passes p t) from (length t) r → IsNextMatch e from (option_map (λ i. (i, i + 1)) r)
+  next-match None found = none_left p p first t w.utf8 from from (λ k lo hi. absurd (omega arith)) found
+  next-match (Some i) found = starts_first p p first t w.utf8 from from i (i + 1) (omega arith) (λ k lo hi. absurd (omega arith)) found (ascii-some p low t w.utf8 i found.0.high found.1)
+
+  last-match : (r : Option ℕ) → IsLast (Passes p t) 0 to r → IsLastMatch e to (option_map (λ i. (i, i + 1)) r)
+  last-match None found = none_before p p first t w.utf8 to to (beyond-new p p first t w.utf8 to) found
+  last-match (Some i) found =
+      let high = found.0.high in
+      let within = w.end.0 in
+      ends_last p p first t w.utf8 to to (beyond-new p p first t w.utf8 to) i (i + 1) w.end (omega arith) found (ascii-some p low t w.utf8 i (omega arith) found.1)
 
   chars : HasCharOccurrences t e
-  chars = record { spans = λ a b. char_ends-spans belongs t a b w.utf8; one = λ a b. char_ends-one_char belongs t a b w.utf8 }
+  chars = record { spans = λ a b. char_ends-spans p t a b w.utf8; one = λ a b. char_ends-one_char p t a b w.utf8 }
 
-  pub next_cut : (at : ℕ) → StartsFirst e from (at, at + 1) → IsCut t (at, at + 1)
-  next_cut at next = chars.spans at (at + 1) next.occurs
+  -- one part, where each occurrence from its start on ends behind its end
+  only : ((a b : ℕ) → e a ≡ Some b → from ≤ a → to < b) → marked_parts p t from to ≡ (from, to) ∷ []
+  only quiet = ap (λ l. gaps from l to) (leftmost_from-none (λ k. end_within to (e k)) from (to + 1 - from) (λ k lo hi. ends k lo (e k) refl))
+    where
+      ends : (k : ℕ) → from ≤ k → (o : Option ℕ) → e k ≡ o → end_within to (e k) ≡ None
+      ends k lo None is = end_within-none to (e k) is
+      ends k lo (Some m) is = end_within-past to m (e k) is (quiet k m is lo)
 
-  pub last_cut : (at : ℕ) → EndsLast e to (at, at + 1) → IsCut t (at, at + 1)
-  last_cut at last = chars.spans at (at + 1) last.occurs
+  module _ (at : ℕ) (found : IsFirst (Passes p t) from (length t) (Some at)) where
+    pub first_cut : IsCut t (at, at + 1)
+    first_cut = chars.spans at (at + 1) (next-match (Some at) found).occurs
 
-  -- no such character before the first that is found
-  pub quiet_before : NoneStarts e from to → IsQuiet e from to
-  quiet_before none a b is le = grind (arith, nat_tests, common_steps, chars, none-some)
+    pub first_part : at < to → marked_parts p t from to ≡ (from, at) ∷ marked_parts p t (at + 1) to
+    first_part lt =
+        let next = next-match (Some at) found in
+        let after = next.after in
+        ap (λ l. gaps from l to)
+        (leftmost_between-some e from to at (at + 1) (at + 1) next (omega arith) (omega arith) (omega arith) (omega arith) (omega arith) (λ k lo mid hi. absurd (omega arith)))
 
-  -- no occurrence lies behind the last
-  pub quiet_behind : (at : ℕ) → EndsLast e to (at, at + 1) → at < from → IsQuiet e from to
-  quiet_behind at last lt a b is le = let holds : a < b = (chars.one a b is).holds in last.last a b is (omega arith)
+  module _ (at : ℕ) (found : IsLast (Passes p t) 0 to (Some at)) where
+    pub last_cut : IsCut t (at, at + 1)
+    last_cut = chars.spans at (at + 1) (last-match (Some at) found).occurs
 
-  pub first_part : (at : ℕ) → StartsFirst e from (at, at + 1) → at < to → marked_parts belongs t from to ≡ (from, at) ∷ marked_parts belongs t (at + 1) to
-  first_part at next lt =
-      let after = next.after in
-      ap (λ l. gaps from l to)
-      (leftmost_between-some e from to at (at + 1) (at + 1) next (omega arith) (omega arith) (omega arith) (omega arith) (omega arith) (λ k lo mid hi. absurd (omega arith)))
+    pub last_part : from ≤ at → marked_parts p t from to ≡ marked_parts p t from at ++ (at + 1, to) ∷ []
+    last_part le =
+        ap (λ l. gaps from l to) (back_match t e chars from to w at (at + 1) (last-match (Some at) found) le)
+        ∙ gaps-append (leftmost_between e from at) from to (at, at + 1)
 
-  last_part : (at : ℕ) → EndsLast e to (at, at + 1) → from ≤ at → marked_parts belongs t from to ≡ marked_parts belongs t from at ++ (at + 1, to) ∷ []
-  last_part at last le =
-      ap (λ l. gaps from l to) (back_match t e chars from to w at (at + 1) last le)
-      ∙ gaps-append (leftmost_between e from at) from to (at, at + 1)
+  -- the last part, from the front and from the back
+  pub only_ahead : (r : Option ℕ) → IsFirst (Passes p t) from (length t) r → ((at : ℕ) → r ≡ Some at → to ≤ at) → marked_parts p t from to ≡ (from, to) ∷ []
+  only_ahead None found past = only (λ a b is le. grind (arith, common_steps, next-match None found))
+  only_ahead (Some at) found past = only (λ a b is le. grind (arith, common_steps, next-match (Some at) found, past at refl, chars.one a b is))
 
-  quiet : IsQuiet e from to → (k : ℕ) → from ≤ k → (o : Option ℕ) → e k ≡ o → end_within to (e k) ≡ None
-  quiet none k lo None is = end_within-none to (e k) is
-  quiet none k lo (Some m) is = end_within-past to m (e k) is (none k m is lo)
-
-  pub only_part : IsQuiet e from to → marked_parts belongs t from to ≡ (from, to) ∷ []
-  only_part none = ap (λ l. gaps from l to) (leftmost_from-none (λ k. end_within to (e k)) from (to + 1 - from) (λ k lo hi. quiet none k lo (e k) refl))
-
-  pub first_run : (at : ℕ) → StartsFirst e from (at, at + 1) → at < to → from < at → nonempty (marked_parts belongs t from to) ≡ (from, at) ∷ nonempty (marked_parts belongs t (at + 1) to)
-  first_run at next lt full = ap nonempty (first_part at next lt) ∙ nonempty-kept (from, at) (marked_parts belongs t (at + 1) to) full
-
-  pub first_empty : (at : ℕ) → StartsFirst e from (at, at + 1) → at < to → at ≤ from → nonempty (marked_parts belongs t from to) ≡ nonempty (marked_parts belongs t (at + 1) to)
-  first_empty at next lt empty = ap nonempty (first_part at next lt) ∙ nonempty-dropped (from, at) (marked_parts belongs t (at + 1) to) empty
-
-  pub last_run : (at : ℕ) → EndsLast e to (at, at + 1) → from ≤ at → at + 1 < to → nonempty (marked_parts belongs t from to) ≡ nonempty (marked_parts belongs t from at) ++ (at + 1, to) ∷ []
-  last_run at last le full = nonempty-append_kept (marked_parts belongs t from to) (marked_parts belongs t from at) (at + 1, to) (last_part at last le) full
-
-  pub last_empty : (at : ℕ) → EndsLast e to (at, at + 1) → from ≤ at → to ≤ at + 1 → nonempty (marked_parts belongs t from to) ≡ nonempty (marked_parts belongs t from at)
-  last_empty at last le empty = nonempty-append_dropped (marked_parts belongs t from to) (marked_parts belongs t from at) (at + 1, to) (last_part at last le) empty
-
-  pub only_run : IsQuiet e from to → from < to → nonempty (marked_parts belongs t from to) ≡ (from, to) ∷ []
-  only_run none full = ap nonempty (only_part none) ∙ nonempty-kept (from, to) [] full
-
-  pub no_run : to ≤ from → nonempty (marked_parts belongs t from to) ≡ []
-  no_run empty = ap nonempty (only_part (λ a b is le. let holds : a < b = (chars.one a b is).holds in omega arith)) ∙ nonempty-dropped (from, to) [] empty
-
--- the places that the table of white space finds
-module _ (rows : List ℕ) (same : in_rows rows ≡ is_ascii_whitespace) (t bytes : List ℕ) (from to : ℕ) (w : IsWindow t from to) (value : bytes ≡ t) where
-  test : (c : ℕ) → in_rows rows c ≡ is_ascii_whitespace c
-  test c = ap (λ (p : ℕ → Bool). p c) same
-
-  pub space_ahead : (at : ℕ) → IsFirst (Passes (in_rows rows) bytes) from (length bytes) (Some at) → StartsFirst (char_ends is_ascii_whitespace t) from (at, at + 1)
-  space_ahead at found = next-match (in_rows rows) is_ascii_whitespace test (in_rows-low rows) t bytes w.utf8 value from (Some at) found
-
-  pub quiet_ahead : IsFirst (Passes (in_rows rows) bytes) from (length bytes) None → IsQuiet (char_ends is_ascii_whitespace t) from to
-  quiet_ahead found = quiet_before is_ascii_whitespace t from to w (λ k lo hi. next-match (in_rows rows) is_ascii_whitespace test (in_rows-low rows) t bytes w.utf8 value from None found k lo)
-
-  pub quiet_up_to : (at : ℕ) → IsFirst (Passes (in_rows rows) bytes) from (length bytes) (Some at) → to ≤ at → IsQuiet (char_ends is_ascii_whitespace t) from to
-  quiet_up_to at found le = quiet_before is_ascii_whitespace t from to w (λ k lo hi. (space_ahead at found).first k lo (omega arith))
-
-  pub space_behind : (at : ℕ) → IsLast (Passes (in_rows rows) bytes) 0 to (Some at) → EndsLast (char_ends is_ascii_whitespace t) to (at, at + 1)
-  space_behind at found = last-match (in_rows rows) is_ascii_whitespace test (in_rows-low rows) t bytes w.utf8 value to (Some at) w.end.0 found
-
-  pub quiet_back : IsLast (Passes (in_rows rows) bytes) 0 to None → IsQuiet (char_ends is_ascii_whitespace t) from to
-  quiet_back found a b is le = last-match (in_rows rows) is_ascii_whitespace test (in_rows-low rows) t bytes w.utf8 value to None w.end.0 found a b is
+  pub only_behind : (r : Option ℕ) → IsLast (Passes p t) 0 to r → ((at : ℕ) → r ≡ Some at → at < from) → marked_parts p t from to ≡ (from, to) ∷ []
+  only_behind r found past = only (λ a b is le. grind (arith, common_steps, last-match r found, past, chars.one a b is))

@@ -1,18 +1,12 @@
 -- The scan gives the leftmost list, no other list is leftmost, and joining undoes splitting.
-use Rattle.std.proofs.lemmas.Bool.Decides.{nat_tests}
-use Rattle.std.proofs.lemmas.Grind.{common_steps}
-use Rattle.std.proofs.Common.{◌≡◌, ℕ, zero, suc, ◌+◌, ◌-◌, ◌<◌, ◌≤◌, List, [], ◌∷◌, ◌++◌, Option, Some, refl, sym, ap, subst, ◌∙◌, arith, ⊎_elim, inl, inr, length, take, drop}
-use Rattle.std.specs.Prelude.{◌⊎◌, ⊤, max, slice_range}
-use Rattle.std.proofs.lemmas.Bool.{cases_lt, cond-true, cond-false, eq-eqb, ne_eqb, cases_eq}
+use Rattle.std.proofs.Common.{◌≡◌, ℕ, zero, suc, ◌+◌, ◌-◌, ◌<◌, ◌≤◌, List, [], ◌∷◌, ◌++◌, Option, Some, refl, arith, ⊎_elim, length}
+use Rattle.std.specs.Prelude.{⊤}
+use Rattle.std.proofs.lemmas.Bool.{cases_lt, cond-true, cond-false, cases_eq}
 use Rattle.std.proofs.lemmas.Option.{none-some, same_Some}
-use Rattle.std.specs.Option.{option_map_or}
 use Rattle.hip_match.proofs.OccurrenceLemmas.{option_cases}
 use Rattle.hip_match.proofs.LeftmostLemmas.{end_within-is, end_within-some}
 use Rattle.hip_match.specs.Leftmost.{leftmost_from, leftmost, end_within, AllOccur, place_after, BeginInOrder, IsListed, BeginsWithin, IsLeftmost}
-use Rattle.std.proofs.Common.{drop-drop, take_all, le_refl}
-use Rattle.std.proofs.Math.Seq.{take-add}
-use Rattle.std.proofs.lemmas.List.{append-nil}
-use Rattle.std.specs.Str.{IsUtf8}
+use Rattle.std.proofs.Common.{drop-drop, take_all, le_refl, ◌⊎◌, max, slice_range, eq-eqb, ne_eqb, take-add, append-nil, IsUtf8}
 use Rattle.hip_match.specs.Texts.{text_ends}
 use Rattle.hip_match.specs.TextLaws.{text_ends-is, text_ends-spans}
 use Rattle.hip_match.proofs.LeftmostLemmas.{leftmost_between-InOrder}
@@ -26,39 +20,23 @@ module _ (f : ℕ → Option ℕ) where
   scan_occur s i zero = tt
   scan_occur (suc s) i (suc n) = scan_occur s (i + 1) n
   scan_occur zero i (suc n) =
-      let P : Option ℕ → Type 0 = λ o. AllOccur f (option_map_or (λ b. (i, b) ∷ leftmost_from f (b - i - 1) (i + 1) n) o (leftmost_from f 0 (i + 1) n)) in
-      option_cases (f i) (λ none. subst P (sym none) (scan_occur 0 (i + 1) n)) (λ b some. subst P (sym some) (some, scan_occur (b - i - 1) (i + 1) n))
+      option_cases (f i) (λ none. grind (arith, scan_occur 0 (i + 1) n)) (λ b some. grind (arith, scan_occur (b - i - 1) (i + 1) n))
 
   scan_order : (s i n j : ℕ) → j ≤ i + s → BeginInOrder j (leftmost_from f s i n)
   unfolding leftmost_from
   scan_order s i zero j le = tt
   scan_order (suc s) i (suc n) j le = scan_order s (i + 1) n j (omega arith)
   scan_order zero i (suc n) j le =
-      let P : Option ℕ → Type 0 = λ o. BeginInOrder j (option_map_or (λ b. (i, b) ∷ leftmost_from f (b - i - 1) (i + 1) n) o (leftmost_from f 0 (i + 1) n)) in
-      option_cases (f i)
-      (λ none. subst P (sym none) (scan_order 0 (i + 1) n j (omega arith)))
-      (λ b some. subst P (sym some) (omega arith, scan_order (b - i - 1) (i + 1) n (max b (i + 1)) (omega arith)))
+      option_cases (f i) (λ none. grind (arith, scan_order 0 (i + 1) n j))
+      (λ b some. grind (arith, scan_order (b - i - 1) (i + 1) n (max b (i + 1))))
 
   scan_all : (s i n a b : ℕ) → f a ≡ Some b → i + s ≤ a → a < i + n → IsListed a b (leftmost_from f s i n) ⊎ BeginsWithin a (leftmost_from f s i n)
   unfolding leftmost_from
   scan_all s i zero a b is lo hi = absurd (omega arith)
   scan_all (suc s) i (suc n) a b is lo hi = scan_all s (i + 1) n a b is (omega arith) (omega arith)
   scan_all zero i (suc n) a b is lo hi =
-      let P : Option ℕ → Type 0 =
-      λ o. IsListed a b (option_map_or (λ c. (i, c) ∷ leftmost_from f (c - i - 1) (i + 1) n) o (leftmost_from f 0 (i + 1) n))
-      ⊎ BeginsWithin a (option_map_or (λ c. (i, c) ∷ leftmost_from f (c - i - 1) (i + 1) n) o (leftmost_from f 0 (i + 1) n)) in
-      option_cases (f i)
-      (λ none.
-      let later : i < a = ⊎_elim (λ (lt : i < a). lt) (λ (le : a ≤ i). let same : i ≡ a = omega arith in absurd (none-some b (sym none ∙ ap f same ∙ is))) (cases_lt i a) in
-      subst P (sym none) (scan_all 0 (i + 1) n a b is (omega arith) (omega arith)))
-      (λ c some.
-      subst P (sym some) (⊎_elim
-      (λ (past : i < a). ⊎_elim
-      (λ (inside : a < c). inr (inl (omega arith, inside)))
-      (λ (ge : c ≤ a). ⊎_elim (λ l. inl (inr l)) (λ w. inr (inr w)) (scan_all (c - i - 1) (i + 1) n a b is (omega arith) (omega arith)))
-      (cases_lt a c))
-      (λ (le : a ≤ i). let same : i ≡ a = omega arith in inl (inl (same, same_Some c b (sym some ∙ ap f same ∙ is))))
-      (cases_lt i a)))
+      option_cases (f i) (λ none. grind (arith, none-some, cases_lt, scan_all 0 (i + 1) n a b is))
+      (λ c some. grind (arith, scan_all (c - i - 1) (i + 1) n a b is, cases_lt a c, same_Some, cases_lt i a))
 
 -- the clipped function of a text is the function itself
 AllOccur-clipped : (e : ℕ → Option ℕ) (n : ℕ) (l : List (ℕ × ℕ)) → AllOccur (λ k. end_within n (e k)) l → AllOccur e l
@@ -66,13 +44,13 @@ AllOccur-clipped e n [] h = tt
 AllOccur-clipped e n (r ∷ l) h = ((end_within-is n r.1 (e r.0) h.0).0, AllOccur-clipped e n l h.1)
 
 pub leftmost-occur : (e : ℕ → Option ℕ) (n : ℕ) → AllOccur e (leftmost e n)
-leftmost-occur e n = AllOccur-clipped e n (leftmost e n) (scan_occur (λ k. end_within n (e k)) 0 0 (n + 1 - 0))
+leftmost-occur e n = grind (arith, AllOccur-clipped, scan_occur)
 
 pub leftmost-is : (e : ℕ → Option ℕ) (n : ℕ) → ((a b : ℕ) → e a ≡ Some b → (a ≤ b) × (b ≤ n)) → IsLeftmost e 0 (leftmost e n)
 leftmost-is e n spans =
     record {
       occur = leftmost-occur e n;
-      in_order = scan_order (λ k. end_within n (e k)) 0 0 (n + 1 - 0) 0 (omega arith);
+      in_order = grind (arith, scan_order);
       no_other = λ a b is lo. let span = spans a b is in
           scan_all (λ k. end_within n (e k)) 0 0 (n + 1 - 0) a b (end_within-some n b (e a) is span.1) (omega arith) (omega (arith, span.0, span.1));
     }
@@ -80,21 +58,15 @@ leftmost-is e n spans =
 -- nothing listed from i on lies before i
 not_listed : (l : List (ℕ × ℕ)) (i a b : ℕ) → BeginInOrder i l → a < i → IsListed a b l → ⊥
 not_listed [] i a b order lt h = h
-not_listed (r ∷ l) i a b order lt h =
-    let low : i ≤ r.0 = order.0 in
-    ⊎_elim (λ (here : (r.0 ≡ a) × (r.1 ≡ b)). let same : r.0 ≡ a = here.0 in omega arith)
-    (λ later. not_listed l (place_after r) a b order.1 (omega arith) later) h
+not_listed (r ∷ l) i a b order lt h = grind (arith, not_listed l (place_after r) a b order.1)
 
 not_within : (l : List (ℕ × ℕ)) (i a : ℕ) → BeginInOrder i l → a < i → BeginsWithin a l → ⊥
 not_within [] i a order lt h = h
-not_within (r ∷ l) i a order lt h =
-    let low : i ≤ r.0 = order.0 in
-    ⊎_elim (λ (here : (r.0 ≤ a) × (a < r.1)). let under : r.0 ≤ a = here.0 in omega arith)
-    (λ later. not_within l (place_after r) a order.1 (omega arith) later) h
+not_within (r ∷ l) i a order lt h = grind (arith, not_within l (place_after r) a order.1)
 
 module _ (e : ℕ → Option ℕ) where
   tail : (from : ℕ) (r : ℕ × ℕ) (l : List (ℕ × ℕ)) → IsLeftmost e from (r ∷ l) → IsLeftmost e (place_after r) l
-  tail from r l h = grind (arith, nat_tests, common_steps)
+  tail from r l h = grind arith
 
   -- the first of one list isn't before the first of the other
   not_before : (from : ℕ) (r : ℕ × ℕ) (l : List (ℕ × ℕ)) (s : ℕ × ℕ) (m : List (ℕ × ℕ)) → IsLeftmost e from (r ∷ l) → IsLeftmost e from (s ∷ m) → r.0 < s.0 → ⊥
@@ -103,7 +75,7 @@ module _ (e : ℕ → Option ℕ) where
       ⊎_elim (λ listed. not_listed (s ∷ m) s.0 r.0 r.1 order lt listed) (λ within. not_within (s ∷ m) s.0 r.0 order lt within) (g.no_other r.0 r.1 h.occur.0 h.in_order.0)
 
   some_none : (from : ℕ) (r : ℕ × ℕ) (l : List (ℕ × ℕ)) → IsLeftmost e from (r ∷ l) → IsLeftmost e from [] → ⊥
-  some_none from r l h g = ⊎_elim (λ (x : ⊥). x) (λ (x : ⊥). x) (g.no_other r.0 r.1 h.occur.0 h.in_order.0)
+  some_none from r l h g = grind arith
 
   pub leftmost-unique : (l m : List (ℕ × ℕ)) (from : ℕ) → IsLeftmost e from l → IsLeftmost e from m → l ≡ m
   leftmost-unique [] [] from h g = refl
@@ -114,11 +86,7 @@ module _ (e : ℕ → Option ℕ) where
       ⊎_elim (λ (lt : r.0 < s.0). absurd (not_before from r l s m h g lt))
       (λ (ge : s.0 ≤ r.0). ⊎_elim (λ (lt : s.0 < r.0). absurd (not_before from s m r l g h lt)) (λ (le : r.0 ≤ s.0). omega arith) (cases_lt s.0 r.0))
       (cases_lt r.0 s.0) in
-      let end : r.1 ≡ s.1 = same_Some r.1 s.1 (sym h.occur.0 ∙ ap e start ∙ g.occur.0) in
-      let same : r ≡ s = λ i. (start i, end i) in
-      let P : ℕ × ℕ → Type 0 = λ x. IsLeftmost e (place_after x) m in
-      let rest = leftmost-unique l m (place_after r) (tail from r l h) (subst P (sym same) (tail from s m g)) in
-      λ i. same i ∷ rest i
+      grind (arith, same_Some, tail, leftmost-unique l m (place_after r) (tail from r l h), tail from r l h, tail from s m g)
 
 -- ---- joining undoes splitting
 
@@ -128,57 +96,34 @@ AllAre t sep (m ∷ ms) = (slice_range t m.0 m.1 ≡ sep) × AllAre t sep ms
 
 slice_range-append : (t : List ℕ) (i j k : ℕ) → i ≤ j → j ≤ k → slice_range t i j ++ slice_range t j k ≡ slice_range t i k
 slice_range-append t i j k low high =
-    let place : i + (j - i) ≡ j = omega arith in
     let size : (j - i) + (k - j) ≡ k - i = omega arith in
-    ap (λ r. slice_range t i j ++ take (k - j) r) (ap (λ n. drop n t) (sym place) ∙ sym (drop-drop (j - i) i t))
-    ∙ sym (take-add (j - i) (k - j) (drop i t)) ∙ ap (λ n. take n (drop i t)) size
+    grind (arith, drop-drop, take-add)
 
 joined-gaps : (t sep : List ℕ) (ms : List (ℕ × ℕ)) (i n : ℕ) → InOrder i ms n → AllAre t sep ms → rejoined sep (parts_at t (gaps i ms n)) ≡ slice_range t i n
 joined-gaps t sep [] i n order same = refl
-joined-gaps t sep (m ∷ []) i n order same =
-    ap (λ s. slice_range t i m.0 ++ (s ++ slice_range t m.1 n)) (sym same.0)
-    ∙ ap (λ r. slice_range t i m.0 ++ r) (slice_range-append t m.0 m.1 n order.1 order.2)
-    ∙ slice_range-append t i m.0 n order.0 (omega (arith, order.1, order.2))
-joined-gaps t sep (m ∷ k ∷ ms) i n order same =
-    let later = joined-gaps t sep (k ∷ ms) m.1 n order.2 same.1 in
-    let top : m.1 ≤ n = InOrder-le (k ∷ ms) m.1 n order.2 in
-    ap (λ s. slice_range t i m.0 ++ (s ++ rejoined sep (parts_at t (gaps m.1 (k ∷ ms) n)))) (sym same.0)
-    ∙ ap (λ r. slice_range t i m.0 ++ (slice_range t m.0 m.1 ++ r)) later
-    ∙ ap (λ r. slice_range t i m.0 ++ r) (slice_range-append t m.0 m.1 n order.1 top)
-    ∙ slice_range-append t i m.0 n order.0 (omega (arith, order.1, top))
+joined-gaps t sep (m ∷ []) i n order same = grind (arith, slice_range-append)
+joined-gaps t sep (m ∷ k ∷ ms) i n order same = grind (arith, InOrder-le, slice_range-append, joined-gaps t sep (k ∷ ms) m.1 n order.2 same.1)
 
 together-ended : (t : List ℕ) (ms : List (ℕ × ℕ)) (i n : ℕ) → InOrder i ms n → together (parts_at t (ended i ms n)) ≡ slice_range t i n
-together-ended t [] i n order =
-    ⊎_elim
-    (λ (same : i ≡ n).
-    let none : n - i ≡ 0 = omega arith in
-    ap (λ l. together (parts_at t l)) (cond-true _ _ _ (eq-eqb i n same)) ∙ sym (ap (λ k. take k (drop i t)) none))
-    (λ (other : i ≡ n → ⊥). ap (λ l. together (parts_at t l)) (cond-false _ _ _ (ne_eqb i n other)) ∙ append-nil _)
-    (cases_eq i n)
-together-ended t (m ∷ ms) i n order =
-    let top : m.1 ≤ n = InOrder-le ms m.1 n order.2 in
-    ap (λ r. slice_range t i m.1 ++ r) (together-ended t ms m.1 n order.2) ∙ slice_range-append t i m.1 n (omega (arith, order.0, order.1)) top
+together-ended t [] i n order = grind (arith, cond-true, eq-eqb, cond-false, ne_eqb, append-nil, cases_eq)
+together-ended t (m ∷ ms) i n order = grind (arith, InOrder-le, slice_range-append, together-ended t ms m.1 n order.2)
 
 whole : (t : List ℕ) → slice_range t 0 (length t) ≡ t
-whole t = let same : length t - 0 ≡ length t = omega arith in ap (λ n. take n t) same ∙ take_all (length t) t (le_refl (length t))
+whole t = grind (arith, take_all, le_refl)
 
 AllAre-text : (p t : List ℕ) (l : List (ℕ × ℕ)) → AllOccur (text_ends p t) l → AllAre t p l
 AllAre-text p t [] h = tt
-AllAre-text p t (m ∷ l) h =
-    let is = text_ends-is p t m.0 m.1 h.0 in
-    let size : m.1 - m.0 ≡ length p = omega (arith, is.3) in
-    (ap (λ n. take n (drop m.0 t)) size ∙ is.2, AllAre-text p t l h.1)
+AllAre-text p t (m ∷ l) h = grind (arith, text_ends-is p t m.0 m.1 h.0, AllAre-text p t l h.1)
 
 module _ (p t : List ℕ) (utf8 : IsUtf8 t) where
   ordered : InOrder 0 (leftmost (text_ends p t) (length t)) (length t)
   ordered = leftmost_between-InOrder (text_ends p t) 0 (length t) (λ k m is. (text_ends-spans p t k m utf8 is).ordered) (omega arith)
 
   pub split-joined : rejoined p (parts_at t (split (text_ends p t) (length t))) ≡ t
-  split-joined =
-      joined-gaps t p (leftmost (text_ends p t) (length t)) 0 (length t) ordered (AllAre-text p t _ (leftmost-occur (text_ends p t) (length t))) ∙ whole t
+  split-joined = grind (arith, joined-gaps, ordered, AllAre-text, leftmost-occur, whole)
 
   pub split_inclusive-together : together (parts_at t (split_inclusive (text_ends p t) (length t))) ≡ t
-  split_inclusive-together = together-ended t (leftmost (text_ends p t) (length t)) 0 (length t) ordered ∙ whole t
+  split_inclusive-together = grind (arith, together-ended, ordered, whole)
 
 pub ended-together : (e : ℕ → Option ℕ) (t : List ℕ) → ((k m : ℕ) → e k ≡ Some m → k ≤ m) → together (parts_at t (split_inclusive e (length t))) ≡ t
-ended-together e t sorted = together-ended t (leftmost e (length t)) 0 (length t) (leftmost_between-InOrder e 0 (length t) sorted (omega arith)) ∙ whole t
+ended-together e t sorted = grind (arith, together-ended, leftmost_between-InOrder, whole)

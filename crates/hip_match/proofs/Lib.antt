@@ -5,7 +5,6 @@ pub mod ReversalLemmas
 pub mod PiecesLemmas
 pub mod OneCharLemmas
 pub mod SetLemmas
-pub mod AsciiSetLemmas
 pub mod TableLemmas
 pub mod TextLemmas
 mod AnswerLemmas

@@ -1,12 +1,10 @@
 -- Marks of a test: the bits of one number, and the places that they tell.
 use Rattle.std.proofs.lemmas.Bool.Decides.{nat_tests}
 use Rattle.std.proofs.lemmas.Grind.{common_steps}
-use Rattle.std.proofs.Common.{◌≡◌, ◌≢◌, ◌∙◌, ℕ, ◌+◌, ◌-◌, ◌<◌, ◌≤◌, Bool, true, cond, List, Option, None, Some, length, drop, take, take_all, ap, sym, arith, ⊎_elim, bit_or, get_or-drop, length-drop}
-use Rattle.std.specs.Prelude.{slice_index}
+use Rattle.std.proofs.Common.{◌≡◌, ◌≢◌, ◌∙◌, ℕ, ◌+◌, ◌-◌, ◌<◌, ◌≤◌, Bool, true, cond, List, Option, None, Some, length, drop, take, take_all, ap, sym, arith, ⊎_elim, bit_or, get_or-drop, length-drop, slice_index, option_map}
 use Rattle.std.proofs.lemmas.Bool.{cases_lt, cases_Bool}
 use Rattle.std.proofs.lemmas.Nat.Bits.{bit_at-lt, bit_at-zero, bit_at_above, bit_at_or}
 use Rattle.std.specs.Int.{bit_at}
-use Rattle.std.specs.Option.{option_map}
 use Rattle.memchr.specs.Find.{IsFirst, IsFirstByte, IsLast, Nowhere, Passes}
 use Rattle.hip_match.specs.Bits.{IsHighest, IsLowest}
 use Rattle.hip_match.specs.Marks.{Ahead, AreMarks, Behind}

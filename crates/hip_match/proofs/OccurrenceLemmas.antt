@@ -1,7 +1,5 @@
 -- Lemmas of the occurrences of a text.
-use Rattle.std.proofs.Common.{◌≡◌, ℕ, ◌+◌, ◌<◌, ◌≤◌, List, Option, Some, None, refl, arith}
-use Rattle.std.specs.Str.{IsCharBoundary}
-use Rattle.std.proofs.Common.{⊎_elim}
+use Rattle.std.proofs.Common.{◌≡◌, ℕ, ◌+◌, ◌<◌, ◌≤◌, List, Option, Some, None, refl, arith, IsCharBoundary}
 use Rattle.std.proofs.lemmas.Bool.{cases_lt}
 use Rattle.hip_match.specs.Occurrence.{IsCut}
 use Rattle.hip_match.specs.Ready.{IsNextBoundary}
@@ -13,12 +11,8 @@ option_cases (Some b) f g = g b refl
 
 -- nothing starts where there is no boundary
 pub none_off_boundary : (t : List ℕ) (e : ℕ → Option ℕ) → ((a b : ℕ) → e a ≡ Some b → IsCut t (a, b)) → (k : ℕ) → ¬ IsCharBoundary t k → e k ≡ None
-none_off_boundary t e spans k off = by_case (e k) refl
-  where
-    by_case : (o : Option ℕ) → e k ≡ o → e k ≡ None
-    by_case None is = is
-    by_case (Some b) is = absurd (off (spans k b is).start)
+none_off_boundary t e spans k off = option_cases (e k) (λ is. is) (λ b is. absurd (off (spans k b is).start))
 
 -- the next boundary is not past a boundary that follows
 pub not_past : (t : List ℕ) (i j to : ℕ) → IsNextBoundary t i j → i < to → IsCharBoundary t to → j ≤ to + 1
-not_past t i j to next lt cut = ⊎_elim (λ (past : to < j). absurd (next.none to lt past cut)) (λ (le : j ≤ to). omega arith) (cases_lt to j)
+not_past t i j to next lt cut = grind (arith, cases_lt)

@@ -1,7 +1,9 @@
 -- Lemmas of a pattern whose occurrences are single characters.
-use Rattle.std.proofs.Common.{◌≡◌, ℕ, ◌<◌, ◌≤◌, List, [], ◌∷◌, ◌++◌, Option, Some, None, ⊎_elim}
+use Rattle.std.proofs.Common.{arith}
+use Rattle.std.proofs.lemmas.Bool.Decides.{nat_tests}
+use Rattle.std.proofs.lemmas.Grind.{common_steps}
+use Rattle.std.proofs.Common.{◌≡◌, ℕ, ◌<◌, ◌≤◌, List, [], ◌∷◌, ◌++◌, Option, Some, None, ⊎_elim, IsCharBoundary}
 use Rattle.std.proofs.lemmas.Bool.{cases_lt}
-use Rattle.std.specs.Str.{IsCharBoundary}
 use Rattle.hip_match.specs.Occurrence.{IsCut, IsOneChar, NoneCrosses, EndsLast, StartsFirst}
 use Rattle.hip_match.specs.Leftmost.{leftmost_between}
 use Rattle.hip_match.specs.Rightmost.{rightmost_between}
@@ -26,7 +28,7 @@ module _ (t : List ℕ) (e : ℕ → Option ℕ) (h : HasCharOccurrences t e) wh
       ⊎_elim (λ (inside : c < b). absurd ((h.one a b first).one c lt inside (h.spans c d second).start)) (λ (le : b ≤ c). le) (cases_lt c b)
 
   pub clear : (i : ℕ) → IsCharBoundary t i → NoneCrosses e i
-  clear i cut a b is lt = ⊎_elim (λ (past : i < b). absurd ((h.one a b is).one i lt past cut)) (λ (le : b ≤ i). le) (cases_lt i b)
+  clear i cut a b is lt = grind (arith, nat_tests, common_steps, cases_lt)
 
   module _ (from to : ℕ) (w : IsWindow t from to) where
     pub back_match : (a b : ℕ) → EndsLast e to (a, b) → from ≤ a → leftmost_between e from to ≡ leftmost_between e from a ++ (a, b) ∷ []

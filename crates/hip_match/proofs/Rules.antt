@@ -2,7 +2,6 @@
 use Rattle.hip_match.proofs.BitLemmas.{below_kept, below_none, cut_lowest, cut_others, from_below, from_kept, one_some, up_below, up_moved, xor_other, xor_same}
 use Rattle.hip_match.proofs.DecodeLemmas.{before_four, before_three, before_two, fourth, is_four, is_three, is_two, room_2, room_3, second, third}
 use Rattle.hip_match.proofs.DrawLemmas.{ends_meet}
-use Rattle.hip_match.proofs.GapLemmas.{no_run}
 use Rattle.hip_match.proofs.LawLemmas.{split-joined, split_inclusive-together}
 use Rattle.hip_match.proofs.MarkLemmas.{alike, first-behind}
 use Rattle.hip_match.proofs.MarkedSetLemmas.{beyond-new, beyond_it, none_before, none_up_to, of_some, starts_first}
@@ -17,19 +16,19 @@ use Rattle.hip_match.specs.FirstBytes.{ascii_end}
 use Rattle.std.proofs.lemmas.Bool.{eqb-true, false≢true}
 use Rattle.std.proofs.lemmas.Str.{IsCharBoundary-before_ascii, IsCharBoundary-end, IsCharBoundary-start}
 
-pub ruleset ascii_set = (joined, one_more, others, ascii_end)
-
-pub ruleset ascii_space = (no_run, IsCharBoundary-end, IsCharBoundary-start)
+pub ruleset ascii_set = (alike, joined, nibbles-ascii, one_more, others, ascii_end)
 
 pub ruleset bits = (below_kept, below_none, cut_lowest, cut_others, from_below, from_kept, one_some, up_below, up_moved, xor_other, xor_same)
 
 pub ruleset boundaries = (IsCharBoundary-start)
 
-pub ruleset byte_test = (alike, first-behind, nibbles-ascii)
+pub ruleset byte_test = (first-behind)
 
 pub ruleset chars = (before_four, before_three, before_two, fourth, is_four, is_three, is_two, room_2, room_3, second, third, moved, start_of-zero, char_at-ascii, char_at-end, char_at-starts, IsCharBoundary-before_ascii)
 
 pub ruleset laws = (ends_meet, split-joined, split_inclusive-together, are_runs)
+
+pub ruleset marked_parts = (IsCharBoundary-end, IsCharBoundary-start)
 
 pub ruleset marked_set = (beyond-new, beyond_it, none_before, none_up_to, of_some, starts_first)
 

@@ -1,12 +1,9 @@
 -- The runs outside of a set are the gaps between its characters, less the empty ones.
-use Rattle.std.proofs.lemmas.Bool.Decides.{nat_tests}
-use Rattle.std.proofs.lemmas.Grind.{common_steps}
-use Rattle.std.proofs.Common.{◌≡◌, ℕ, ◌+◌, ◌<◌, ◌≤◌, ◌⊎◌, inl, inr, List, [], ◌∷◌, Bool, Option, Some, None, length, max, refl, sym, subst, ◌∙◌, arith, ⊎_elim}
+use Rattle.std.proofs.Common.{◌≡◌, ℕ, ◌<◌, ◌≤◌, ◌⊎◌, inl, inr, List, [], ◌∷◌, Bool, Option, Some, None, length, sym, ◌∙◌, arith, ⊎_elim, IsUtf8, IsCharBoundary}
 use Rattle.std.proofs.lemmas.Bool.{cases_lt}
 use Rattle.std.proofs.lemmas.Option.{none-some, same_Some}
 use Rattle.std.proofs.lemmas.Str.{IsCharBoundary-start, IsCharBoundary-end}
 use Rattle.std.specs.Prelude.{⊤}
-use Rattle.std.specs.Str.{IsUtf8, IsCharBoundary}
 use Rattle.hip_match.specs.Occurrence.{IsCut, NoneStarts}
 use Rattle.hip_match.specs.Characters.{char_ends}
 use Rattle.hip_match.specs.CharLaws.{char_ends-spans, char_ends-one_char}
@@ -17,13 +14,11 @@ use Rattle.hip_match.proofs.LawLemmas.{leftmost-is}
 use Rattle.hip_match.proofs.PiecesLemmas.{nonempty-kept, nonempty-dropped}
 
 none_or : (o : Option ℕ) → ((b : ℕ) → o ≡ Some b → ⊥) → o ≡ None
-none_or None h = refl
-none_or (Some b) h = absurd (h b refl)
+none_or o h = grind arith
 
 -- a range first in a list, which stays if it holds something
 kept : (P : List (ℕ × ℕ) → Type 0) (r : ℕ × ℕ) (rs : List (ℕ × ℕ)) → (r.0 < r.1 → P (r ∷ nonempty rs)) → (r.1 ≤ r.0 → P (nonempty rs)) → P (nonempty (r ∷ rs))
-kept P r rs full empty =
-    ⊎_elim (λ (lt : r.0 < r.1). subst P (sym (nonempty-kept r rs lt)) (full lt)) (λ (ge : r.1 ≤ r.0). subst P (sym (nonempty-dropped r rs ge)) (empty ge)) (cases_lt r.0 r.1)
+kept P r rs full empty = grind (arith, nonempty-kept, nonempty-dropped, cases_lt)
 
 rise_from : (i j : ℕ) (l : List (ℕ × ℕ)) → i ≤ j → Rise j l → Rise i l
 rise_from i j [] le rise = rise
@@ -38,10 +33,10 @@ module _ (p : ℕ → Bool) (t : List ℕ) (utf8 : IsUtf8 t) where
   stop_before a b is s cut lo hi free = none-some b (sym (free a (omega arith) hi) ∙ is)
 
   stop_after : (a b : ℕ) → char_ends p t a ≡ Some b → Stop b
-  stop_after a b is s cut lo hi free = grind (arith, nat_tests, common_steps, char_ends-one_char, none-some)
+  stop_after a b is s cut lo hi free = grind (arith, char_ends-one_char, none-some)
 
   is_run : (i j : ℕ) → IsCharBoundary t i → IsCharBoundary t j → i < j → NoneStarts (char_ends p t) i j → Stop i → Stop j → IsRun p t (i, j)
-  is_run i j start end lt free before after = grind (arith, nat_tests, common_steps)
+  is_run i j start end lt free before after = grind arith
 
   -- matches one after another from i on
   abbrev Chain : ℕ → List (ℕ × ℕ) → Type 0
@@ -63,7 +58,7 @@ module _ (p : ℕ → Bool) (t : List ℕ) (utf8 : IsUtf8 t) where
       none_or _ (λ b is. ⊎_elim (λ same. omega (arith, same.0)) (λ r. omega (arith, chain_after ms m.1 k b chain.2 r)) (covers k b is lo))
 
   covers_rest : (i : ℕ) (m : ℕ × ℕ) (ms : List (ℕ × ℕ)) → Chain i (m ∷ ms) → Covers i (m ∷ ms) → Covers m.1 ms
-  covers_rest i m ms chain covers a b is past = grind (arith, nat_tests, common_steps, char_ends-one_char)
+  covers_rest i m ms chain covers a b is past = grind (arith, char_ends-one_char)
 
   record Outcome (i : ℕ) (l : List (ℕ × ℕ)) : Type 0 where
     each : AllRuns p t l
@@ -72,7 +67,7 @@ module _ (p : ℕ → Bool) (t : List ℕ) (utf8 : IsUtf8 t) where
 
   -- a run lies before a match or behind it
   beside : (m r : ℕ × ℕ) → char_ends p t m.0 ≡ Some m.1 → IsRun p t r → (r.1 ≤ m.0) ⊎ (m.1 ≤ r.0)
-  beside m r is run = grind (arith, nat_tests, common_steps, char_ends-one_char, none-some)
+  beside m r is run = grind (arith, char_ends-one_char, none-some)
 
   outcome : (ms : List (ℕ × ℕ)) (i : ℕ) → IsCharBoundary t i → Stop i → Chain i ms → Covers i ms → Outcome i (nonempty (gaps i ms (length t)))
   outcome [] i start before chain covers =
@@ -82,34 +77,25 @@ module _ (p : ℕ → Bool) (t : List ℕ) (utf8 : IsUtf8 t) where
       (λ lt. record {
         each = (is_run i n start (IsCharBoundary-end t) lt free before (λ s cut lo hi none. omega (arith, cut.end.0)), tt);
         rise = (omega arith, tt);
-        all = λ r run le. inl (run.longest (i, n) (record { start = start; end = IsCharBoundary-end t; ordered = omega arith }) le run.cut.end.0 free);
+        all = λ r run le. inl (run.longest (i, n) (grind (arith, IsCharBoundary-end)) le run.cut.end.0 free);
       })
-      (λ ge. record { each = tt; rise = tt; all = λ r run le. omega (arith, run.holds, run.cut.end.0) })
+      (λ ge. grind arith)
   outcome (m ∷ ms) i start before chain covers =
       let n = length t in
       let span = char_ends-spans p t m.0 m.1 utf8 chain.1 in
-      let holds = (char_ends-one_char p t m.0 m.1 utf8 chain.1).holds in
       let free = free_before i m ms chain covers in
       let rest = outcome ms m.1 span.end (stop_after m.0 m.1 chain.1) chain.2 (covers_rest i m ms chain covers) in
       kept (Outcome i) (i, m.0) (gaps m.1 ms n)
       (λ lt. record {
         each = (is_run i m.0 start span.start lt free before (stop_before m.0 m.1 chain.1), rest.each);
-        rise = (omega arith, rise_from m.0 m.1 _ (omega arith) rest.rise);
-        all = λ r run le. ⊎_elim (λ h. inl (run.longest (i, m.0) (record { start = start; end = span.start; ordered = omega arith }) le h free)) (λ h. inr (rest.all r run h)) (beside m r chain.1 run);
+        rise = grind (arith, rise_from);
+        all = λ r run le. ⊎_elim (λ h. inl (run.longest (i, m.0) (grind arith) le h free)) (λ h. inr (rest.all r run h)) (beside m r chain.1 run);
       })
-      (λ ge. record {
-        each = rest.each;
-        rise = rise_from i m.1 _ (omega (arith, chain.0)) rest.rise;
-        all = λ r run le. ⊎_elim (λ h. absurd (omega (arith, run.holds, h, chain.0))) (λ h. rest.all r run h) (beside m r chain.1 run);
-      })
+      (λ ge. grind (arith, rise_from, beside))
 
   chained : (ms : List (ℕ × ℕ)) (i : ℕ) → AllOccur (char_ends p t) ms → BeginInOrder i ms → Chain i ms
   chained [] i occur order = tt
-  chained (m ∷ ms) i occur order =
-      let holds = (char_ends-one_char p t m.0 m.1 utf8 occur.0).holds in
-      let P : ℕ → Type 0 = λ k. BeginInOrder k ms in
-      let same : max m.1 (m.0 + 1) ≡ m.1 = omega arith in
-      (order.0, occur.0, chained ms m.1 occur.1 (subst P same order.1))
+  chained (m ∷ ms) i occur order = grind (arith, char_ends-one_char, chained ms m.1 occur.1)
 
   within : (ms : List (ℕ × ℕ)) (a b : ℕ) → AllOccur (char_ends p t) ms → char_ends p t a ≡ Some b → BeginsWithin a ms → IsListed a b ms
   within [] a b occur is h = h
@@ -118,9 +104,7 @@ module _ (p : ℕ → Bool) (t : List ℕ) (utf8 : IsUtf8 t) where
       (λ here. ⊎_elim
       (λ (lt : m.0 < a). absurd ((char_ends-one_char p t m.0 m.1 utf8 occur.0).one a lt here.1 (char_ends-spans p t a b utf8 is).start))
       (λ (ge : a ≤ m.0).
-      let same : m.0 ≡ a = omega (arith, here.0) in
-      let P : ℕ → Type 0 = λ k. char_ends p t k ≡ Some m.1 in
-      inl (same, same_Some _ _ (sym (subst P same occur.0) ∙ is)))
+      grind (arith, same_Some))
       (cases_lt m.0 a))
       (λ r. inr (within ms a b occur.1 is r))
       h
@@ -129,7 +113,7 @@ module _ (p : ℕ → Bool) (t : List ℕ) (utf8 : IsUtf8 t) where
   are_runs =
       let n = length t in
       let ms = leftmost (char_ends p t) n in
-      let h = leftmost-is (char_ends p t) n (λ a b is. let span = char_ends-spans p t a b utf8 is in (span.ordered, span.end.0)) in
+      let h = leftmost-is (char_ends p t) n (λ a b is. grind (arith, char_ends-spans p t a b utf8 is)) in
       let out = outcome ms 0 (IsCharBoundary-start t utf8) (λ s cut lo hi none. omega arith) (chained ms 0 h.occur h.in_order)
-      (λ a b is le. ⊎_elim (λ r. r) (within ms a b h.occur is) (h.no_other a b is le)) in
-      record { each = out.each; in_order = out.rise; all = λ r run. out.all r run (omega arith) }
+      (λ a b is le. grind (arith, within)) in
+      grind arith

@@ -1,8 +1,6 @@
 -- The bytes with which a character of white space begins.
-use Rattle.std.specs.Prelude.{nat_lt, nat_le, slice_index}
-use Rattle.std.proofs.Common.{◌≡◌, ℕ, ◌+◌, ◌/◌, ◌<◌, ◌≤◌, ◌||◌, Bool, true, false, not, cond, List, [], ◌∷◌, ◌++◌, Some, length, drop, sym, ap, ◌∙◌, arith, refl, ⊎_elim, add-zero, get_or, get_or-drop}
+use Rattle.std.proofs.Common.{◌≡◌, ℕ, ◌+◌, ◌/◌, ◌<◌, ◌≤◌, ◌||◌, Bool, true, false, not, cond, List, ◌∷◌, ◌++◌, Some, length, ap, ◌∙◌, arith, refl, ⊎_elim, add-zero, get_or, get_or-drop, nat_lt, nat_le, slice_index, IsUtf8, IsCharBoundary}
 use Rattle.std.specs.Char.{is_whitespace}
-use Rattle.std.specs.Str.{IsUtf8, IsCharBoundary}
 use Rattle.std.proofs.lemmas.Bool.Decides.{nat_tests}
 use Rattle.std.proofs.lemmas.Bool.{agree_below_at, cases_lt, cond-true, cond-false}
 use lib.Utf8.{encode}
@@ -22,21 +20,18 @@ abbrev lead : ℕ → ℕ
 lead c = cond (nat_lt c 128) c (cond (nat_lt c 2048) (192 + c / 64) (cond (nat_lt c 65536) (224 + c / 4096) (240 + c / 262144)))
 
 first_by : (x y z : Bool) (a b d e : ℕ) (k l m n rest : List ℕ) → get_or (cond x (a ∷ k) (cond y (b ∷ l) (cond z (d ∷ m) (e ∷ n))) ++ rest) 0 0 ≡ cond x a (cond y b (cond z d e))
-first_by true y z a b d e k l m n rest = refl
-first_by false true z a b d e k l m n rest = refl
-first_by false false true a b d e k l m n rest = refl
-first_by false false false a b d e k l m n rest = refl
+first_by x y z a b d e k l m n rest = grind arith
 
 first_of : (c : ℕ) (rest : List ℕ) → get_or (encode c ++ rest) 0 0 ≡ lead c
 unfolding encode
-first_of c rest = first_by (nat_lt c 128) (nat_lt c 2048) (nat_lt c 65536) c (192 + c / 64) (224 + c / 4096) (240 + c / 262144) [] _ _ _ rest
+first_of c rest = grind (arith, first_by)
 
 lead-passes : (c : ℕ) → is_whitespace c ≡ true → space_leads (lead c) ≡ true
 lead-passes c is = ⊎_elim
     (λ (one : c < 128).
     let here : nat_lt c 128 ≡ true = grind (arith, nat_tests) in
     let told = agree_below_at (λ i. not (is_whitespace i) || space_leads i) (λ i. true) 128 c refl one in
-    ap space_leads (cond-true _ _ _ here) ∙ ap (λ b. not b || space_leads c) (sym is) ∙ told)
+    grind (arith, nat_tests, cond-true))
     (λ (ge : 128 ≤ c).
     let over : nat_lt c 128 ≡ false = grind (arith, nat_tests) in
     ⊎_elim
@@ -50,27 +45,20 @@ lead-passes c is = ⊎_elim
     let least : 1 ≤ c / 4096 = grind (arith, nat_tests) in
     let most : c / 4096 ≤ 3 = grind (arith, nat_tests) in
     let told = agree_below_at (λ i. nat_lt i 1 || space_leads (224 + i)) (λ i. true) 4 (c / 4096) refl (omega arith) in
-    let some : nat_lt (c / 4096) 1 ≡ false = grind (arith, nat_tests) in
-    ap space_leads (cond-false _ _ _ over ∙ cond-false _ _ _ past ∙ cond-true _ _ _ here) ∙ ap (λ b. b || space_leads (224 + c / 4096)) (sym some) ∙ told)
+    grind (arith, nat_tests, cond-false, cond-true))
     (cases_lt c 2048))
     (cases_lt c 128)
 
 module _ (t : List ℕ) (utf8 : IsUtf8 t) where
   -- the first byte of white space passes
   space-passes : (a b : ℕ) → char_ends is_whitespace t a ≡ Some b → Passes space_leads t a
-  space-passes a b is =
-      let found = char_ends-is is_whitespace t a b utf8 is in
-      let c = found.1.0 in
-      let byte : slice_index t a ≡ get_or (encode c ++ drop _ t) 0 0 =
-      ap (λ n. slice_index t n) (sym (add-zero a)) ∙ sym (get_or-drop a t 0 0) ∙ ap (λ l. get_or l 0 0) found.1.1.split in
-      ap space_leads (byte ∙ first_of c _) ∙ lead-passes c found.1.2
+  space-passes a b is = grind (arith, char_ends-is is_whitespace t a b utf8 is, encode, add-zero a, get_or-drop a t 0 0, first_of, lead-passes)
 
   -- each byte that passes begins a character
   lead-boundary : (k : ℕ) → slice_index t k < 256 → k < length t → Passes space_leads t k → IsCharBoundary t k
   lead-boundary k fits within passes =
       let told = agree_below_at (λ i. not (space_leads i) || (nat_lt i 128 || nat_le 192 i)) (λ i. true) 256 (slice_index t k) refl fits in
-      let starts : (nat_lt (slice_index t k) 128 || nat_le 192 (slice_index t k)) ≡ true = ap (λ b. not b || (nat_lt (slice_index t k) 128 || nat_le 192 (slice_index t k))) (sym passes) ∙ told in
-      is_boundary-is t k (grind (arith, nat_tests))
+      grind (arith, is_boundary-is)
 
 pub space_first_bytes : AreFirstBytes is_whitespace space_leads
 space_first_bytes = record { leads = λ t a b utf8 is. space-passes t utf8 a b is; begins = λ t k utf8 fits within pass. lead-boundary t utf8 k fits within pass }

@@ -1,5 +1,5 @@
 -- Sequences of matches at the ends of a text.
-use Rattle.std.proofs.Common.{◌≡◌, ℕ, ◌+◌, ◌<◌, ◌≤◌, List, [], ◌∷◌, ◌++◌, Option, Some, refl, sym, ap, subst, ◌∙◌, arith}
+use Rattle.std.proofs.Common.{◌≡◌, ℕ, ◌+◌, ◌<◌, ◌≤◌, List, [], ◌∷◌, ◌++◌, Option, Some, refl, sym, ap, ◌∙◌, arith}
 use Rattle.std.proofs.lemmas.Option.{same_Some}
 use Rattle.hip_match.specs.Trims.{Follows, FollowsBack, IsSequence, IsSequenceBack, TrimsFront, TrimsBack}
 use Rattle.hip_match.specs.Occurrence.{start_of}
@@ -15,23 +15,16 @@ module _ (e : ℕ → Option ℕ) where
 
   Follows-le : (ms : List (ℕ × ℕ)) (i j : ℕ) → Follows e i ms j → i ≤ j
   Follows-le [] i j h = omega arith
-  Follows-le (m ∷ ms) i j h = let later : m.1 ≤ j = Follows-le ms m.1 j h.3 in let up : m.0 < m.1 = h.1 in let here : m.0 ≡ i = h.0 in omega arith
+  Follows-le (m ∷ ms) i j h = grind (arith, Follows-le ms m.1 j h.3)
 
   -- where no nonempty match starts, a sequence can't go on
   longest_front : (ms ls : List (ℕ × ℕ)) (i j k : ℕ) → ((b : ℕ) → e j ≡ Some b → b ≤ j) → Follows e i ms j → Follows e i ls k → k ≤ j
-  longest_front ms [] i j k stuck h g = let low : i ≤ j = Follows-le ms i j h in omega (arith, g)
-  longest_front [] (l ∷ ls) i j k stuck h g =
-      let here : l.0 ≡ j = g.0 ∙ h in
-      let top : l.1 ≤ j = stuck l.1 (ap e (sym here) ∙ g.2) in
-      let up : l.0 < l.1 = g.1 in
-      absurd (omega arith)
-  longest_front (m ∷ ms) (l ∷ ls) i j k stuck h g =
-      let same : l.1 ≡ m.1 = same_Some l.1 m.1 (sym g.2 ∙ ap e (g.0 ∙ sym h.0) ∙ h.2) in
-      let P : ℕ → Type 0 = λ n. Follows e n ls k in
-      longest_front ms ls m.1 j k stuck h.3 (subst P same g.3)
+  longest_front ms [] i j k stuck h g = grind (arith, Follows-le)
+  longest_front [] (l ∷ ls) i j k stuck h g = grind arith
+  longest_front (m ∷ ms) (l ∷ ls) i j k stuck h g = grind (arith, same_Some l.1 m.1 (sym g.2 ∙ ap e (g.0 ∙ sym h.0) ∙ h.2), longest_front ms ls m.1 j k stuck h.3)
 
   pub TrimsFront-stuck : (j : ℕ) → IsSequence e 0 j → ((b : ℕ) → e j ≡ Some b → b ≤ j) → TrimsFront e j
-  TrimsFront-stuck j h stuck = record { sequence = h; longest = λ k g. longest_front h.0 g.0 0 j k stuck h.1 g.1 }
+  TrimsFront-stuck j h stuck = grind (arith, longest_front)
 
   pub sequence_none : (i : ℕ) → IsSequence e i i
   sequence_none i = ([], refl)
@@ -45,29 +38,21 @@ module _ (e : ℕ → Option ℕ) where
 
   FollowsBack-le : (ms : List (ℕ × ℕ)) (i j : ℕ) → FollowsBack e i ms j → i ≤ j
   FollowsBack-le [] i j h = omega arith
-  FollowsBack-le (m ∷ ms) i j h = let later : i ≤ m.0 = FollowsBack-le ms i m.0 h.3 in let up : m.0 < m.1 = h.1 in let here : m.1 ≡ j = h.0 in omega arith
+  FollowsBack-le (m ∷ ms) i j h = grind (arith, FollowsBack-le ms i m.0 h.3)
 
   longest_back : (ms ls : List (ℕ × ℕ)) (from i k n : ℕ) → ((a b c : ℕ) → e a ≡ Some c → e b ≡ Some c → a ≡ b) → from ≤ k
       → ((a : ℕ) → e a ≡ Some i → from ≤ a → i ≤ a) → FollowsBack e i ms n → FollowsBack e k ls n → i ≤ k
-  longest_back ms [] from i k n one low stuck h g = let top : i ≤ n = FollowsBack-le ms i n h in omega (arith, g)
-  longest_back [] (l ∷ ls) from i k n one low stuck h g =
-      let here : l.1 ≡ i = g.0 ∙ sym h in
-      let under : k ≤ l.0 = FollowsBack-le ls k l.0 g.3 in
-      let up : l.0 < l.1 = g.1 in
-      let top : i ≤ l.0 = stuck l.0 (g.2 ∙ ap (λ x. Some x) here) (omega arith) in
-      absurd (omega arith)
-  longest_back (m ∷ ms) (l ∷ ls) from i k n one low stuck h g =
-      let same : l.0 ≡ m.0 = one l.0 m.0 n (g.2 ∙ ap (λ x. Some x) g.0) (h.2 ∙ ap (λ x. Some x) h.0) in
-      let P : ℕ → Type 0 = λ x. FollowsBack e k ls x in
-      longest_back ms ls from i k m.0 one low stuck h.3 (subst P same g.3)
+  longest_back ms [] from i k n one low stuck h g = grind (arith, FollowsBack-le)
+  longest_back [] (l ∷ ls) from i k n one low stuck h g = grind (arith, FollowsBack-le)
+  longest_back (m ∷ ms) (l ∷ ls) from i k n one low stuck h g = grind (arith, longest_back ms ls from i k m.0 one low stuck h.3)
 
   pub TrimsBack-stuck : (from n i : ℕ) → ((a b c : ℕ) → e a ≡ Some c → e b ≡ Some c → a ≡ b) → from ≤ i → IsSequenceBack e i n
       → ((a : ℕ) → e a ≡ Some i → from ≤ a → i ≤ a) → TrimsBack e from n i
-  TrimsBack-stuck from n i one le h stuck = record { left = le; sequence = h; longest = λ k low g. longest_back h.0 g.0 from i k n one low stuck h.1 g.1 }
+  TrimsBack-stuck from n i one le h stuck = grind (arith, longest_back)
 
   -- the start of the occurrence that ends at a place
   pub start_of-is : (to a : ℕ) → start_of e to ≡ Some a → e a ≡ Some to
   start_of-is to a is = (start_among-is e 0 (to + 1) to a is).2
 
   pub start_of-one : (to a : ℕ) → ((b c d : ℕ) → e b ≡ Some d → e c ≡ Some d → b ≡ c) → ((k m : ℕ) → e k ≡ Some m → k ≤ m) → e a ≡ Some to → start_of e to ≡ Some a
-  start_of-one to a one ordered is = let up : a ≤ to = ordered a to is in start_among-found e 0 (to + 1) to a (λ b c. one b c to) (omega arith) (omega arith) is
+  start_of-one to a one ordered is = grind (arith, start_among-found e 0 (to + 1) to a)

@@ -5,4 +5,4 @@ use Rattle.hip_match.specs.declared.ascii_set.AsciiSet.{AsciiSet}
 
 -- the characters of a set
 abbrev pub in_set : AsciiSet → ℕ → Bool
-in_set set = in_rows set.table.rows
+in_set set = in_rows set.rows

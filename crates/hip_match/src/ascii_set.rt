@@ -11,7 +11,7 @@ ghost use Rattle.hip_match.specs.FirstBytes.{ascii_first_bytes};
 ghost use Rattle.hip_match.specs.Searchers.{AreAhead, AreBehind};
 ghost use Rattle.hip_match.specs.MarkedSets.{AreAsciiBytes};
 
-use crate::byte_test::{AsciiTable, ByteTest};
+use crate::byte_test::{ASCII_COLUMNS, ByteTest, has_nibbles, nibble_lanes};
 use crate::chars::{CharSet, end_of, start_before};
 use crate::marked_set::{MarkedSet, last_marked, marked_searcher, next_marked};
 use crate::marks::{Marks, block};
@@ -21,7 +21,7 @@ use std::simd::prelude::*;
 /// A set of characters of ASCII. A walk finds them 64 bytes at a time.
 #[derive(Clone, Copy)]
 pub struct AsciiSet {
-    table: AsciiTable,
+    rows: [u8; 16],
 }
 
 impl AsciiSet {
@@ -30,9 +30,7 @@ impl AsciiSet {
     pub fn new() -> Self
         ensures { (c : ℕ) → in_set result c ≡ false }
     {
-        AsciiSet {
-            table: AsciiTable { rows: [0; 16] },
-        }
+        AsciiSet { rows: [0; 16] }
     }
 
     /// The letters, as `char::is_ascii_alphabetic` tells them.
@@ -41,11 +39,9 @@ impl AsciiSet {
         ensures { in_set result ≡ is_ascii_alphabetic }
     {
         AsciiSet {
-            table: AsciiTable {
-                rows: [
-                    160, 240, 240, 240, 240, 240, 240, 240, 240, 240, 240, 80, 80, 80, 80, 80,
-                ],
-            },
+            rows: [
+                160, 240, 240, 240, 240, 240, 240, 240, 240, 240, 240, 80, 80, 80, 80, 80,
+            ],
         }
     }
 
@@ -55,11 +51,9 @@ impl AsciiSet {
         ensures { in_set result ≡ is_ascii_alphanumeric }
     {
         AsciiSet {
-            table: AsciiTable {
-                rows: [
-                    168, 248, 248, 248, 248, 248, 248, 248, 248, 248, 240, 80, 80, 80, 80, 80,
-                ],
-            },
+            rows: [
+                168, 248, 248, 248, 248, 248, 248, 248, 248, 248, 240, 80, 80, 80, 80, 80,
+            ],
         }
     }
 
@@ -69,18 +63,8 @@ impl AsciiSet {
         ensures { in_set result ≡ is_ascii_whitespace }
     {
         AsciiSet {
-            table: AsciiTable {
-                rows: [4, 0, 0, 0, 0, 0, 0, 0, 0, 1, 1, 0, 1, 1, 0, 0],
-            },
+            rows: [4, 0, 0, 0, 0, 0, 0, 0, 0, 1, 1, 0, 1, 1, 0, 0],
         }
-    }
-
-    // The table by which the set is looked for.
-    #[inline]
-    pub(crate) fn table(self) -> AsciiTable
-        ensures { result ≡ self.table }
-    {
-        self.table
     }
 
     /// These characters and one more.
@@ -89,11 +73,9 @@ impl AsciiSet {
         requires { byte < 128 }
         ensures { (c : ℕ) → in_set result c ≡ (c == byte || in_set self c) }
     {
-        let mut rows = self.table.rows;
+        let mut rows = self.rows;
         rows[(byte & 15) as usize] |= 1 << (byte >> 4);
-        AsciiSet {
-            table: AsciiTable { rows },
-        }
+        AsciiSet { rows }
     }
 
     /// The characters of both.
@@ -101,11 +83,9 @@ impl AsciiSet {
     pub fn union(self, other: Self) -> Self
         ensures { (c : ℕ) → in_set result c ≡ (in_set self c || in_set other c) }
     {
-        let rows = u8x16::from_array(self.table.rows) | u8x16::from_array(other.table.rows);
+        let rows = u8x16::from_array(self.rows) | u8x16::from_array(other.rows);
         AsciiSet {
-            table: AsciiTable {
-                rows: rows.to_array(),
-            },
+            rows: rows.to_array(),
         }
     }
 
@@ -114,11 +94,9 @@ impl AsciiSet {
     pub fn complement(self) -> Self
         ensures { (c : ℕ) → in_set result c ≡ (is_ascii c && not (in_set self c)) }
     {
-        let rows = u8x16::from_array(self.table.rows) ^ u8x16::splat(0xFF);
+        let rows = u8x16::from_array(self.rows) ^ u8x16::splat(0xFF);
         AsciiSet {
-            table: AsciiTable {
-                rows: rows.to_array(),
-            },
+            rows: rows.to_array(),
         }
     }
 }
@@ -131,7 +109,21 @@ impl AsciiSet {
         ensures { (k : ℕ) → k < 64
             → bit_at result k ≡ (if in_set self (slice_index bytes.now (at + k)) then 1 else 0) }
     {
-        block(&self.table, bytes, at)
+        block(&self, bytes, at)
+    }
+}
+
+impl ByteTest for AsciiSet {
+    ghost passes = { in_set };
+
+    #[inline(always)]
+    fn has(&self, byte: u8) -> bool {
+        has_nibbles(&self.rows, &ASCII_COLUMNS, byte)
+    }
+
+    #[inline(always)]
+    fn lanes(&self, bytes: &[u8], at: usize) -> u64 {
+        nibble_lanes(&self.rows, &ASCII_COLUMNS, bytes, at)
     }
 }
 
@@ -140,56 +132,46 @@ impl CharSet for AsciiSet {
 
     #[inline]
     fn has(&self, c: char) -> bool {
-        c.is_ascii() && self.table.has(c as u8)
+        c.is_ascii() && ByteTest::has(self, c as u8)
     }
 }
 
 impl MarkedSet for AsciiSet {
-    type Test = AsciiTable;
+    type Test = AsciiSet;
 
     ghost is_found_by = { λ s passes. AreAsciiBytes (in_set s) passes };
 
     ghost first_bytes = { λ s passes found. ascii_first_bytes (in_set s) passes found };
 
     #[inline]
-    fn test(&self) -> Option<AsciiTable> {
-        Some(self.table)
+    fn test(&self) -> Option<AsciiSet> {
+        Some(*self)
     }
 
     #[inline(always)]
-    fn end_at_mark(&self, _test: &AsciiTable, _text: &str, at: usize) -> Option<usize> {
+    fn end_at_mark(&self, _test: &AsciiSet, _text: &str, at: usize) -> Option<usize> {
         Some(at + 1)
     }
 }
 
 impl Pattern for AsciiSet {
-    type Searcher = Option<Marks<AsciiTable>>;
+    type Searcher = Option<Marks<AsciiSet>>;
 
     ghost ends = { λ s. char_ends (in_set s) };
 
-    ghost is_ready = { λ s m text from. AreAhead (AreAsciiBytes (in_set s)) (⟦<AsciiTable as ByteTest>⟧.passes) m text from };
+    ghost is_ready = { λ s m text from. AreAhead (AreAsciiBytes (in_set s)) (⟦<AsciiSet as ByteTest>⟧.passes) m text from };
 
-    ghost is_ready_back = { λ s m text to. AreBehind (AreAsciiBytes (in_set s)) (⟦<AsciiTable as ByteTest>⟧.passes) m text to };
+    ghost is_ready_back = { λ s m text to. AreBehind (AreAsciiBytes (in_set s)) (⟦<AsciiSet as ByteTest>⟧.passes) m text to };
 
     #[inline]
-    fn searcher(&self, _text: &str, from: usize, to: usize) -> Option<Marks<AsciiTable>> {
+    fn searcher(&self, _text: &str, from: usize, to: usize) -> Option<Marks<AsciiSet>> {
         marked_searcher(self, from, to)
-    }
-
-    #[inline]
-    fn next_match(&self, text: &str, from: usize) -> Option<(usize, usize)> {
-        next_marked(
-            self,
-            &mut marked_searcher(self, from, text.len()),
-            text,
-            from,
-        )
     }
 
     #[inline(always)]
     fn next_match_by(
         &self,
-        searcher: &mut Option<Marks<AsciiTable>>,
+        searcher: &mut Option<Marks<AsciiSet>>,
         text: &str,
         from: usize,
     ) -> Option<(usize, usize)> {
@@ -205,20 +187,10 @@ impl Pattern for AsciiSet {
 }
 
 impl ReversePattern for AsciiSet {
-    #[inline]
-    fn reverse_searcher(&self, _text: &str, from: usize, to: usize) -> Option<Marks<AsciiTable>> {
-        marked_searcher(self, from, to)
-    }
-
-    #[inline]
-    fn last_match(&self, text: &str, to: usize) -> Option<(usize, usize)> {
-        last_marked(self, &mut marked_searcher(self, 0, to), text, to)
-    }
-
     #[inline(always)]
     fn last_match_by(
         &self,
-        searcher: &mut Option<Marks<AsciiTable>>,
+        searcher: &mut Option<Marks<AsciiSet>>,
         text: &str,
         to: usize,
     ) -> Option<(usize, usize)> {

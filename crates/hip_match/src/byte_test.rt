@@ -3,7 +3,7 @@
 
 ghost use Rattle.std.specs.Prelude.{◌≡◌, ◌==◌, ◌+◌, ◌≤◌, ℕ, Bool, length, IfSome};
 ghost use Rattle.memchr.specs.Find.{IsFirst, IsLast, Passes};
-ghost use Rattle.hip_match.specs.Marks.{AreMarks, has_nibbles, in_rows};
+ghost use Rattle.hip_match.specs.Marks.{AreMarks, has_nibbles};
 ghost use Rattle.hip_match.specs.declared.byte_test.TheConstants.{SPACE_COLUMNS, SPACE_ROWS};
 
 use memchr::{memchr, memrchr};
@@ -95,11 +95,11 @@ fn byte_before(byte: u8, bytes: &[u8], to: usize) -> Option<usize>
 }
 
 // The columns of a table of ASCII: bit h of a row says whether the character `16 * h + low` belongs, for h below 8.
-const ASCII_COLUMNS: [u8; 16] = [1, 2, 4, 8, 16, 32, 64, 128, 0, 0, 0, 0, 0, 0, 0, 0];
+pub(crate) const ASCII_COLUMNS: [u8; 16] = [1, 2, 4, 8, 16, 32, 64, 128, 0, 0, 0, 0, 0, 0, 0, 0];
 
 // Whether the row of a byte, told by its low four bits, has the column of its high four.
 #[inline(always)]
-fn has_nibbles(rows: &[u8; 16], columns: &[u8; 16], byte: u8) -> bool
+pub(crate) fn has_nibbles(rows: &[u8; 16], columns: &[u8; 16], byte: u8) -> bool
     ensures { result ≡ has_nibbles rows.now columns.now byte }
 {
     rows[(byte & 15) as usize] & columns[(byte >> 4) as usize] != 0
@@ -107,7 +107,7 @@ fn has_nibbles(rows: &[u8; 16], columns: &[u8; 16], byte: u8) -> bool
 
 // Which of the sixteen bytes from `at` on have their column in their row.
 #[inline(always)]
-fn nibble_lanes(rows: &[u8; 16], columns: &[u8; 16], bytes: &[u8], at: usize) -> u64
+pub(crate) fn nibble_lanes(rows: &[u8; 16], columns: &[u8; 16], bytes: &[u8], at: usize) -> u64
     requires { at + 16 ≤ length bytes.now }
     ensures { AreMarks (has_nibbles rows.now columns.now) bytes.now at (at + 16) (at + 64) result }
 {
@@ -115,26 +115,6 @@ fn nibble_lanes(rows: &[u8; 16], columns: &[u8; 16], bytes: &[u8], at: usize) ->
     let rows = u8x16::from_array(*rows).swizzle_dyn_within::<16>(lanes & u8x16::splat(15));
     let columns = u8x16::from_array(*columns).swizzle_dyn_within::<16>(lanes >> u8x16::splat(4));
     (rows & columns).simd_ne(u8x16::splat(0)).to_bitmask()
-}
-
-/// A set of bytes of ASCII, as a table.
-#[derive(Clone, Copy)]
-pub struct AsciiTable {
-    pub(crate) rows: [u8; 16],
-}
-
-impl ByteTest for AsciiTable {
-    ghost passes = { λ s. in_rows s.rows };
-
-    #[inline(always)]
-    fn has(&self, byte: u8) -> bool {
-        has_nibbles(&self.rows, &ASCII_COLUMNS, byte)
-    }
-
-    #[inline(always)]
-    fn lanes(&self, bytes: &[u8], at: usize) -> u64 {
-        nibble_lanes(&self.rows, &ASCII_COLUMNS, bytes, at)
-    }
 }
 
 // Tables for the bytes with which a character of Unicode's `White_Space` begins: those of ASCII, 0xC2, and 0xE1 to 0xE3.

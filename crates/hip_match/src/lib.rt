@@ -9,8 +9,8 @@
 //!   tests, and [`bits`] what is asked of the bits of a number.
 //! - [`Ranges`] is a walk from its front, [`RangesBack`] from both ends, and the clones of [`CloneRanges`] give what they do: [`Split`],
 //!   [`SplitInclusive`], [`SplitTerminator`], [`SplitN`], [`Matches`] and [`MatchIndices`] from a text's front, [`RSplit`],
-//!   [`RSplitTerminator`], [`RSplitN`], [`RMatches`] and [`RMatchIndices`] from its end, [`Lines`], [`SplitWhitespace`] and
-//!   [`SplitAsciiWhitespace`]. [`SplitByte`] is a walk from the front alone.
+//!   [`RSplitTerminator`], [`RSplitN`], [`RMatches`] and [`RMatchIndices`] from its end, [`Lines`], [`SplitWhitespace`],
+//!   [`SplitAsciiWhitespace`] and [`SplitByte`].
 //! - [`trim_start`], [`trim_end`], [`trim::trim`] and [`trim_matches`] with its kin, [`strip_prefix`], [`strip_suffix`], [`split_once`]
 //!   and [`rsplit_once`] give one range or two.
 //! - [`draw_into`] draws a walk by a script of [`End`]s.
@@ -22,13 +22,12 @@
 //! (where sets of characters and texts occur), `Leftmost` and `Rightmost` (the lists of matches), `Pieces` (the parts between matches, and
 //! lists in order), `Runs` (lines, and runs between white space), `Trims` (what is removed from the ends), `Draw` (what a script draws),
 //! `Joined` (pieces put together again), `Answers` (what a closure answers), `AsciiSets` and `MarkedSets` (the characters of a set, and
-//! the bytes with which they begin), `Bits` (which bit is the lowest), `Ready` and `Marks` (what a walk keeps of its places), `Clones`
-//! (what its clone keeps) and `Iterators` (what is said of a walk by its type's own words); what they give for texts as one writes them
-//! down stands in `Rows`, and `CharLaws`, `FirstBytes` and `TextLaws` have what holds of the places where characters and texts occur.
+//! the bytes with which they begin), `Bits` (which bit is the lowest), `Ready` and `Marks` (what a walk keeps of its places), `Clones` (what its clone keeps) and `Iterators` (what is said of a walk by its type's own words); what they give for
+//! texts as one writes them down stands in `Rows`, and `CharLaws`, `FirstBytes` and `TextLaws` have what holds of the places where
+//! characters and texts occur.
 #![tactic(auto)]
 
 pub mod ascii_set;
-mod ascii_space;
 pub mod bits;
 mod boundaries;
 pub mod byte_test;
@@ -38,6 +37,7 @@ pub mod draw;
 pub mod indices;
 pub mod laws;
 pub mod lines;
+pub mod marked_parts;
 mod marked_set;
 pub mod marks;
 pub mod matches;
@@ -48,7 +48,6 @@ pub mod rmatches;
 pub mod rsplit;
 pub mod sets;
 pub mod split;
-pub mod split_byte;
 pub mod texts;
 pub mod trim;
 pub mod white_space;
@@ -58,6 +57,7 @@ pub use chosen::Chosen;
 pub use draw::{End, draw_into};
 pub use indices::{Indices, MatchIndices, RMatchIndices};
 pub use lines::Lines;
+pub use marked_parts::{MarkedParts, SplitByte};
 pub use matches::Matches;
 pub use pattern::{ClonePattern, DoubleEndedPattern, OneChar, Pattern, ReversePattern};
 pub use predicate::{CharPred, choose_by};
@@ -65,7 +65,6 @@ pub use ranges::{CloneRanges, Ranges, RangesBack};
 pub use rmatches::RMatches;
 pub use rsplit::{RSplit, RSplitN, RSplitTerminator};
 pub use split::{Split, SplitInclusive, SplitN, SplitTerminator};
-pub use split_byte::SplitByte;
 pub use texts::TextSearcher;
 pub use trim::{
     rsplit_once, split_once, strip_prefix, strip_suffix, trim_end, trim_end_matches, trim_matches,

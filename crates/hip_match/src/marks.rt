@@ -304,28 +304,4 @@ impl<T: ByteTest> Marks<T> {
             back: BackMarks::new(to),
         }
     }
-
-    // The first place that is left, which is passed.
-    #[inline(always)]
-    pub(crate) fn next(&mut self, bytes: &[u8], from: usize) -> Option<usize>
-        requires { Ahead (T.passes self.old.test) bytes.now from self.old.front.next self.old.front.bits }
-        ensures found { IsFirst (Passes (T.passes self.old.test) bytes.now) from (length bytes.now) result }
-        ensures ahead { IfSome result (λ at. Ahead (T.passes self.old.test) bytes.now (at + 1) self.new.front.next self.new.front.bits) }
-        ensures test { self.new.test ≡ self.old.test }
-        ensures back { self.new.back ≡ self.old.back }
-    {
-        self.front.next(&self.test, bytes, from)
-    }
-
-    // The last place that is left, which is passed.
-    #[inline(always)]
-    pub(crate) fn last(&mut self, bytes: &[u8], to: usize) -> Option<usize>
-        requires { Behind (T.passes self.old.test) bytes.now to self.old.back.start self.old.back.bits }
-        ensures found { IsLast (Passes (T.passes self.old.test) bytes.now) 0 to result }
-        ensures behind { IfSome result (λ at. Behind (T.passes self.old.test) bytes.now at self.new.back.start self.new.back.bits) }
-        ensures test { self.new.test ≡ self.old.test }
-        ensures front { self.new.front ≡ self.old.front }
-    {
-        self.back.last(&self.test, bytes, to)
-    }
 }

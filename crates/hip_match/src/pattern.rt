@@ -31,10 +31,15 @@ pub trait Pattern: Drop {
         ensures back { IsCharBoundary text.now to → is_ready_back self.now result text.now to };
 
     /// The occurrence that starts first at or after `from`, as its start and end.
+    #[inline]
     fn next_match(&self, text: &str, from: usize) -> Option<(usize, usize)>
         requires can { can_search self.now }
         requires boundary { IsCharBoundary text.now from }
-        ensures { IsNextMatch (ends self.now text.now) from result };
+        ensures { IsNextMatch (ends self.now text.now) from result }
+    {
+        let mut searcher = self.searcher(text, from, text.len());
+        self.next_match_by(&mut searcher, text, from)
+    }
 
     /// Like `next_match`, but by a walk's searcher, which goes on behind the match.
     fn next_match_by(
@@ -65,15 +70,24 @@ pub trait Pattern: Drop {
 /// A pattern that can be looked for from a text's end too. It occurs at most once to a given end.
 pub trait ReversePattern: Pattern {
     /// Like `searcher`, but prepared for a walk that begins at the end.
+    #[inline]
     fn reverse_searcher(&self, text: &str, from: usize, to: usize) -> Self::Searcher
         ensures front { IsCharBoundary text.now from → Self.is_ready self.now result text.now from }
-        ensures back { IsCharBoundary text.now to → Self.is_ready_back self.now result text.now to };
+        ensures back { IsCharBoundary text.now to → Self.is_ready_back self.now result text.now to }
+    {
+        self.searcher(text, from, to)
+    }
 
     /// The occurrence that ends last at or before `to`, as its start and end.
+    #[inline]
     fn last_match(&self, text: &str, to: usize) -> Option<(usize, usize)>
         requires can { Self.can_search self.now }
         requires boundary { IsCharBoundary text.now to }
-        ensures { IsLastMatch (Self.ends self.now text.now) to result };
+        ensures { IsLastMatch (Self.ends self.now text.now) to result }
+    {
+        let mut searcher = self.reverse_searcher(text, 0, to);
+        self.last_match_by(&mut searcher, text, to)
+    }
 
     /// Like `last_match`, but by a walk's searcher, which goes on before the match.
     fn last_match_by(

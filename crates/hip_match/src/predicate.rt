@@ -78,11 +78,6 @@ impl<F: Fn(char) -> bool> Pattern for CharPred<F> {
     fn searcher(&self, _text: &str, _from: usize, _to: usize) {}
 
     #[inline]
-    fn next_match(&self, text: &str, from: usize) -> Option<(usize, usize)> {
-        first_of(self, text, from)
-    }
-
-    #[inline]
     fn next_match_by(&self, _searcher: &mut (), text: &str, from: usize) -> Option<(usize, usize)> {
         first_of(self, text, from)
     }
@@ -96,14 +91,6 @@ impl<F: Fn(char) -> bool> Pattern for CharPred<F> {
 }
 
 impl<F: Fn(char) -> bool> ReversePattern for CharPred<F> {
-    #[inline]
-    fn reverse_searcher(&self, _text: &str, _from: usize, _to: usize) {}
-
-    #[inline]
-    fn last_match(&self, text: &str, to: usize) -> Option<(usize, usize)> {
-        last_of(self, text, to)
-    }
-
     #[inline]
     fn last_match_by(&self, _searcher: &mut (), text: &str, to: usize) -> Option<(usize, usize)> {
         last_of(self, text, to)

@@ -11,7 +11,7 @@ ghost use Rattle.hip_match.specs.Searchers.{AreAhead, AreBehind};
 ghost use Rattle.hip_match.specs.FirstBytes.{ascii_first_bytes};
 
 use crate::ascii_set::AsciiSet;
-use crate::byte_test::{AsciiTable, ByteTest, OneByte};
+use crate::byte_test::{ByteTest, OneByte};
 use crate::chars::{CharSet, end_of, start_before};
 use crate::marked_set::{MarkedSet, last_marked, marked_searcher, next_marked};
 use crate::marks::Marks;
@@ -73,16 +73,6 @@ impl Pattern for char {
         marked_searcher(self, from, to)
     }
 
-    #[inline]
-    fn next_match(&self, text: &str, from: usize) -> Option<(usize, usize)> {
-        next_marked(
-            self,
-            &mut marked_searcher(self, from, text.len()),
-            text,
-            from,
-        )
-    }
-
     #[inline(always)]
     fn next_match_by(
         &self,
@@ -102,16 +92,6 @@ impl Pattern for char {
 }
 
 impl ReversePattern for char {
-    #[inline]
-    fn reverse_searcher(&self, _text: &str, from: usize, to: usize) -> Option<Marks<OneByte>> {
-        marked_searcher(self, from, to)
-    }
-
-    #[inline]
-    fn last_match(&self, text: &str, to: usize) -> Option<(usize, usize)> {
-        last_marked(self, &mut marked_searcher(self, 0, to), text, to)
-    }
-
     #[inline(always)]
     fn last_match_by(
         &self,
@@ -183,51 +163,41 @@ impl<'a> CharSet for &'a [char] {
 }
 
 impl<'a> MarkedSet for &'a [char] {
-    type Test = AsciiTable;
+    type Test = AsciiSet;
 
     ghost is_found_by = { λ s passes. AreAsciiBytes (λ d. list_any (λ c. c == d) s.now) passes };
 
     ghost first_bytes = { λ s passes found. ascii_first_bytes (λ d. list_any (λ c. c == d) s.now) passes found };
 
     #[inline]
-    fn test(&self) -> Option<AsciiTable> {
-        Some(ascii_set(*self)?.table())
+    fn test(&self) -> Option<AsciiSet> {
+        ascii_set(*self)
     }
 
     #[inline(always)]
-    fn end_at_mark(&self, _test: &AsciiTable, _text: &str, at: usize) -> Option<usize> {
+    fn end_at_mark(&self, _test: &AsciiSet, _text: &str, at: usize) -> Option<usize> {
         Some(at + 1)
     }
 }
 
 impl<'a> Pattern for &'a [char] {
-    type Searcher = Option<Marks<AsciiTable>>;
+    type Searcher = Option<Marks<AsciiSet>>;
 
     ghost ends = { λ s. char_ends (λ d. list_any (λ c. c == d) s.now) };
 
-    ghost is_ready = { λ s m text from. AreAhead (AreAsciiBytes (λ d. list_any (λ c. c == d) s.now)) (⟦<AsciiTable as ByteTest>⟧.passes) m text from };
+    ghost is_ready = { λ s m text from. AreAhead (AreAsciiBytes (λ d. list_any (λ c. c == d) s.now)) (⟦<AsciiSet as ByteTest>⟧.passes) m text from };
 
-    ghost is_ready_back = { λ s m text to. AreBehind (AreAsciiBytes (λ d. list_any (λ c. c == d) s.now)) (⟦<AsciiTable as ByteTest>⟧.passes) m text to };
+    ghost is_ready_back = { λ s m text to. AreBehind (AreAsciiBytes (λ d. list_any (λ c. c == d) s.now)) (⟦<AsciiSet as ByteTest>⟧.passes) m text to };
 
     #[inline]
-    fn searcher(&self, _text: &str, from: usize, to: usize) -> Option<Marks<AsciiTable>> {
+    fn searcher(&self, _text: &str, from: usize, to: usize) -> Option<Marks<AsciiSet>> {
         marked_searcher(self, from, to)
-    }
-
-    #[inline]
-    fn next_match(&self, text: &str, from: usize) -> Option<(usize, usize)> {
-        next_marked(
-            self,
-            &mut marked_searcher(self, from, text.len()),
-            text,
-            from,
-        )
     }
 
     #[inline(always)]
     fn next_match_by(
         &self,
-        searcher: &mut Option<Marks<AsciiTable>>,
+        searcher: &mut Option<Marks<AsciiSet>>,
         text: &str,
         from: usize,
     ) -> Option<(usize, usize)> {
@@ -243,20 +213,10 @@ impl<'a> Pattern for &'a [char] {
 }
 
 impl<'a> ReversePattern for &'a [char] {
-    #[inline]
-    fn reverse_searcher(&self, _text: &str, from: usize, to: usize) -> Option<Marks<AsciiTable>> {
-        marked_searcher(self, from, to)
-    }
-
-    #[inline]
-    fn last_match(&self, text: &str, to: usize) -> Option<(usize, usize)> {
-        last_marked(self, &mut marked_searcher(self, 0, to), text, to)
-    }
-
     #[inline(always)]
     fn last_match_by(
         &self,
-        searcher: &mut Option<Marks<AsciiTable>>,
+        searcher: &mut Option<Marks<AsciiSet>>,
         text: &str,
         to: usize,
     ) -> Option<(usize, usize)> {
@@ -283,99 +243,57 @@ impl<'a> ClonePattern for &'a [char] {
 
 impl<'a> DoubleEndedPattern for &'a [char] {}
 
-impl<'a, const N: usize> CharSet for &'a [char; N] {
-    ghost belongs = { λ s d. list_any (λ c. c == d) s.now };
-
-    #[inline]
-    fn has(&self, c: char) -> bool {
-        is_one_of(self.as_slice(), c)
-    }
-}
-
-impl<'a, const N: usize> MarkedSet for &'a [char; N] {
-    type Test = AsciiTable;
-
-    ghost is_found_by = { λ s passes. AreAsciiBytes (λ d. list_any (λ c. c == d) s.now) passes };
-
-    ghost first_bytes = { λ s passes found. ascii_first_bytes (λ d. list_any (λ c. c == d) s.now) passes found };
-
-    #[inline]
-    fn test(&self) -> Option<AsciiTable> {
-        Some(ascii_set(self.as_slice())?.table())
-    }
-
-    #[inline(always)]
-    fn end_at_mark(&self, _test: &AsciiTable, _text: &str, at: usize) -> Option<usize> {
-        Some(at + 1)
-    }
-}
-
 impl<'a, const N: usize> Pattern for &'a [char; N] {
-    type Searcher = Option<Marks<AsciiTable>>;
+    type Searcher = Option<Marks<AsciiSet>>;
 
     ghost ends = { λ s. char_ends (λ d. list_any (λ c. c == d) s.now) };
 
-    ghost is_ready = { λ s m text from. AreAhead (AreAsciiBytes (λ d. list_any (λ c. c == d) s.now)) (⟦<AsciiTable as ByteTest>⟧.passes) m text from };
+    ghost is_ready = { λ s m text from. AreAhead (AreAsciiBytes (λ d. list_any (λ c. c == d) s.now)) (⟦<AsciiSet as ByteTest>⟧.passes) m text from };
 
-    ghost is_ready_back = { λ s m text to. AreBehind (AreAsciiBytes (λ d. list_any (λ c. c == d) s.now)) (⟦<AsciiTable as ByteTest>⟧.passes) m text to };
-
-    #[inline]
-    fn searcher(&self, _text: &str, from: usize, to: usize) -> Option<Marks<AsciiTable>> {
-        marked_searcher(self, from, to)
-    }
+    ghost is_ready_back = { λ s m text to. AreBehind (AreAsciiBytes (λ d. list_any (λ c. c == d) s.now)) (⟦<AsciiSet as ByteTest>⟧.passes) m text to };
 
     #[inline]
-    fn next_match(&self, text: &str, from: usize) -> Option<(usize, usize)> {
-        next_marked(
-            self,
-            &mut marked_searcher(self, from, text.len()),
-            text,
-            from,
-        )
+    fn searcher(&self, text: &str, from: usize, to: usize) -> Option<Marks<AsciiSet>> {
+        let set: &[char] = *self;
+        set.searcher(text, from, to)
     }
 
     #[inline(always)]
     fn next_match_by(
         &self,
-        searcher: &mut Option<Marks<AsciiTable>>,
+        searcher: &mut Option<Marks<AsciiSet>>,
         text: &str,
         from: usize,
     ) -> Option<(usize, usize)> {
-        next_marked(self, searcher, text, from)
+        let set: &[char] = *self;
+        set.next_match_by(searcher, text, from)
     }
 
     #[inline]
     fn match_at(&self, text: &str, at: usize) -> Option<usize> {
-        end_of(self, text, at)
+        let set: &[char] = *self;
+        set.match_at(text, at)
     }
 
     ghost spans = { λ s. char_ends-spans (λ d. list_any (λ c. c == d) s.now) };
 }
 
 impl<'a, const N: usize> ReversePattern for &'a [char; N] {
-    #[inline]
-    fn reverse_searcher(&self, _text: &str, from: usize, to: usize) -> Option<Marks<AsciiTable>> {
-        marked_searcher(self, from, to)
-    }
-
-    #[inline]
-    fn last_match(&self, text: &str, to: usize) -> Option<(usize, usize)> {
-        last_marked(self, &mut marked_searcher(self, 0, to), text, to)
-    }
-
     #[inline(always)]
     fn last_match_by(
         &self,
-        searcher: &mut Option<Marks<AsciiTable>>,
+        searcher: &mut Option<Marks<AsciiSet>>,
         text: &str,
         to: usize,
     ) -> Option<(usize, usize)> {
-        last_marked(self, searcher, text, to)
+        let set: &[char] = *self;
+        set.last_match_by(searcher, text, to)
     }
 
     #[inline]
     fn match_before(&self, text: &str, to: usize) -> Option<usize> {
-        start_before(self, text, to)
+        let set: &[char] = *self;
+        set.match_before(text, to)
     }
 
     ghost one_start = { λ s. char_ends-one_start (λ d. list_any (λ c. c == d) s.now) };

@@ -342,11 +342,6 @@ impl<'p> Pattern for &'p str {
         }
     }
 
-    #[inline]
-    fn next_match(&self, text: &str, from: usize) -> Option<(usize, usize)> {
-        find_text(text, *self, &None, from)
-    }
-
     #[inline(always)]
     fn next_match_by(
         &self,
@@ -378,11 +373,6 @@ impl<'p> ReversePattern for &'p str {
             finder: None,
             reverse_finder: reverse_finder_of(*self),
         }
-    }
-
-    #[inline]
-    fn last_match(&self, text: &str, to: usize) -> Option<(usize, usize)> {
-        rfind_text(text, *self, &None, to)
     }
 
     #[inline]
@@ -420,11 +410,6 @@ impl<'p, 'q> Pattern for &'q &'p str {
         }
     }
 
-    #[inline]
-    fn next_match(&self, text: &str, from: usize) -> Option<(usize, usize)> {
-        find_text(text, **self, &None, from)
-    }
-
     #[inline(always)]
     fn next_match_by(
         &self,
@@ -456,11 +441,6 @@ impl<'p, 'q> ReversePattern for &'q &'p str {
             finder: None,
             reverse_finder: reverse_finder_of(**self),
         }
-    }
-
-    #[inline]
-    fn last_match(&self, text: &str, to: usize) -> Option<(usize, usize)> {
-        rfind_text(text, **self, &None, to)
     }
 
     #[inline]
@@ -498,11 +478,6 @@ impl<'p> Pattern for &'p String {
         }
     }
 
-    #[inline]
-    fn next_match(&self, text: &str, from: usize) -> Option<(usize, usize)> {
-        find_text(text, self.as_str(), &None, from)
-    }
-
     #[inline(always)]
     fn next_match_by(
         &self,
@@ -534,11 +509,6 @@ impl<'p> ReversePattern for &'p String {
             finder: None,
             reverse_finder: reverse_finder_of(self.as_str()),
         }
-    }
-
-    #[inline]
-    fn last_match(&self, text: &str, to: usize) -> Option<(usize, usize)> {
-        rfind_text(text, self.as_str(), &None, to)
     }
 
     #[inline]

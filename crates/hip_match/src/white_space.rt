@@ -4,26 +4,27 @@
 ghost use Rattle.std.specs.Prelude.{◌≡◌, IfSome};
 ghost use Rattle.std.proofs.Common.{refl};
 ghost use Rattle.std.specs.Char.{is_whitespace};
-ghost use Rattle.hip_match.specs.Clones.{gaps_kept, made_kept};
+ghost use Rattle.hip_match.specs.Clones.{made_kept};
 ghost use Rattle.hip_match.specs.Iterators.{Gives};
 ghost use Rattle.hip_match.specs.Characters.{char_ends};
 ghost use Rattle.hip_match.specs.CharLaws.{char_ends-spans, char_ends-one_start, char_ends-one_char};
 ghost use Rattle.hip_match.specs.MarkedSets.{AreFirstBytes};
 ghost use Rattle.hip_match.specs.Searchers.{AreAhead, AreBehind};
-ghost use Rattle.hip_match.specs.Runs.{nonempty, split_whitespace};
+ghost use Rattle.hip_match.specs.Runs.{nonempty, split_ascii_whitespace, split_whitespace};
 
-pub use crate::ascii_space::SplitAsciiWhitespace;
+use crate::ascii_set::AsciiSet;
 use crate::byte_test::{ByteTest, SpaceLeads};
 use crate::chars::{CharSet, end_of, start_before};
+use crate::marked_parts::MarkedParts;
 use crate::marked_set::{MarkedSet, last_marked, marked_searcher, next_marked};
 use crate::marks::Marks;
 use crate::pattern::{ClonePattern, DoubleEndedPattern, OneChar, Pattern, ReversePattern};
 use crate::ranges::{CloneRanges, Ranges, RangesBack};
 use crate::split::Split;
 
-// The characters of white space, by Unicode's `White_Space`.
+/// The characters of white space, by Unicode's `White_Space`.
 #[derive(Clone, Copy)]
-pub(crate) struct WhiteSpace;
+pub struct WhiteSpace;
 
 impl CharSet for WhiteSpace {
     ghost belongs = { λ _. is_whitespace };
@@ -71,16 +72,6 @@ impl Pattern for WhiteSpace {
         marked_searcher(self, from, to)
     }
 
-    #[inline]
-    fn next_match(&self, text: &str, from: usize) -> Option<(usize, usize)> {
-        next_marked(
-            self,
-            &mut marked_searcher(self, from, text.len()),
-            text,
-            from,
-        )
-    }
-
     #[inline(always)]
     fn next_match_by(
         &self,
@@ -100,16 +91,6 @@ impl Pattern for WhiteSpace {
 }
 
 impl ReversePattern for WhiteSpace {
-    #[inline]
-    fn reverse_searcher(&self, _text: &str, from: usize, to: usize) -> Option<Marks<SpaceLeads>> {
-        marked_searcher(self, from, to)
-    }
-
-    #[inline]
-    fn last_match(&self, text: &str, to: usize) -> Option<(usize, usize)> {
-        last_marked(self, &mut marked_searcher(self, 0, to), text, to)
-    }
-
     #[inline(always)]
     fn last_match_by(
         &self,
@@ -140,9 +121,9 @@ impl ClonePattern for WhiteSpace {
 
 impl DoubleEndedPattern for WhiteSpace {}
 
-// The ranges that are not empty.
+/// The ranges that are not empty.
 #[derive(Clone, Drop)]
-struct Runs<R> {
+pub struct Runs<R> {
     ranges: R,
 }
 
@@ -182,48 +163,33 @@ impl<R: RangesBack> RangesBack for Runs<R> {
 }
 
 /// The longest runs of a text without white space, by Unicode's `White_Space`.
-#[derive(Clone, Drop)]
-pub struct SplitWhitespace<'h> {
-    runs: Runs<Split<'h, WhiteSpace>>,
-}
+pub type SplitWhitespace<'h> = Runs<Split<'h, WhiteSpace>>;
 
-impl<'h> SplitWhitespace<'h> {
+impl<'h> Runs<Split<'h, WhiteSpace>> {
     /// The runs of `text` between white space.
     #[inline]
     pub fn new(text: &'h str) -> Self
-        ensures ranges { Gives ⟦<SplitWhitespace<'h> as Ranges>⟧ result text.now
+        ensures ranges { Gives ⟦<Runs<Split<'h, WhiteSpace>> as Ranges>⟧ result text.now
             (split_whitespace text.now) }
     {
-        SplitWhitespace {
-            runs: Runs {
-                ranges: Split::new(text, WhiteSpace),
-            },
+        Runs {
+            ranges: Split::new(text, WhiteSpace),
         }
     }
 }
 
-impl<'h> Ranges for SplitWhitespace<'h> {
-    ghost ready = { λ s. ⟦<Runs<Split<'h, WhiteSpace>> as Ranges>⟧.ready s.runs };
+/// The longest runs of a text without ASCII white space, to which U+000B doesn't belong.
+pub type SplitAsciiWhitespace<'h> = Runs<MarkedParts<'h, AsciiSet>>;
 
-    ghost text = { λ s. s.runs.ranges.matches.text.now };
-
-    ghost rest = { λ s. ⟦<Runs<Split<'h, WhiteSpace>> as Ranges>⟧.rest s.runs };
-
-    #[inline(always)]
-    fn next(&mut self) -> Option<(usize, usize)> {
-        self.runs.next()
-    }
-}
-
-impl<'h> CloneRanges for SplitWhitespace<'h> {
-    ghost clone_keeps = { λ _ _ is. made_kept {f = nonempty} refl
-        (gaps_kept (is.0 (λ _ _ _. record { searchable = λ h. h; occurs = refl }))
-        is.1.0 is.1.1.0 is.1.1.1) };
-}
-
-impl<'h> RangesBack for SplitWhitespace<'h> {
-    #[inline(always)]
-    fn next_back(&mut self) -> Option<(usize, usize)> {
-        self.runs.next_back()
+impl<'h> Runs<MarkedParts<'h, AsciiSet>> {
+    /// The runs of `text` between ASCII white space.
+    #[inline]
+    pub fn new(text: &'h str) -> Self
+        ensures ranges { Gives ⟦<Runs<MarkedParts<'h, AsciiSet>> as Ranges>⟧ result text.now
+            (split_ascii_whitespace text.now) }
+    {
+        Runs {
+            ranges: MarkedParts::by(text, AsciiSet::whitespace()),
+        }
     }
 }

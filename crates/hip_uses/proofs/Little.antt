@@ -4,5 +4,4 @@ use Rattle.hipstr.specs.Meter.{RisesAtMost}
 
 pub rises-more : (cost first before after count : ℕ) → cost ≤ 23 → RisesAtMost first before (23 * count) → RisesAtMost before after cost
     → RisesAtMost first after (23 * (count + 1))
-rises-more cost first before after count bound so_far more =
-    record { never_falls = omega (arith, so_far.never_falls, more.never_falls); at_most = omega (arith, so_far.at_most, more.at_most, bound) }
+rises-more cost first before after count bound so_far more = grind arith

@@ -1,15 +1,14 @@
 -- Bits that tell where runs of a class end.
-use Rattle.std.proofs.Common.{◌≡◌, ◌∙◌, ◌≢◌, ℕ, zero, suc, ◌+◌, ◌-◌, ◌%◌, ◌/◌, ◌^◌, ◌<◌, ◌≤◌, min, max, Bool, true, false, not, cond, List, map, length, get_or, bit_and, bit_or, ap, sym, subst, refl, arith, ⊎_elim}
+use Rattle.std.proofs.Common.{◌≡◌, ◌∙◌, ◌≢◌, ℕ, zero, suc, ◌+◌, ◌-◌, ◌%◌, ◌/◌, ◌^◌, ◌<◌, ◌≤◌, min, max, Bool, true, false, not, cond, List, map, length, get_or, bit_and, bit_or, ap, sym, subst, refl, arith, ⊎_elim, bit_xor}
 use Rattle.std.proofs.lemmas.Bool.{cases_lt}
 use Rattle.std.proofs.lemmas.List.FromFn.{get_or-map-range_with_len}
 use Rattle.std.proofs.lemmas.Nat.Bits.{bit_at-suc, bit_at-zero, bit_at_and, bit_at_ones, bit_at_ones_above, bit_at_or, bit_at_xor}
 use Rattle.std.specs.Int.{bit_at}
-use Rattle.std.specs.Int.Bits.{bit_xor}
 use Rattle.std.specs.List.{range_with_len}
 use Rattle.hip_uses.specs.declared.tokens.Class.{Class}
 use Rattle.hip_uses.specs.declared.tokens.Class.TheVariants.{Word, Digits, Space, Mark}
 use Rattle.hip_uses.specs.Token.{IsClassRun, class_of, is_word_or_digit, is_word_or_space}
-use Rattle.hip_uses.specs.Turns.{TurnsAhead, AreTurns, IsNextTurn, IsTail, NoTurn, Tells}
+use Rattle.hip_uses.specs.Turns.{TurnsAhead, AreTurns, IsNextTurn, NoTurn, Tells}
 use Rattle.hipstr.specs.Bits.{IsLowest}
 
 -- the class by two sets: the white space and the marks, and the digits and the marks
@@ -35,22 +34,7 @@ class_by_two byte low =
 
 told : (p q p' q' : Bool) (bit : ℕ) → bit ≡ min (max ((cond p 1 0 + cond p' 1 0) % 2) ((cond q 1 0 + cond q' 1 0) % 2)) 1
     → (bit ≡ 0 → of_two p q ≡ of_two p' q') × (bit ≡ 1 → of_two p q ≢ of_two p' q')
-told true true true true bit is = (λ zero. refl, λ one. absurd (omega (arith, is, one)))
-told true true true false bit is = (λ zero. absurd (omega (arith, is, zero)), λ one same. cc)
-told true true false true bit is = (λ zero. absurd (omega (arith, is, zero)), λ one same. cc)
-told true true false false bit is = (λ zero. absurd (omega (arith, is, zero)), λ one same. cc)
-told true false true true bit is = (λ zero. absurd (omega (arith, is, zero)), λ one same. cc)
-told true false true false bit is = (λ zero. refl, λ one. absurd (omega (arith, is, one)))
-told true false false true bit is = (λ zero. absurd (omega (arith, is, zero)), λ one same. cc)
-told true false false false bit is = (λ zero. absurd (omega (arith, is, zero)), λ one same. cc)
-told false true true true bit is = (λ zero. absurd (omega (arith, is, zero)), λ one same. cc)
-told false true true false bit is = (λ zero. absurd (omega (arith, is, zero)), λ one same. cc)
-told false true false true bit is = (λ zero. refl, λ one. absurd (omega (arith, is, one)))
-told false true false false bit is = (λ zero. absurd (omega (arith, is, zero)), λ one same. cc)
-told false false true true bit is = (λ zero. absurd (omega (arith, is, zero)), λ one same. cc)
-told false false true false bit is = (λ zero. absurd (omega (arith, is, zero)), λ one same. cc)
-told false false false true bit is = (λ zero. absurd (omega (arith, is, zero)), λ one same. cc)
-told false false false false bit is = (λ zero. refl, λ one. absurd (omega (arith, is, one)))
+told p q p' q' bit is = (λ zero. grind (arith, is, zero), λ one same. grind (arith, is, one, same))
 
 -- the bit at k of what two numbers of marks give
 two_marks : (m n k : ℕ) → k < 63 → bit_at (bit_and (bit_or (bit_xor m (m / 2)) (bit_xor n (n / 2))) (2 ^ 63 - 1)) k
@@ -177,19 +161,6 @@ ahead-new t = record {
   few = λ j high. bit_at-zero j;
   between = λ k lo hi. absurd (omega arith);
   taken = λ j low. bit_at-zero j;
-  left = λ k lo hi. absurd (omega arith);
-}
-
--- behind the end of a run in the tail of a text
-pub ahead-tail : (t : List ℕ) (from upto turns end : ℕ) → TurnsAhead t from upto turns → IsTail t from upto turns → upto ≤ end → TurnsAhead t end upto turns
-ahead-tail t from upto turns end h tail past = record {
-  within = h.within;
-  inside = h.inside;
-  full = h.full;
-  reached = λ room. (let short = tail.short in absurd (omega arith));
-  few = h.few;
-  between = λ k lo hi. absurd (omega arith);
-  taken = λ j low. ap (λ x. bit_at x j) tail.taken ∙ bit_at-zero j;
   left = λ k lo hi. absurd (omega arith);
 }
 

@@ -10,12 +10,15 @@ use hipstr::bytes::GrowFault;
 use hipstr::string::HipStr;
 use std::alloc::{AllocError, AllocFailed};
 use std::fmt;
+use thiserror::Error;
 
 /// Why a text got no number.
-#[derive(Clone, Copy, Debug, PartialEq, Eq)]
+#[derive(Clone, Copy, Debug, PartialEq, Eq, Error)]
 pub enum InternFault {
     /// There are as many texts as numbers.
+    #[error("too many different texts")]
     TooMany,
+    #[error("out of memory")]
     Memory,
 }
 
@@ -35,20 +38,13 @@ impl<T: Drop> From<AllocFailed<T>> for InternFault {
     }
 }
 
-impl fmt::Display for InternFault {
-    fn fmt<W: fmt::Write>(&self, f: &mut fmt::Formatter<W>) -> fmt::Result {
-        f.write_str(match self {
-            InternFault::TooMany => "too many different texts",
-            InternFault::Memory => "out of memory",
-        })
-    }
-}
-
 /// Why a message was not taken.
-#[derive(Clone, Copy, Debug, PartialEq, Eq)]
+#[derive(Clone, Copy, Debug, PartialEq, Eq, Error)]
 pub enum PublishFault {
     /// A subscriber has as many messages waiting as it may.
+    #[error("a queue is full")]
     Full,
+    #[error("out of memory")]
     Memory,
 }
 
@@ -60,22 +56,16 @@ impl From<AllocError> for PublishFault {
     }
 }
 
-impl fmt::Display for PublishFault {
-    fn fmt<W: fmt::Write>(&self, f: &mut fmt::Formatter<W>) -> fmt::Result {
-        f.write_str(match self {
-            PublishFault::Full => "a queue is full",
-            PublishFault::Memory => "out of memory",
-        })
-    }
-}
-
 /// Why a text is no table.
-#[derive(Clone, Copy, Debug, PartialEq, Eq)]
+#[derive(Clone, Copy, Debug, PartialEq, Eq, Error)]
 pub enum TableFault {
     /// It has no line.
+    #[error("no header")]
     Empty,
     /// This line, counted from 1, has another number of fields than the header.
+    #[error("line {0}: another number of fields than the header")]
     Ragged(usize),
+    #[error("out of memory")]
     Memory,
 }
 
@@ -84,19 +74,6 @@ impl From<AllocError> for TableFault {
 
     fn from(_: AllocError) -> Self {
         TableFault::Memory
-    }
-}
-
-impl fmt::Display for TableFault {
-    fn fmt<W: fmt::Write>(&self, f: &mut fmt::Formatter<W>) -> fmt::Result {
-        match self {
-            TableFault::Empty => f.write_str("no header"),
-            TableFault::Ragged(line) => write!(
-                f,
-                "line {line}: another number of fields than the header"
-            ),
-            TableFault::Memory => f.write_str("out of memory"),
-        }
     }
 }
 

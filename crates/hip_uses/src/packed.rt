@@ -1,5 +1,7 @@
 //! Hashers that take a text of up to 16 bytes as one number. std's `DefaultHasher` takes a number of eight bytes in one step, but the last
 //! bytes of a text one by one.
+#![tactic(auto, using(crate::proofs::Packing::reads))]
+
 ghost use Rattle.std.specs.Prelude.{◌≡◌, ◌+◌, ◌≤◌, length};
 ghost use Rattle.hip_uses.specs.Packed as packing;
 
@@ -37,6 +39,7 @@ impl<H: Hasher + Drop> Hasher for PackedHasher<H> {
     ghost finish = { λ packed. H.finish packed.hasher };
 
     #[inline(always)]
+    #[tactic(auto, unfolding(crate::specs::Packed::fed, crate::specs::Packed::writes))]
     fn write(&mut self, bytes: &[u8]) {
         let len = bytes.len();
         if len > 16 {
@@ -65,6 +68,7 @@ fn is_end(bytes: &[u8]) -> bool
 
 /// Two numbers as one, the first of them lowest.
 #[inline(always)]
+#[tactic(auto, unfolding(crate::specs::Packed::pair))]
 fn pair(low: u64, high: u64) -> u128
     ensures { result ≡ packing.pair low high }
 {

@@ -1,4 +1,6 @@
 //! Tables: a header names the columns of the rows below it, a line each.
+#![tactic(auto, using(crate::proofs::Tables::tables))]
+
 ghost use Rattle.std.specs.Prelude.{◌≡◌, ◌∷◌, All, IfErr, IfOk, MatchOption, length};
 ghost use Rattle.hip_fields.specs.Records.{records_of};
 ghost use Rattle.hip_uses.specs.Cells.{HasCell, HasCellAt, HasNoCell, HasNoCellAt};

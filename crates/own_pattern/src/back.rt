@@ -7,11 +7,8 @@ use hipstr::pattern::{DoubleEndedPattern, OneChar, Pattern, ReversePattern};
 
 impl ReversePattern for TruthTable {
     #[inline]
-    fn reverse_searcher(&self, _text: &str, _from: usize, _to: usize) {}
-
-    #[inline]
     #[tactic(auto, using(crate::proofs::Ends::steps))]
-    fn last_match(&self, text: &str, to: usize) -> Option<(usize, usize)> {
+    fn last_match_by(&self, _searcher: &mut (), text: &str, to: usize) -> Option<(usize, usize)> {
         let mut at = to;
         while at > 0 {
             at -= 1;
@@ -20,11 +17,6 @@ impl ReversePattern for TruthTable {
             }
         }
         None
-    }
-
-    #[inline]
-    fn last_match_by(&self, _searcher: &mut (), text: &str, to: usize) -> Option<(usize, usize)> {
-        self.last_match(text, to)
     }
 
     #[inline]
@@ -38,18 +30,8 @@ impl ReversePattern for TruthTable {
     ghost one_start = { λ table. char_ends-one_start (in_table table) };
 }
 
-impl DoubleEndedPattern for TruthTable {
-    #[inline]
-    fn starts_at(&self, text: &str, at: usize) -> bool {
-        self.end_at(text, at).is_some()
-    }
-}
+impl DoubleEndedPattern for TruthTable {}
 
 impl OneChar for TruthTable {
-    #[inline]
-    fn ends_at(&self, text: &str, to: usize) -> bool {
-        self.match_before(text, to).is_some()
-    }
-
     ghost one_char = { λ table. char_ends-one_char (in_table table) };
 }

@@ -16,18 +16,13 @@ impl Pattern for TruthTable {
 
     #[inline]
     #[tactic(auto, using(crate::proofs::Starts::none_past))]
-    fn next_match(&self, text: &str, from: usize) -> Option<(usize, usize)> {
+    fn next_match_by(&self, _searcher: &mut (), text: &str, from: usize) -> Option<(usize, usize)> {
         for at in from..text.len() {
             if let Some(end) = self.end_at(text, at) {
                 return Some((at, end));
             }
         }
         None
-    }
-
-    #[inline]
-    fn next_match_by(&self, _searcher: &mut (), text: &str, from: usize) -> Option<(usize, usize)> {
-        self.next_match(text, from)
     }
 
     #[inline]

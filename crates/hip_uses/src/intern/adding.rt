@@ -1,4 +1,6 @@
 //! Texts that get numbers.
+#![tactic(auto, using(crate::proofs::Interned::pushes))]
+
 ghost use Rattle.std.specs.Prelude.{◌≡◌, ◌≤◌, ◌^◌, [], ◌∷◌, ◌++◌, length, true, None, Some};
 ghost use Rattle.std.specs.Prelude.{IfOk, IsErrOf, IsOk, IsSome, OnErr, OnOk, slice_range};
 ghost use Rattle.hipstr.specs.Occurrence.{IsCut};

@@ -1,4 +1,6 @@
 //! Templates that are filled.
+#![tactic(auto, using(crate::proofs::Templates::fills))]
+
 ghost use Rattle.std.specs.Prelude.{◌≡◌, ◌++◌, IfErr, IfOk};
 ghost use Rattle.std.specs.Option.{option_map};
 ghost use Rattle.hip_uses.specs.Number.{text_bytes};

@@ -1,5 +1,4 @@
-use Rattle.std.proofs.Common.{ℕ, ◌<◌}
-use Rattle.std.specs.Str.{IsCharBoundary}
+use Rattle.std.proofs.Common.{ℕ, ◌<◌, IsCharBoundary}
 use Rattle.hip_match.proofs.boundaries.boundary_after.Given as goal
 
 abbrev pub invariant-loop-i : goal.invariant-loop-i

@@ -1,13 +1,12 @@
+use Rattle.std.proofs.lemmas.Bool.Decides.{nat_tests}
+use Rattle.std.proofs.lemmas.Grind.{common_steps}
 use Rattle.std.proofs.Common.{slice_index, ap, sym, ◌∙◌, arith}
 use Rattle.hip_match.specs.CharLaws.{char_at-end, char_at-ascii}
 use Rattle.hip_match.proofs.SetLemmas.{ends_here, first_step, first_done, moved}
 use Rattle.hip_match.proofs.chars.first_of.Goals as goal
 
 pub returns-then-has : goal.returns-then-has
-returns-then-has g c =
-    let same = c.as_bytes-bytes.ensures.value in
-    let here = char_at-ascii c.args.text.now c.loop-at.at c.utf8.text c.loop-at.invariant.0 (omega (arith, c.as_bytes-bytes.ensures.len)) (omega (arith, ap (λ l. slice_index l c.loop-at.at) same)) in
-    record { after = c.loop-at.invariant.1; occurs = ends_here _ c.args.text.now c.utf8.text _ _ _ here (rw same at (sym c.has.ensures ∙ c.if-has.true)); first = c.loop-at.invariant.2 }
+returns-then-has g c = grind (arith, nat_tests, common_steps, char_at-ascii, ends_here)
 
 pub loop-at-preserved-then-first-lt128 : goal.loop-at-preserved-then-first-lt128
 loop-at-preserved-then-first-lt128 g c =
@@ -21,4 +20,4 @@ loop-at-preserved g c =
     (found.1, omega (arith, found.0, c.loop-at.invariant.1), first_step _ c.args.text.now c.utf8.text _ _ _ _ c.wide_char_from-c.ensures (sym c.has-in-loop-at.ensures ∙ c.if-has-2.false) c.loop-at.invariant.2)
 
 pub returns : goal.returns
-returns g c = first_done _ c.args.text.now c.utf8.text _ _ c.loop-at.invariant.0 (char_at-end c.args.text.now _ (omega (arith, c.as_bytes-bytes.ensures.len, c.loop-at-test.false))) c.loop-at.invariant.2
+returns g c = grind (arith, nat_tests, common_steps, first_done, char_at-end)

@@ -1,5 +1,4 @@
-use Rattle.std.proofs.Common.{◌≤◌, ◌-◌, length}
-use Rattle.std.specs.Str.{IsCharBoundary}
+use Rattle.std.proofs.Common.{◌≤◌, ◌-◌, length, IsCharBoundary}
 use Rattle.hip_match.specs.Occurrence.{NoneStarts}
 use Rattle.hip_match.specs.Characters.{char_ends}
 use Rattle.hip_match.proofs.chars.first_of.Given as goal

@@ -1,5 +1,4 @@
-use Rattle.std.proofs.Common.{◌≡◌, ℕ, ◌≤◌, ◌<◌, Some}
-use Rattle.std.specs.Str.{IsCharBoundary}
+use Rattle.std.proofs.Common.{◌≡◌, ℕ, ◌≤◌, ◌<◌, Some, IsCharBoundary}
 use Rattle.hip_match.specs.Characters.{char_ends}
 use Rattle.hip_match.proofs.chars.last_of.Given as goal
 

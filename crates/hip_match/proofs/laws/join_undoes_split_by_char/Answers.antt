@@ -1,5 +1,4 @@
-use Rattle.std.proofs.Common.{◌≡◌, ℕ, Option, length, subst}
-use Rattle.std.specs.Char.{encode_utf8}
+use Rattle.std.proofs.Common.{◌≡◌, ℕ, Option, length, subst, encode_utf8}
 use Rattle.hip_match.specs.Joined.{rejoined, parts_at, together}
 use Rattle.hip_match.specs.Pieces.{split, split_inclusive}
 use Rattle.hip_match.proofs.CharTextLemmas.{same_ends}

@@ -1,5 +1,4 @@
-use Rattle.std.proofs.Common.{length, ◌≤◌}
-use Rattle.std.specs.Str.{IsCharBoundary}
+use Rattle.std.proofs.Common.{length, ◌≤◌, IsCharBoundary}
 use Rattle.hip_match.specs.Trims.{IsSequenceBack}
 use Rattle.hip_match.proofs.trim.back_of.Given as goal
 

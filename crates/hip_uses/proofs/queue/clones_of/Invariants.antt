@@ -1,5 +1,4 @@
-use Rattle.std.proofs.Common.{◌≡◌, ◌-◌, ◌*◌, ◌≤◌, true, vec_len, vec_capacity}
-use Rattle.std.specs.Prelude.{All}
+use Rattle.std.proofs.Common.{◌≡◌, ◌-◌, ◌*◌, ◌≤◌, true, vec_len, vec_capacity, All}
 use Rattle.hipstr.specs.Meter.{RisesAtMost}
 use Rattle.hip_uses.proofs.queue.clones_of.Given as goal
 

@@ -1,5 +1,4 @@
-use Rattle.std.proofs.Common.{◌≡◌, ◌+◌, length, vec_len}
-use Rattle.std.specs.Prelude.{All}
+use Rattle.std.proofs.Common.{◌≡◌, ◌+◌, length, vec_len, All}
 use Rattle.hip_uses.specs.Waiting.{with_message}
 use Rattle.hip_uses.proofs.Published.{AreChanged}
 use Rattle.hip_uses.proofs.queue.publish.Given as goal

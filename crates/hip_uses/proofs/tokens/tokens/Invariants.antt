@@ -1,7 +1,4 @@
-use Rattle.std.proofs.Common.{◌≡◌, ◌-◌, ◌*◌, length, take, true}
-use Rattle.std.specs.Prelude.{All}
-use Rattle.std.specs.List.{flat_map}
-use Rattle.std.specs.Str.{IsCharBoundary}
+use Rattle.std.proofs.Common.{◌≡◌, ◌-◌, ◌*◌, length, take, true, All, flat_map, IsCharBoundary}
 use Rattle.hipstr.specs.Meter.{RisesAtMost}
 use Rattle.hip_uses.specs.Token.{IsTokenOf, token_bytes}
 use Rattle.hip_uses.specs.Turns.{TurnsAhead}

@@ -1,12 +1,8 @@
-use Rattle.std.proofs.Common.{◌≡◌, ◌≤◌, ◌∷◌, [], ℕ, false, arith, refl}
+use Rattle.std.proofs.Common.{◌∷◌, [], arith, refl}
 use Rattle.std.specs.Char.{is_ascii_alphabetic}
 use Rattle.std.proofs.lemmas.Bool.Decides.{nat_tests}
 use Rattle.hip_match.proofs.TableLemmas.{rows-are}
 use Rattle.hip_match.proofs.ascii_set.AsciiSet.alphabetic.Goals as goal
 
-low : (c : ℕ) → 128 ≤ c → is_ascii_alphabetic c ≡ false
-low c high = grind (arith, nat_tests)
-
 pub returns : goal.returns
-returns c =
-    rows-are (160 ∷ 240 ∷ 240 ∷ 240 ∷ 240 ∷ 240 ∷ 240 ∷ 240 ∷ 240 ∷ 240 ∷ 240 ∷ 80 ∷ 80 ∷ 80 ∷ 80 ∷ 80 ∷ []) is_ascii_alphabetic refl low
+returns c = rows-are (160 ∷ 240 ∷ 240 ∷ 240 ∷ 240 ∷ 240 ∷ 240 ∷ 240 ∷ 240 ∷ 240 ∷ 240 ∷ 80 ∷ 80 ∷ 80 ∷ 80 ∷ 80 ∷ []) is_ascii_alphabetic refl (λ c high. grind (arith, nat_tests))

@@ -1,12 +1,8 @@
-use Rattle.std.proofs.Common.{◌≡◌, ◌≤◌, ◌∷◌, [], ℕ, false, arith, refl}
+use Rattle.std.proofs.Common.{◌∷◌, [], arith, refl}
 use Rattle.std.specs.Char.{is_ascii_alphanumeric}
 use Rattle.std.proofs.lemmas.Bool.Decides.{nat_tests}
 use Rattle.hip_match.proofs.TableLemmas.{rows-are}
 use Rattle.hip_match.proofs.ascii_set.AsciiSet.alphanumeric.Goals as goal
 
-low : (c : ℕ) → 128 ≤ c → is_ascii_alphanumeric c ≡ false
-low c high = grind (arith, nat_tests)
-
 pub returns : goal.returns
-returns c =
-    rows-are (168 ∷ 248 ∷ 248 ∷ 248 ∷ 248 ∷ 248 ∷ 248 ∷ 248 ∷ 248 ∷ 248 ∷ 240 ∷ 80 ∷ 80 ∷ 80 ∷ 80 ∷ 80 ∷ []) is_ascii_alphanumeric refl low
+returns c = rows-are (168 ∷ 248 ∷ 248 ∷ 248 ∷ 248 ∷ 248 ∷ 248 ∷ 248 ∷ 248 ∷ 248 ∷ 240 ∷ 80 ∷ 80 ∷ 80 ∷ 80 ∷ 80 ∷ []) is_ascii_alphanumeric refl (λ c high. grind (arith, nat_tests))

@@ -1,4 +1,6 @@
-use Rattle.std.proofs.Common.{◌∙◌}
+use Rattle.std.proofs.Common.{arith}
+use Rattle.std.proofs.lemmas.Bool.Decides.{nat_tests}
+use Rattle.std.proofs.lemmas.Grind.{common_steps}
 use Rattle.hip_match.proofs.PiecesLemmas.{TakesLastCut-before, TakesLastCut-at}
 use Rattle.hip_match.proofs.matches.Matches.last_before.Goals as goal
 
@@ -15,14 +17,4 @@ returns-then-last-end g c =
     }
 
 pub returns : goal.returns
-returns g c =
-    let last = c.in_ok-last.ensures in
-    let before = c.next_back_match-2.ensures in
-    record {
-      taken = record {
-        list = TakesLastCut-at _ _ _ _ _ _ last.taken.list last.holds c.if-last-end.false before.taken.list before.holds;
-        cut = rw (← last.taken.text) before.taken.cut;
-        text = before.taken.text ∙ last.taken.text;
-        ready = before.taken.ready;
-      };
-    }
+returns g c = grind (arith, nat_tests, common_steps, TakesLastCut-at)

@@ -1,3 +1,5 @@
+use Rattle.std.proofs.lemmas.Bool.Decides.{nat_tests}
+use Rattle.std.proofs.lemmas.Grind.{common_steps}
 use Rattle.std.proofs.Common.{arith, refl, sym}
 use Rattle.std.proofs.lemmas.Bool.{false≢true}
 use Rattle.hip_match.proofs.OneCharLemmas.{one_chars, clear, back_match, back_none, back_past}
@@ -51,4 +53,4 @@ returns-in_default-clause-taken g c =
     }
 
 pub returns-in-Some-clause-holds : goal.returns-in-Some-clause-holds
-returns-in-Some-clause-holds g c = (g.met.P.OneChar.one_char _ _ _ _ c.requires.window.utf8 c.in-Some.ensures.found.occurs).holds
+returns-in-Some-clause-holds g c = grind (arith, nat_tests, common_steps, g.met.P.OneChar.one_char)

@@ -1,24 +1,12 @@
-use Rattle.std.proofs.Common.{length, arith, refl}
+use Rattle.std.proofs.lemmas.Bool.Decides.{nat_tests}
+use Rattle.std.proofs.lemmas.Grind.{common_steps}
+use Rattle.std.proofs.Common.{length, arith}
 use Rattle.std.proofs.lemmas.Str.{IsCharBoundary-start, IsCharBoundary-end}
 use Rattle.hip_match.proofs.RightmostLemmas.{rightmost_between-InOrder}
 use Rattle.hip_match.proofs.rmatches.RMatches.new.Goals as goal
 
 pub returns-clause-ranges : goal.returns-clause-ranges
-returns-clause-ranges g c =
-    record {
-      ready = record {
-        searchable = (c.requires, λ going. (c.reverse_searcher-searcher.ensures.front (IsCharBoundary-start _ c.utf8.text), c.reverse_searcher-searcher.ensures.back (IsCharBoundary-end _)));
-        window = record {
-          utf8 = c.utf8.text;
-          start = IsCharBoundary-start _ c.utf8.text;
-          end = IsCharBoundary-end _;
-          ordered = omega arith;
-        };
-        whole = λ a b is lt. absurd (omega arith);
-      };
-      text = refl;
-      rest = refl;
-    }
+returns-clause-ranges g c = grind (arith, nat_tests, common_steps, IsCharBoundary-start, IsCharBoundary-end)
 
 pub returns-clause-between : goal.returns-clause-between
 returns-clause-between g c =

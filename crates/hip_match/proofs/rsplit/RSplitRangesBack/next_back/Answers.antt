@@ -1,18 +1,14 @@
-use Rattle.std.proofs.Common.{◌∙◌, ap, subst, List, ℕ}
-use Rattle.hip_match.specs.Pieces.{gaps_back, InOrderBack}
+use Rattle.std.proofs.Common.{arith}
+use Rattle.std.proofs.lemmas.Bool.Decides.{nat_tests}
+use Rattle.std.proofs.lemmas.Grind.{common_steps}
 use Rattle.hip_match.proofs.PiecesLemmas.{gaps_back-append, InOrderBack-append, IsBetweenBack-moved}
 use Rattle.hip_match.proofs.rsplit.RSplitRangesBack.next_back.Goals as goal
 
 pub returns-in-Some-clause-last : goal.returns-in-Some-clause-last
-returns-in-Some-clause-last g c =
-    rw c.if-self.false (ap (λ l. gaps_back c.args.self.now.start l c.args.self.now.end) c.in-Some.ensures.last ∙ gaps_back-append _ _ _ _)
+returns-in-Some-clause-last g c = grind (arith, nat_tests, common_steps, gaps_back-append)
 
 pub returns-in-Some-clause-cut : goal.returns-in-Some-clause-cut
-returns-in-Some-clause-cut g c =
-    let order = InOrderBack-append _ _ _ _ (subst (λ (l : List (ℕ × ℕ)). InOrderBack c.args.self.now.start l c.args.self.now.end) c.in-Some.ensures.last c.requires.1.in_order) in
-    record { start = c.requires.1.start; end = c.in-Some.ensures.cut.start; ordered = order.2 }
+returns-in-Some-clause-cut g c = grind (arith, nat_tests, common_steps, InOrderBack-append)
 
 pub returns-in-Some-clause-ready : goal.returns-in-Some-clause-ready
-returns-in-Some-clause-ready g c =
-    let order = InOrderBack-append _ _ _ _ (subst (λ (l : List (ℕ × ℕ)). InOrderBack c.args.self.now.start l c.args.self.now.end) c.in-Some.ensures.last c.requires.1.in_order) in
-    (c.in-Some.ensures.ready, IsBetweenBack-moved _ _ _ _ _ c.in-Some.ensures.text (record { start = c.in-Some.ensures.cut.end; end = c.requires.1.end; in_order = order.0 }))
+returns-in-Some-clause-ready g c = grind (arith, nat_tests, common_steps, InOrderBack-append, IsBetweenBack-moved)

@@ -4,25 +4,16 @@ use Rattle.hip_uses.proofs.Words.{kept-interned, walked-none, walked-on}
 use Rattle.hip_uses.proofs.intern.Interner.intern_at.Goals as goal
 
 pub loop-start-init : goal.loop-start-init
-loop-start-init g c =
-    let ranges = g.I.Ranges.rest c.args.ranges in
-    record {
-      ready = c.requires.ready;
-      text = c.requires.text;
-      walked = rw c.new-numbers.ensures.items (walked-none c.args.self.now c.args.text.now.items ranges);
-    }
+loop-start-init g c = record { ready = c.requires.ready; text = c.requires.text; walked = rw c.new-numbers.ensures.items (walked-none c.args.self.now c.args.text.now.items (g.I.Ranges.rest c.args.ranges)) }
 
 pub loop-start-preserved-in_ok-push : goal.loop-start-preserved-in_ok-push
-loop-start-preserved-in_ok-push g c =
-    let range : ℕ × ℕ = (c.in-Some.start, c.in-Some.end) in
-    record {
-      ready = c.next.ensures.ready;
-      text = c.next.ensures.text ∙ c.loop-start.invariant.text;
-      walked = walked-on c.args.self.now c.args.text.now.items (g.I.Ranges.rest c.args.ranges) c.loop-start.self (g.I.Ranges.rest c.loop-start.ranges) (g.I.Ranges.rest c.next.new.self) c.loop-start.numbers.items range
-          c.loop-start.invariant.walked c.in-Some.ensures.first c.intern_part.new.self c.push.new.self.items c.in_ok-intern_part.field-0
-          (subst (λ (t : List ℕ). IsCut t range) c.loop-start.invariant.text c.in-Some.ensures.cut) c.if-start-end.true
-          c.in_ok-intern_part.ensures.texts c.in_ok-intern_part.ensures.number c.in_ok-push.ensures.items;
-    }
+loop-start-preserved-in_ok-push g c = record {
+  ready = c.next.ensures.ready;
+  text = c.next.ensures.text ∙ c.loop-start.invariant.text;
+  walked = walked-on _ _ _ _ _ _ _ _ _ (c.in-Some.start, c.in-Some.end) _ c.loop-start.invariant.walked c.in-Some.ensures.first
+      (subst (λ (t : List ℕ). IsCut t (c.in-Some.start, c.in-Some.end)) c.loop-start.invariant.text c.in-Some.ensures.cut) c.if-start-end.true
+      c.in_ok-intern_part.ensures.texts c.in_ok-intern_part.ensures.number c.in_ok-push.ensures.items;
+}
 
 pub returns-in_err-push-clause-kept : goal.returns-in_err-push-clause-kept
 returns-in_err-push-clause-kept g c = rw c.in_ok-intern_part.ensures.texts (kept-interned c.args.self.now c.loop-start.self _ c.loop-start.invariant.walked.kept)

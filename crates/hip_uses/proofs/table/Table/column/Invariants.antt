@@ -1,5 +1,4 @@
-use Rattle.std.proofs.Common.{◌≢◌, ℕ, ◌<◌, Some}
-use Rattle.std.specs.Prelude.{slice_get}
+use Rattle.std.proofs.Common.{◌≢◌, ℕ, ◌<◌, Some, slice_get}
 use Rattle.hip_uses.specs.Cells.{texts_of}
 use Rattle.hip_uses.proofs.table.Table.column.Given as goal
 

@@ -1,6 +1,4 @@
-use Rattle.std.proofs.Common.{◌≡◌, ℕ, ◌<◌, get_or, vec_len}
-use Rattle.std.specs.Prelude.{Vec}
-use Rattle.std.specs.declared.alloc.Global.{Global}
+use Rattle.std.proofs.Common.{◌≡◌, ℕ, ◌<◌, get_or, vec_len, Vec, Global}
 use Rattle.hipstr.specs.Handle.{Handle}
 use Rattle.hip_uses.proofs.table.Table.read.Given as goal
 

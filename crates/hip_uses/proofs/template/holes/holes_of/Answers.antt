@@ -1,7 +1,4 @@
-use Rattle.std.proofs.Common.{◌≡◌, ◌∙◌, ◌+◌, ◌++◌, ℕ, List, [], ap, drop, length, refl, subst, sym, arith}
-use Rattle.std.specs.Prelude.{slice_range}
-use Rattle.std.specs.Str.{IsCharBoundary}
-use Rattle.std.proofs.lemmas.List.{append-nil}
+use Rattle.std.proofs.Common.{◌≡◌, ◌∙◌, ◌+◌, ◌++◌, ℕ, List, [], ap, drop, length, refl, subst, sym, arith, slice_range, IsCharBoundary, append-nil}
 use Rattle.std.proofs.lemmas.Str.{IsCharBoundary-start}
 use Rattle.hip_uses.specs.Template.{CutsHole, IsParsed, written}
 use Rattle.hip_uses.specs.declared.template.Hole.{Hole}

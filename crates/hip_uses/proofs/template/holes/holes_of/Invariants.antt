@@ -1,5 +1,4 @@
-use Rattle.std.proofs.Common.{◌≡◌, ◌++◌, ℕ, ◌-◌, List, drop, length}
-use Rattle.std.specs.Str.{IsCharBoundary}
+use Rattle.std.proofs.Common.{◌≡◌, ◌++◌, ℕ, ◌-◌, List, drop, length, IsCharBoundary}
 use Rattle.hip_uses.specs.Template.{IsParsed, written}
 use Rattle.hip_uses.specs.declared.template.Hole.{Hole}
 use Rattle.hip_uses.proofs.template.holes.holes_of.Given as goal

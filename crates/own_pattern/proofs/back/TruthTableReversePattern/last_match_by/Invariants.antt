@@ -1,7 +1,7 @@
 use Rattle.std.proofs.Common.{◌≡◌, ℕ, ◌<◌, ◌≤◌, Some}
 use Rattle.hipstr.specs.Characters.{char_ends}
 use Rattle.own_pattern.specs.Table.{in_table}
-use Rattle.own_pattern.proofs.back.TruthTableReversePattern.last_match.Given as goal
+use Rattle.own_pattern.proofs.back.TruthTableReversePattern.last_match_by.Given as goal
 
 abbrev pub invariant-loop-at : goal.invariant-loop-at
 invariant-loop-at l = record {

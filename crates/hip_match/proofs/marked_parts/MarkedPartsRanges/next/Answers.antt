@@ -1,0 +1,37 @@
+use Rattle.std.proofs.Common.{ℕ, ◌+◌, Option, Some, None, length, subst, arith}
+use Rattle.memchr.specs.Find.{IsFirst, Passes}
+use Rattle.hip_match.specs.Marks.{Ahead}
+use Rattle.hip_match.proofs.GapLemmas.{first_cut, first_part, only_ahead}
+use Rattle.std.proofs.lemmas.Option.{none-some, same_Some}
+use Rattle.hip_match.proofs.marked_parts.MarkedPartsRanges.next.Goals as goal
+use Rattle.hip_match.proofs.marked_parts.MarkedPartsRanges.next.Goals.{in_default-via-in-Some+else-at-self, in_default-via-in_default}
+
+pub returns-in-Some-clause-first : goal.returns-in-Some-clause-first
+returns-in-Some-clause-first g c =
+    let p = g.T.ByteTest.passes c.args.self.now.marks.test in
+    let was = c.requires in
+    let found = subst (λ l. IsFirst (Passes p l) c.args.self.now.from (length l) (Some c.in-Some.at)) c.as_bytes.ensures.value c.in-Some.ensures.found in
+    rw c.if-self.false (first_part p was.1 _ _ _ was.0 c.in-Some.at found c.if-at-self.true)
+
+pub returns-in-Some-clause-ready : goal.returns-in-Some-clause-ready
+returns-in-Some-clause-ready g c =
+    let p = g.T.ByteTest.passes c.args.self.now.marks.test in
+    let was = c.requires in
+    let at = c.in-Some.at in
+    let found = subst (λ l. IsFirst (Passes p l) c.args.self.now.from (length l) (Some at)) c.as_bytes.ensures.value c.in-Some.ensures.found in
+    let ahead = subst (λ l. Ahead p l (at + 1) c.next.new.self.next c.next.new.self.bits) c.as_bytes.ensures.value c.in-Some.ensures.ahead in (
+      record { utf8 = was.0.utf8; start = (first_cut p was.1 _ _ _ was.0 at found).end; end = was.0.end; ordered = omega (arith, c.if-at-self.true) },
+      was.1,
+      λ going. (ahead, (was.2 c.if-self.false).1),
+    )
+
+pub returns-in_default-clause-first : goal.returns-in_default-clause-first
+returns-in_default-clause-first g c =
+    let p = g.T.ByteTest.passes c.args.self.now.marks.test in
+    let was = c.requires in
+    let first : (r : Option ℕ) → IsFirst (Passes p c.as_bytes.result.now) c.args.self.now.from (length c.as_bytes.result.now) r → IsFirst (Passes p c.args.self.now.text.now) c.args.self.now.from (length c.args.self.now.text.now) r =
+    λ r found. subst (λ l. IsFirst (Passes p l) c.args.self.now.from (length l) r) c.as_bytes.ensures.value found in
+    elim c.in_default.branch [
+      | in_default-via-in-Some+else-at-self x ↦ rw c.if-self.false (only_ahead p was.1 _ _ _ was.0 (Some x.in-Some.at) (first (Some x.in-Some.at) x.in-Some.ensures.found) (λ at is. let same = same_Some x.in-Some.at at is in omega (arith, same, x.if-at-self.false)))
+      | in_default-via-in_default x ↦ rw c.if-self.false (only_ahead p was.1 _ _ _ was.0 None (first None x.in_default.ensures.found) (λ at is. absurd (none-some at is)))
+    ]
