@@ -22,9 +22,9 @@
 //! (where sets of characters and texts occur), `Leftmost` and `Rightmost` (the lists of matches), `Pieces` (the parts between matches, and
 //! lists in order), `Runs` (lines, and runs between white space), `Trims` (what is removed from the ends), `Draw` (what a script draws),
 //! `Joined` (pieces put together again), `Answers` (what a closure answers), `AsciiSets` and `MarkedSets` (the characters of a set, and
-//! the bytes with which they begin), `Bits` (which bit is the lowest), `Ready` and `Marks` (what a walk keeps of its places), `Clones` (what its clone keeps) and `Iterators` (what is said of a walk by its type's own words); what they give for
-//! texts as one writes them down stands in `Rows`, and `CharLaws`, `FirstBytes` and `TextLaws` have what holds of the places where
-//! characters and texts occur.
+//! the bytes with which they begin), `Bits` (which bit is the lowest), `Ready` and `Marks` (what a walk keeps of its places), `Clones`
+//! (what its clone keeps) and `Iterators` (what is said of a walk by its type's own words); what they give for texts as one writes them
+//! down stands in `Rows`, and `CharLaws`, `FirstBytes` and `TextLaws` have what holds of the places where characters and texts occur.
 #![tactic(auto)]
 
 pub mod ascii_set;
