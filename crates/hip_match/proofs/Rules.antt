@@ -32,8 +32,6 @@ pub ruleset marked_parts = (IsCharBoundary-end, IsCharBoundary-start)
 
 pub ruleset marked_set = (beyond-new, beyond_it, none_before, none_up_to, of_some, starts_first)
 
-pub ruleset sets = (ascii_end)
-
 pub ruleset split = (InOrder-append, InOrder-le, IsBetween-moved, at_most_to-end, at_most_to-more, at_most_to-one, ended-nil, gaps-append, without_empty_last-kept)
 
 pub ruleset texts = (find_empty, rest_slice, rfind_empty, text_at-no, text_at-yes, text_before-no, text_before-yes, eqb-true, false≢true)

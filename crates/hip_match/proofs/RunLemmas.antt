@@ -77,9 +77,9 @@ module _ (p : ℕ → Bool) (t : List ℕ) (utf8 : IsUtf8 t) where
       (λ lt. record {
         each = (is_run i n start (IsCharBoundary-end t) lt free before (λ s cut lo hi none. omega (arith, cut.end.0)), tt);
         rise = (omega arith, tt);
-        all = λ r run le. inl (run.longest (i, n) (grind (arith, IsCharBoundary-end)) le run.cut.end.0 free);
+        all = λ r run le. inl (run.longest (i, n) (record { start = start; end = IsCharBoundary-end t; ordered = omega arith }) le run.cut.end.0 free);
       })
-      (λ ge. grind arith)
+      (λ ge. record { each = tt; rise = tt; all = λ r run le. omega (arith, run.holds, run.cut.end.0) })
   outcome (m ∷ ms) i start before chain covers =
       let n = length t in
       let span = char_ends-spans p t m.0 m.1 utf8 chain.1 in
@@ -88,10 +88,10 @@ module _ (p : ℕ → Bool) (t : List ℕ) (utf8 : IsUtf8 t) where
       kept (Outcome i) (i, m.0) (gaps m.1 ms n)
       (λ lt. record {
         each = (is_run i m.0 start span.start lt free before (stop_before m.0 m.1 chain.1), rest.each);
-        rise = grind (arith, rise_from);
-        all = λ r run le. ⊎_elim (λ h. inl (run.longest (i, m.0) (grind arith) le h free)) (λ h. inr (rest.all r run h)) (beside m r chain.1 run);
+        rise = (omega arith, rise_from m.0 m.1 _ span.ordered rest.rise);
+        all = λ r run le. ⊎_elim (λ h. inl (run.longest (i, m.0) (record { start = start; end = span.start; ordered = omega arith }) le h free)) (λ h. inr (rest.all r run h)) (beside m r chain.1 run);
       })
-      (λ ge. grind (arith, rise_from, beside))
+      (λ ge. record { each = rest.each; rise = rise_from i m.1 _ (omega (arith, chain.0, span.ordered)) rest.rise; all = λ r run le. ⊎_elim (λ h. absurd (omega (arith, run.holds, h, chain.0))) (λ h. rest.all r run h) (beside m r chain.1 run) })
 
   chained : (ms : List (ℕ × ℕ)) (i : ℕ) → AllOccur (char_ends p t) ms → BeginInOrder i ms → Chain i ms
   chained [] i occur order = tt
@@ -113,7 +113,7 @@ module _ (p : ℕ → Bool) (t : List ℕ) (utf8 : IsUtf8 t) where
   are_runs =
       let n = length t in
       let ms = leftmost (char_ends p t) n in
-      let h = leftmost-is (char_ends p t) n (λ a b is. grind (arith, char_ends-spans p t a b utf8 is)) in
+      let h = leftmost-is (char_ends p t) n (λ a b is. let span = char_ends-spans p t a b utf8 is in (span.ordered, span.end.0)) in
       let out = outcome ms 0 (IsCharBoundary-start t utf8) (λ s cut lo hi none. omega arith) (chained ms 0 h.occur h.in_order)
-      (λ a b is le. grind (arith, within)) in
-      grind arith
+      (λ a b is le. ⊎_elim (λ r. r) (within ms a b h.occur is) (h.no_other a b is le)) in
+      record { each = out.each; in_order = out.rise; all = λ r run. out.all r run (omega arith) }

@@ -53,7 +53,10 @@ module _ (t p : List ℕ) where
     FindsLastNeedle-no_byte none k lo hi h = grind (arith, byte_there k h)
 
     pub FindsLastNeedle-here : (at : ℕ) → NoneAfter (Passes (is_byte (slice_index p sign)) t) 0 (length t) at → sign ≤ at → OccursAt (drop (at - sign) t) p 0 → FindsLastNeedle t p (Some (at - sign))
-    FindsLastNeedle-here at last le here = grind (arith, nat_tests, common_steps, OccursAt-drop, add-zero, byte_there)
+    FindsLastNeedle-here at last le here =
+        let high : at < length t = last.high in
+        let out : OccursAt t p (at - sign) = rw (add-zero (at - sign)) at (OccursAt-drop (at - sign) 0 (omega arith) here) in
+        (record { low = omega arith; high = omega (arith, out.fits); after = λ k lo hi h. last.after (k + sign) (omega arith) (omega (arith, h.fits)) (byte_there k h) }, out)
 
     module _ (at : ℕ) (first : NoneBefore (Passes (is_byte (slice_index p sign)) t) 0 (length t) at) where
       abbrev start : ℕ
@@ -66,7 +69,10 @@ module _ (t p : List ℕ) where
       within_text = grind arith
 
       pub FindsNeedle-here : sign ≤ at → OccursAt (drop start t) p 0 → FindsNeedle t p 0 (Some start)
-      FindsNeedle-here le here = grind (arith, nat_tests, common_steps, OccursAt-drop, add-zero, byte_there)
+      FindsNeedle-here le here =
+          let high : at < length t = first.high in
+          let out : OccursAt t p start = rw (add-zero start) at (OccursAt-drop start 0 (omega arith) here) in
+          (record { low = omega arith; high = omega (arith, out.fits); before = λ k lo hi h. first.before (k + sign) (omega arith) (omega arith) (byte_there k h) }, out)
 
       module _ (apart : sign ≤ at → ¬ OccursAt (drop start t) p 0) where
         early : (k : ℕ) → k < past → ¬ OccursAt t p k
@@ -139,8 +145,8 @@ module _ (t p : List ℕ) where
     find_text-some from k le some h =
         record {
           after = omega arith;
-          occurs = grind (arith, nat_tests, common_steps, occurs-text_ends, OccursAt-drop);
-          first = λ j lo hi. option_cases (text_ends p t j) (λ empty. empty) (λ b is. grind (arith, nat_tests, common_steps, text_ends-occurs j b is, OccursAt-in_drop from j lo, h.0.before (j - from)));
+          occurs = occurs-text_ends (from + k) some (OccursAt-drop from k le h.1);
+          first = λ j lo hi. option_cases (text_ends p t j) (λ empty. empty) (λ b is. absurd (h.0.before (j - from) (omega arith) (omega arith) (OccursAt-in_drop from j lo (text_ends-occurs j b is).0)));
         }
 
     -- an empty text occurs at once
@@ -155,10 +161,10 @@ module _ (t p : List ℕ) where
 
     -- at one place
     pub text_at-yes : (a : ℕ) → IsCharBoundary t a → OccursAt (drop a t) p 0 → text_ends p t a ≡ Some (a + length p)
-    text_at-yes a cut h = grind (arith, nat_tests, common_steps, OccursAt-drop, empty_text, occurs-text_ends)
+    text_at-yes a cut h = grind (arith, add-zero a, OccursAt-drop a 0, empty_text, occurs-text_ends)
 
     pub text_at-no : (a : ℕ) → ¬ OccursAt (drop a t) p 0 → text_ends p t a ≡ None
-    text_at-no a off = grind (arith, nat_tests, common_steps, OccursAt-in_drop, option_cases, text_ends-occurs)
+    text_at-no a off = option_cases (text_ends p t a) (λ empty. empty) (λ b is. grind (arith, OccursAt-in_drop a a, text_ends-occurs a b is))
 
     -- the search from the back
     pub rfind_text-none : (to : ℕ) → to ≤ length t → FindsLastNeedle (take to t) p None → (a b : ℕ) → text_ends p t a ≡ Some b → to < b

@@ -1,5 +1,4 @@
 -- Laws of the characters of a text and of the places where sets of characters occur.
-use Rattle.std.proofs.lemmas.Grind.{common_steps}
 use Rattle.std.specs.Prelude.{◌≡◌, ℕ, ◌+◌, ◌-◌, ◌<◌, ◌≤◌, Bool, true, false, ◌&&◌, None, Some, List, [], ◌∷◌, ◌++◌, length, take, drop, slice_index}
 use Rattle.std.proofs.Common.{sym, ◌∙◌, ap, subst, arith, ⊎_elim, length-append, length-drop, get_or-drop, add-zero, length-take-le, take-append-drop, append_assoc}
 use Rattle.std.proofs.lemmas.Bool.{cond-true, cond-false, cases_Bool, cases_lt, and_parts, and_from, false≢true}
@@ -15,7 +14,7 @@ use Rattle.hip_match.specs.Occurrence.{IsCut, IsOneChar, is_boundary}
 use Rattle.hip_match.specs.Characters.{char_at, first_char, end_if, char_ends}
 
 pub is_boundary-true : (t : List ℕ) (i : ℕ) → IsCharBoundary t i → is_boundary t i ≡ true
-is_boundary-true t i h = grind (arith, nat_tests, common_steps)
+is_boundary-true t i h = let le = h.0 in let lead = h.1 in grind (arith, nat_tests)
 
 pub is_boundary-is : (t : List ℕ) (i : ℕ) → is_boundary t i ≡ true → IsCharBoundary t i
 is_boundary-is t i h = (grind (arith, nat_tests), λ lt high. grind (arith, nat_tests))
@@ -50,7 +49,7 @@ starts_with t i utf8 cut (c ∷ cs) good same lt =
 
 -- a character starts at each boundary before the end
 pub starts_char : (t : List ℕ) (i : ℕ) → IsUtf8 t → IsCharBoundary t i → i < length t → (c : ℕ) × StartsChar t i c
-starts_char t i utf8 cut lt = grind (arith, nat_tests, common_steps, IsUtf8-drop, starts_with)
+starts_char t i utf8 cut lt = let rest = IsUtf8-drop t i utf8 cut in starts_with t i rest cut rest.0 rest.1.0 rest.1.1 lt
 
 -- no character starts at the end
 pub char_at-end : (t : List ℕ) (i : ℕ) → length t ≤ i → char_at t i ≡ None
@@ -110,7 +109,9 @@ char_ends-is p t a b utf8 is =
     (found.0, (x.0, found.1, (and_parts (scalar x.0) (p x.0) both.0).1, sym both.1 ∙ found.2)))
 
 pub char_ends-spans : (p : ℕ → Bool) (t : List ℕ) (a b : ℕ) → IsUtf8 t → char_ends p t a ≡ Some b → IsCut t (a, b)
-char_ends-spans p t a b utf8 is = grind (arith, nat_tests, common_steps, char_ends-is)
+char_ends-spans p t a b utf8 is =
+    let found = char_ends-is p t a b utf8 is in
+    record { start = found.0; end = rw found.1.3 found.1.1.end; ordered = omega (arith, found.1.3) }
 
 pub char_ends-one_char : (p : ℕ → Bool) (t : List ℕ) (a b : ℕ) → IsUtf8 t → char_ends p t a ≡ Some b → IsOneChar t (a, b)
 char_ends-one_char p t a b utf8 is =
@@ -135,7 +136,8 @@ char_ends-yes p t i c starts passes =
     ap (option_and_then (end_if p)) starts.at ∙ cond-true _ _ _ (and_from (scalar c) (p c) starts.scalar passes)
 
 pub char_ends-no : (p : ℕ → Bool) (t : List ℕ) (i c j : ℕ) → char_at t i ≡ Some (c, j) → p c ≡ false → char_ends p t i ≡ None
-char_ends-no p t i c j at fails = grind (arith, nat_tests, common_steps, and_parts, cond-false, false≢true)
+char_ends-no p t i c j at fails =
+    ap (option_and_then (end_if p)) at ∙ ⊎_elim (λ yes. absurd (false≢true (sym fails ∙ (and_parts (scalar c) (p c) yes).1))) (λ none. cond-false _ _ _ none) (cases_Bool (scalar c && p c))
 
 pub char_ends-none : (p : ℕ → Bool) (t : List ℕ) (i : ℕ) → char_at t i ≡ None → char_ends p t i ≡ None
 char_ends-none p t i at = ap (option_and_then (end_if p)) at

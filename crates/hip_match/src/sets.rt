@@ -1,6 +1,4 @@
 //! The patterns that are characters: one of them, or any of some.
-#![tactic(auto, using(crate::proofs::Rules::sets))]
-
 ghost use Rattle.std.specs.Prelude.{◌≡◌, ◌==◌, ℕ, IfSome};
 ghost use Rattle.std.specs.List.{list_any};
 ghost use Rattle.hip_match.specs.AsciiSets.{in_set};
@@ -43,6 +41,7 @@ impl MarkedSet for char {
         }
     }
 
+    #[tactic(auto, using(crate::specs::FirstBytes::ascii_end))]
     #[inline(always)]
     fn end_at_mark(&self, _test: &OneByte, _text: &str, at: usize) -> Option<usize> {
         Some(at + 1)
@@ -174,6 +173,7 @@ impl<'a> MarkedSet for &'a [char] {
         ascii_set(*self)
     }
 
+    #[tactic(auto, using(crate::specs::FirstBytes::ascii_end))]
     #[inline(always)]
     fn end_at_mark(&self, _test: &AsciiSet, _text: &str, at: usize) -> Option<usize> {
         Some(at + 1)

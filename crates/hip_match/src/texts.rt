@@ -342,6 +342,11 @@ impl<'p> Pattern for &'p str {
         }
     }
 
+    #[inline]
+    fn next_match(&self, text: &str, from: usize) -> Option<(usize, usize)> {
+        find_text(text, *self, &None, from)
+    }
+
     #[inline(always)]
     fn next_match_by(
         &self,
@@ -373,6 +378,11 @@ impl<'p> ReversePattern for &'p str {
             finder: None,
             reverse_finder: reverse_finder_of(*self),
         }
+    }
+
+    #[inline]
+    fn last_match(&self, text: &str, to: usize) -> Option<(usize, usize)> {
+        rfind_text(text, *self, &None, to)
     }
 
     #[inline]
@@ -410,6 +420,11 @@ impl<'p, 'q> Pattern for &'q &'p str {
         }
     }
 
+    #[inline]
+    fn next_match(&self, text: &str, from: usize) -> Option<(usize, usize)> {
+        find_text(text, **self, &None, from)
+    }
+
     #[inline(always)]
     fn next_match_by(
         &self,
@@ -441,6 +456,11 @@ impl<'p, 'q> ReversePattern for &'q &'p str {
             finder: None,
             reverse_finder: reverse_finder_of(**self),
         }
+    }
+
+    #[inline]
+    fn last_match(&self, text: &str, to: usize) -> Option<(usize, usize)> {
+        rfind_text(text, **self, &None, to)
     }
 
     #[inline]
@@ -478,6 +498,11 @@ impl<'p> Pattern for &'p String {
         }
     }
 
+    #[inline]
+    fn next_match(&self, text: &str, from: usize) -> Option<(usize, usize)> {
+        find_text(text, self.as_str(), &None, from)
+    }
+
     #[inline(always)]
     fn next_match_by(
         &self,
@@ -509,6 +534,11 @@ impl<'p> ReversePattern for &'p String {
             finder: None,
             reverse_finder: reverse_finder_of(self.as_str()),
         }
+    }
+
+    #[inline]
+    fn last_match(&self, text: &str, to: usize) -> Option<(usize, usize)> {
+        rfind_text(text, self.as_str(), &None, to)
     }
 
     #[inline]

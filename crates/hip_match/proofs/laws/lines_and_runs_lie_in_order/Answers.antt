@@ -1,7 +1,7 @@
-use Rattle.std.proofs.lemmas.Bool.Decides.{nat_tests}
-use Rattle.std.proofs.lemmas.Grind.{common_steps}
-use Rattle.std.proofs.Common.{ℕ, Bool, List, length, arith, IsUtf8}
+use Rattle.std.proofs.Common.{ℕ, Bool, List, length, arith}
+use Rattle.std.specs.Prelude.{◌==◌}
 use Rattle.std.specs.Char.{is_whitespace, is_ascii_whitespace}
+use Rattle.std.specs.Str.{IsUtf8}
 use Rattle.hip_match.specs.CharLaws.{char_ends-spans}
 use Rattle.hip_match.specs.Characters.{char_ends}
 use Rattle.hip_match.specs.Leftmost.{leftmost}
@@ -19,7 +19,7 @@ module _ (p : ℕ → Bool) (t : List ℕ) (utf8 : IsUtf8 t) where
   runs = nonempty-InOrder _ 0 _ (gaps-InOrder _ 0 _ places)
 
 pub returns-clause-lines : goal.returns-clause-lines
-returns-clause-lines c = grind (arith, nat_tests, common_steps, lines-InOrder, ended-InOrder, places)
+returns-clause-lines c = lines-InOrder _ _ 0 _ (ended-InOrder _ 0 _ (places (λ d. d == 10) c.args.text.now c.utf8.text))
 
 pub returns-clause-unicode : goal.returns-clause-unicode
 returns-clause-unicode c = runs is_whitespace c.args.text.now c.utf8.text

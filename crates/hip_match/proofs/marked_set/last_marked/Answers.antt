@@ -1,8 +1,8 @@
-use Rattle.std.proofs.Common.{◌≡◌, ℕ, List, Some, subst, sym}
+use Rattle.std.proofs.Common.{◌≡◌, ◌∙◌, ℕ, List, Some, subst, sym, arith}
 use Rattle.memchr.specs.Find.{IsLast, Passes}
 use Rattle.hip_match.specs.CharLaws.{char_ends-one_char}
 use Rattle.hip_match.specs.Marks.{Behind}
-use Rattle.hip_match.proofs.MarkedSetLemmas.{ends_last}
+use Rattle.hip_match.proofs.MarkedSetLemmas.{beyond_it, ends_last}
 use Rattle.hip_match.proofs.marked_set.last_marked.Goals as goal
 
 pub returns-in-Some-end_at_mark-clause-found : goal.returns-in-Some-end_at_mark-clause-found
@@ -20,3 +20,17 @@ returns-in-Some-end_at_mark-clause-back g c k goes =
     let same : k ≡ at = goes.1 one.holds in
     let behind = subst (λ (l : List ℕ). Behind (g.S.Test.ByteTest.passes c.loop-at.marks.test) l at c.last.new.self.start c.last.new.self.bits) c.as_bytes-bytes.ensures.value c.in-Some-last.ensures.behind in
     (c.loop-at.invariant.0, rw same behind)
+
+pub loop-at-preserved : goal.loop-at-preserved
+loop-at-preserved g c =
+    let inv = c.loop-at.invariant in
+    let at = c.in-Some-last.at in
+    let passes = g.S.Test.ByteTest.passes c.loop-at.marks.test in
+    let same = c.as_bytes-bytes.ensures.value in
+    let found = subst (λ (l : List ℕ). IsLast (Passes passes l) 0 c.loop-at.past (Some at)) same c.in-Some-last.ensures.found in
+    let behind = subst (λ (l : List ℕ). Behind passes l at c.last.new.self.start c.last.new.self.bits) same c.in-Some-last.ensures.behind in
+    let past = beyond_it _ _ (g.met.S.MarkedSet.first_bytes _ _ inv.0) c.args.text.now c.utf8.text c.args.to c.loop-at.past inv.3 at found (sym c.end_at_mark.ensures ∙ c.in_default-end_at_mark.is) in
+    (inv.0, behind, omega (arith, inv.2, found.0.high), past, inv.4)
+
+pub returns-in-Some-end_at_mark-clause-front : goal.returns-in-Some-end_at_mark-clause-front
+returns-in-Some-end_at_mark-clause-front g c from ready = c.loop-at.invariant.4 from (rw c.in-Some.is at ready)

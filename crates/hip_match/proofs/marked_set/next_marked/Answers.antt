@@ -1,7 +1,7 @@
-use Rattle.std.proofs.Common.{◌+◌, ℕ, List, None, length, subst, sym}
+use Rattle.std.proofs.Common.{◌+◌, ◌∙◌, ℕ, List, Some, None, length, subst, sym, arith}
 use Rattle.memchr.specs.Find.{IsFirst, Passes}
 use Rattle.hip_match.specs.Marks.{Ahead}
-use Rattle.hip_match.proofs.MarkedSetLemmas.{none_left, past_char}
+use Rattle.hip_match.proofs.MarkedSetLemmas.{none_left, none_up_to, past_char}
 use Rattle.hip_match.proofs.marked_set.next_marked.Goals as goal
 
 pub returns-in-Some-end_at_mark-clause-front : goal.returns-in-Some-end_at_mark-clause-front
@@ -17,3 +17,17 @@ returns-clause-found g c =
     let inv = c.loop-at.invariant in
     none_left _ _ (g.met.S.MarkedSet.first_bytes _ _ inv.0) c.args.text.now c.utf8.text c.args.from c.loop-at.past inv.3
     (subst (λ (l : List ℕ). IsFirst (Passes (g.S.Test.ByteTest.passes c.loop-at.marks.test) l) c.loop-at.past (length l) None) c.as_bytes-bytes.ensures.value c.in_default-next.ensures.found)
+
+pub loop-at-preserved : goal.loop-at-preserved
+loop-at-preserved g c =
+    let inv = c.loop-at.invariant in
+    let at = c.in-Some-next.at in
+    let passes = g.S.Test.ByteTest.passes c.loop-at.marks.test in
+    let same = c.as_bytes-bytes.ensures.value in
+    let found = subst (λ (l : List ℕ). IsFirst (Passes passes l) c.loop-at.past (length l) (Some at)) same c.in-Some-next.ensures.found in
+    let ahead = subst (λ (l : List ℕ). Ahead passes l (at + 1) c.next.new.self.next c.next.new.self.bits) same c.in-Some-next.ensures.ahead in
+    let free = none_up_to _ _ (g.met.S.MarkedSet.first_bytes _ _ inv.0) c.args.text.now c.utf8.text c.args.from c.loop-at.past at inv.3 found (sym c.end_at_mark.ensures ∙ c.in_default-end_at_mark.is) in
+    (inv.0, ahead, omega (arith, inv.2, found.0.low), free, inv.4)
+
+pub returns-in-Some-end_at_mark-clause-back : goal.returns-in-Some-end_at_mark-clause-back
+returns-in-Some-end_at_mark-clause-back g c to ready = c.loop-at.invariant.4 to (rw c.in-Some.is at ready)

@@ -1,5 +1,3 @@
-use Rattle.std.proofs.lemmas.Bool.Decides.{nat_tests}
-use Rattle.std.proofs.lemmas.Grind.{common_steps}
 use Rattle.std.proofs.Common.{true≢false, sym, ◌∙◌, arith}
 use Rattle.hip_match.proofs.TextLemmas.{rest_slice, FindsNeedle-no_byte, FindsNeedle-here, FindsNeedle-none_behind, FindsNeedle-behind}
 use Rattle.hip_match.proofs.texts.near_place.Goals.{else-at-sign-via-then-at-sign+else-is_prefix, else-at-sign-via-else-at-sign}
@@ -9,7 +7,9 @@ pub returns-in_err-at : goal.returns-in_err-at
 returns-in_err-at c = rw c.from_residual.ensures (FindsNeedle-no_byte c.args.hay.now c.args.needle.now c.args.sign c.requires.within c.in_err-at.ensures)
 
 pub returns-then-is_prefix : goal.returns-then-is_prefix
-returns-then-is_prefix c = grind (arith, nat_tests, common_steps, FindsNeedle-here, rest_slice)
+returns-then-is_prefix c =
+    FindsNeedle-here c.args.hay.now c.args.needle.now c.args.sign c.requires.within c.in_ok-at.at c.in_ok-at.ensures.0 c.if-at-sign.true
+    (rw rest_slice at (c.is_prefix.ensures.0 c.if-is_prefix.true))
 
 pub returns-in_err-place_by : goal.returns-in_err-place_by
 returns-in_err-place_by c =

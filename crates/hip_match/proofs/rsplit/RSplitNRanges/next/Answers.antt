@@ -1,5 +1,3 @@
-use Rattle.std.proofs.lemmas.Bool.Decides.{nat_tests}
-use Rattle.std.proofs.lemmas.Grind.{common_steps}
 use Rattle.std.proofs.Common.{arith}
 use Rattle.hip_match.proofs.PiecesLemmas.{at_most_from-one, at_most_from-end, at_most_from-more, InOrderBack-le}
 use Rattle.hip_match.proofs.rsplit.RSplitNRanges.next.Goals as goal
@@ -8,10 +6,10 @@ pub returns-then-self-eq1-clause-first : goal.returns-then-self-eq1-clause-first
 returns-then-self-eq1-clause-first g c = at_most_from-one _ _ _ _ (omega arith) (omega arith)
 
 pub returns-then-self-eq1-clause-cut : goal.returns-then-self-eq1-clause-cut
-returns-then-self-eq1-clause-cut g c = grind (arith, nat_tests, common_steps, InOrderBack-le)
+returns-then-self-eq1-clause-cut g c = record { start = c.requires.1.start; end = c.requires.1.end; ordered = InOrderBack-le _ _ _ c.requires.1.in_order }
 
 pub returns-in-Some-clause-first : goal.returns-in-Some-clause-first
 returns-in-Some-clause-first g c = at_most_from-more _ _ _ (c.in-Some.start, c.in-Some.end) _ _ (omega arith) c.in-Some.ensures.first
 
 pub returns-in-None-clause-first : goal.returns-in-None-clause-first
-returns-in-None-clause-first g c = grind (arith, nat_tests, common_steps, at_most_from-end)
+returns-in-None-clause-first g c = at_most_from-end _ _ _ _ (omega arith) c.in-None.ensures.first.0
