@@ -30,15 +30,15 @@ woven-at values [] i hole low here = absurd (omega arith)
 woven-at values (first ∷ holes) i hole low here = grind (arith, woven-at values holes (i - 1) hole)
 
 -- as many pieces as two a hole
-pub pieces-count : {B S P : Type 0} (values : List (Handle × Handle)) (holes : List (Hole B S P)) (pieces : List (Bor (List ℕ))) → all_shown pieces ≡ woven values holes → length pieces ≡ 2 * length holes
-pieces-count values holes pieces are = grind (arith, length-map, length-woven)
+pub pieces_count : {B S P : Type 0} (values : List (Handle × Handle)) (holes : List (Hole B S P)) (pieces : List (Bor (List ℕ))) → all_shown pieces ≡ woven values holes → length pieces ≡ 2 * length holes
+pieces_count values holes pieces are = grind (arith, length-map, length-woven)
 
 -- the value of an earlier hole of this name
 pub value-again : {B S P : Type 0} (values : List (Handle × Handle)) (holes : List (Hole B S P)) (i : ℕ) (hole : Hole B S P) (pieces : List (Bor (List ℕ))) (d : Bor (List ℕ)) (name : List ℕ)
     → i < length holes → hole ≡ get_or holes i hole → all_shown pieces ≡ woven values holes → AllKnown values holes → hole.name.items ≡ name
     → Some (get_or pieces (2 * i + 1) d).now ≡ option_map text_bytes (value_of values name)
 value-again values holes i hole pieces d name low here all known same =
-    grind (arith, pieces-count values holes pieces, get_or-map (λ (text : Bor (List ℕ)). text.now) pieces (2 * i + 1) d [], woven-at values holes i hole, known i hole)
+    grind (arith, pieces_count values holes pieces, get_or-map (λ (text : Bor (List ℕ)). text.now) pieces (2 * i + 1) d [], woven-at values holes i hole, known i hole)
 
 -- a name that has a value is known, and one that has none isn't
 pub some-known : (value : List ℕ) (o : Option Handle) → Some value ≡ option_map text_bytes o → IsSome o
@@ -97,5 +97,3 @@ pub parsed-more : {B S P : Type 0} (template rest : List ℕ) (holes more : List
     → CutsHole rest hole after → more ≡ holes ++ hole ∷ []
     → (later : List (Hole B S P)) (last : List ℕ) → IsParsed after later last → IsParsed template (more ++ later) last
 parsed-more template rest holes more hole after so_far cut pushed later last parsed = grind (arith, append_assoc)
-
-pub ruleset fills = (common_steps, pieces-count, value-again, pieces-joined)

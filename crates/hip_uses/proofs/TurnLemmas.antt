@@ -152,18 +152,6 @@ module _ (t : List ℕ) (from upto m : ℕ) (h : TurnsAhead t from upto m) where
               subst (Tells t k) (sym (others (k + 63 - upto) apart)) (h.left k (omega arith) hi ge);
         }
 
-pub ahead-new : (t : List ℕ) → TurnsAhead t 0 0 0
-ahead-new t = record {
-  within = omega arith;
-  inside = λ some. absurd (omega arith);
-  full = λ some. absurd (omega arith);
-  reached = λ room. omega arith;
-  few = λ j high. bit_at-zero j;
-  between = λ k lo hi. absurd (omega arith);
-  taken = λ j low. bit_at-zero j;
-  left = λ k lo hi. absurd (omega arith);
-}
-
 -- where no turn lies, all bytes are of one class
 pub one-class : (t : List ℕ) (from k : ℕ) → from ≤ k → NoTurn t from k → class_of (get_or t k 0) ≡ class_of (get_or t from 0)
 one-class t from zero le none = let same : zero ≡ from = omega arith in ap (λ i. class_of (get_or t i 0)) same

@@ -1,6 +1,4 @@
 //! Templates that are filled.
-#![tactic(auto, using(crate::proofs::Templates::fills))]
-
 ghost use Rattle.std.specs.Prelude.{◌≡◌, ◌++◌, IfErr, IfOk};
 ghost use Rattle.std.specs.Option.{option_map};
 ghost use Rattle.hip_uses.specs.Number.{text_bytes};
@@ -25,6 +23,7 @@ fn unknown<'b, B: Backend>(alloc: Global, name: &HipStr<'b, B>) -> TemplateFault
 }
 
 /// The value of a name: that of the hole at `place` where that is an earlier one of the name, else the one that is looked up.
+#[tactic(auto, using(crate::proofs::Templates::pieces_count))]
 fn value_of<'v, 'b, B: Backend, S: BuildHasher>(
     values: &'v Values<'b, B, S>,
     name: &HipStr<'b, B>,
