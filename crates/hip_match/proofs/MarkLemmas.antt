@@ -33,8 +33,8 @@ module _ (test : ℕ → Bool) (t : List ℕ) where
       )
 
   -- a search of the rest finds the first place from there on
-  pub first-behind : (from : ℕ) → from ≤ length t → (r : Option ℕ) → IsFirstByte test (take (length t - from) (drop from t)) r → IsFirst (Passes test t) from (length t) (option_map (λ i. from + i) r)
-  first-behind from le r found = grind (arith, nat_tests, common_steps, first-of-rest, length-drop, take_all)
+  pub first_behind : (from : ℕ) → from ≤ length t → (r : Option ℕ) → IsFirstByte test (take (length t - from) (drop from t)) r → IsFirst (Passes test t) from (length t) (option_map (λ i. from + i) r)
+  first_behind from le r found = grind (arith, nat_tests, common_steps, first-of-rest, length-drop, take_all)
 
   -- ---- one number
 

@@ -1,6 +1,4 @@
 -- Sets of characters that are found by the bytes with which they begin.
-use Rattle.std.proofs.lemmas.Bool.Decides.{nat_tests}
-use Rattle.std.proofs.lemmas.Grind.{common_steps}
 use Rattle.std.proofs.Common.{◌≡◌, ℕ, ◌+◌, ◌<◌, ◌≤◌, Bool, List, Option, Some, None, length, subst, sym, ap, ◌∙◌, arith, ⊎_elim, IfSome, slice_index, IsUtf8, IsCharBoundary}
 use Rattle.std.proofs.lemmas.Bool.{cases_lt}
 use Rattle.std.proofs.lemmas.Option.{none-some, same_Some}
@@ -33,7 +31,11 @@ module _ (belongs passes : ℕ → Bool) (first : AreFirstBytes belongs passes) 
 
   pub starts_first : (from past a b : ℕ) → from ≤ past → NoneStarts (char_ends belongs t) from past → IsFirst (Passes passes t) past (length t) (Some a) → char_ends belongs t a ≡ Some b
       → StartsFirst (char_ends belongs t) from (a, b)
-  starts_first from past a b le none found is = grind (arith, nat_tests, common_steps, no_start)
+  starts_first from past a b le none found is = record {
+    after = omega (arith, found.0.low);
+    occurs = is;
+    first = λ k lo hi. ⊎_elim (λ (lt : k < past). none k lo lt) (λ (ge : past ≤ k). no_start past a found.0.before k ge hi) (cases_lt k past);
+  }
 
   pub none_up_to : (from past a : ℕ) → NoneStarts (char_ends belongs t) from past → IsFirst (Passes passes t) past (length t) (Some a) → char_ends belongs t a ≡ None → NoneStarts (char_ends belongs t) from (a + 1)
   none_up_to from past a none found here =

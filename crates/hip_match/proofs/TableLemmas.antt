@@ -23,8 +23,8 @@ column-high h ge lt = grind (arith, agree_below_at)
 one_or_none : (b p : ℕ) → b < 2 → 0 < p → not (b * p == 0) ≡ (b == 1)
 one_or_none b p two some = grind arith
 
-pub nibbles-ascii : (rows : List ℕ) (c : ℕ) → c < 256 → has_nibbles rows ASCII_COLUMNS c ≡ in_rows rows c
-nibbles-ascii rows c fits =
+pub nibbles_ascii : (rows : List ℕ) (c : ℕ) → c < 256 → has_nibbles rows ASCII_COLUMNS c ≡ in_rows rows c
+nibbles_ascii rows c fits =
     let h = c / 16 in
     let row = slice_index rows (c % 16) in
     let found : has_nibbles rows ASCII_COLUMNS c ≡ not (bit_and row (slice_index ASCII_COLUMNS h) == 0) =

@@ -1,5 +1,4 @@
 //! Sets of characters of ASCII.
-#![tactic(auto, using(crate::proofs::Rules::ascii_set))]
 
 ghost use Rattle.std.specs.Prelude.{IfSome, ◌≡◌, ◌==◌, ◌+◌, ◌<◌, ◌≤◌, ◌&&◌, ◌||◌, ℕ, false, not, length, slice_index, if◌then◌else◌};
 ghost use Rattle.std.specs.Int.{bit_at};
@@ -68,6 +67,7 @@ impl AsciiSet {
     }
 
     /// These characters and one more.
+    #[tactic(auto, using(crate::proofs::TableLemmas::one_more))]
     #[inline]
     pub fn with(self, byte: u8) -> Self
         requires { byte < 128 }
@@ -79,6 +79,7 @@ impl AsciiSet {
     }
 
     /// The characters of both.
+    #[tactic(auto, using(crate::proofs::TableLemmas::joined))]
     #[inline]
     pub fn union(self, other: Self) -> Self
         ensures { (c : ℕ) → in_set result c ≡ (in_set self c || in_set other c) }
@@ -90,6 +91,7 @@ impl AsciiSet {
     }
 
     /// The other characters of ASCII.
+    #[tactic(auto, using(crate::proofs::TableLemmas::others))]
     #[inline]
     pub fn complement(self) -> Self
         ensures { (c : ℕ) → in_set result c ≡ (is_ascii c && not (in_set self c)) }
@@ -99,9 +101,7 @@ impl AsciiSet {
             rows: rows.to_array(),
         }
     }
-}
 
-impl AsciiSet {
     /// Which of the 64 bytes from `at` on are characters of the set, as a mask whose lowest bit is the first byte's: for scanners of users.
     #[inline(always)]
     pub fn marks(self, bytes: &[u8], at: usize) -> u64
@@ -116,11 +116,7 @@ impl AsciiSet {
 impl ByteTest for AsciiSet {
     ghost passes = { in_set };
 
-    #[inline(always)]
-    fn has(&self, byte: u8) -> bool {
-        has_nibbles(&self.rows, &ASCII_COLUMNS, byte)
-    }
-
+    #[tactic(auto, using(crate::proofs::TableLemmas::nibbles_ascii, crate::proofs::MarkLemmas::alike))]
     #[inline(always)]
     fn lanes(&self, bytes: &[u8], at: usize) -> u64 {
         nibble_lanes(&self.rows, &ASCII_COLUMNS, bytes, at)
@@ -130,9 +126,10 @@ impl ByteTest for AsciiSet {
 impl CharSet for AsciiSet {
     ghost belongs = { in_set };
 
+    #[tactic(auto, using(crate::proofs::TableLemmas::nibbles_ascii))]
     #[inline]
     fn has(&self, c: char) -> bool {
-        c.is_ascii() && ByteTest::has(self, c as u8)
+        c.is_ascii() && has_nibbles(&self.rows, &ASCII_COLUMNS, c as u8)
     }
 }
 
@@ -148,6 +145,7 @@ impl MarkedSet for AsciiSet {
         Some(*self)
     }
 
+    #[tactic(auto, using(crate::specs::FirstBytes::ascii_end))]
     #[inline(always)]
     fn end_at_mark(&self, _test: &AsciiSet, _text: &str, at: usize) -> Option<usize> {
         Some(at + 1)

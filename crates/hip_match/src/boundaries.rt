@@ -1,5 +1,4 @@
 //! The boundaries next to a place.
-#![tactic(auto, using(crate::proofs::Rules::boundaries))]
 
 ghost use Rattle.std.specs.Prelude.{◌<◌, ◌≤◌, length};
 ghost use Rattle.hip_match.specs.Ready.{IsNextBoundary, IsPreviousBoundary};
@@ -20,6 +19,7 @@ pub(crate) fn boundary_after(text: &str, at: usize) -> usize
 }
 
 // The last boundary before `at`.
+#[tactic(auto, using(crate::proofs::Rules::boundaries))]
 #[inline]
 pub(crate) fn boundary_before(text: &str, at: usize) -> usize
     requires within { at ≤ length text.now }

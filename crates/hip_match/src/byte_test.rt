@@ -1,5 +1,4 @@
 //! Tests of a byte, one by one and sixteen at a time.
-#![tactic(auto, using(crate::proofs::Rules::byte_test))]
 
 ghost use Rattle.std.specs.Prelude.{◌≡◌, ◌==◌, ◌+◌, ◌≤◌, ℕ, Bool, length, IfSome};
 ghost use Rattle.memchr.specs.Find.{IsFirst, IsLast, Passes};
@@ -14,34 +13,16 @@ pub trait ByteTest: Copy {
     /// The bytes that pass.
     ghost passes: { Self → ℕ → Bool };
 
-    /// Whether a byte passes.
-    fn has(&self, byte: u8) -> bool
-        ensures { result ≡ passes self.now byte };
-
     /// Which of the sixteen bytes from `at` on pass, as a mask whose lowest bit is the first byte's.
     fn lanes(&self, bytes: &[u8], at: usize) -> u64
         requires { at + 16 ≤ length bytes.now }
         ensures { AreMarks (passes self.now) bytes.now at (at + 16) (at + 64) result };
 
-    /// The first byte at or after `from` that passes, by a search of the test's own for bytes that are far, where it has one.
+    /// The only byte that passes, if the test is of one byte. A search for it passes long stretches.
     #[inline(always)]
-    fn far_first(&self, bytes: &[u8], from: usize) -> Option<Option<usize>>
-        requires { from ≤ length bytes.now }
-        ensures { IfSome result (IsFirst (Passes (passes self.now) bytes.now) from (length bytes.now)) }
+    fn only(&self) -> Option<u8>
+        ensures { IfSome result (λ byte. passes self.now ≡ (λ b. b == byte)) }
     {
-        let _ = bytes;
-        let _ = from;
-        None
-    }
-
-    /// Like `far_first`, but the last byte before `to`.
-    #[inline(always)]
-    fn far_last(&self, bytes: &[u8], to: usize) -> Option<Option<usize>>
-        requires { to ≤ length bytes.now }
-        ensures { IfSome result (IsLast (Passes (passes self.now) bytes.now) 0 to) }
-    {
-        let _ = bytes;
-        let _ = to;
         None
     }
 }
@@ -54,11 +35,6 @@ impl ByteTest for OneByte {
     ghost passes = { λ s byte. byte == s.0 };
 
     #[inline(always)]
-    fn has(&self, byte: u8) -> bool {
-        byte == self.0
-    }
-
-    #[inline(always)]
     fn lanes(&self, bytes: &[u8], at: usize) -> u64 {
         u8x16::from_slice(&bytes[at..])
             .simd_eq(u8x16::splat(self.0))
@@ -66,19 +42,15 @@ impl ByteTest for OneByte {
     }
 
     #[inline(always)]
-    fn far_first(&self, bytes: &[u8], from: usize) -> Option<Option<usize>> {
-        Some(byte_from(self.0, bytes, from))
-    }
-
-    #[inline(always)]
-    fn far_last(&self, bytes: &[u8], to: usize) -> Option<Option<usize>> {
-        Some(byte_before(self.0, bytes, to))
+    fn only(&self) -> Option<u8> {
+        Some(self.0)
     }
 }
 
 // The first place of a byte at or after `from`.
+#[tactic(auto, using(crate::proofs::MarkLemmas::first_behind))]
 #[inline(never)]
-fn byte_from(byte: u8, bytes: &[u8], from: usize) -> Option<usize>
+pub(crate) fn byte_from(byte: u8, bytes: &[u8], from: usize) -> Option<usize>
     requires { from ≤ length bytes.now }
     ensures { IsFirst (Passes (λ b. b == byte) bytes.now) from (length bytes.now) result }
 {
@@ -87,7 +59,7 @@ fn byte_from(byte: u8, bytes: &[u8], from: usize) -> Option<usize>
 
 // The last place of a byte before `to`.
 #[inline(never)]
-fn byte_before(byte: u8, bytes: &[u8], to: usize) -> Option<usize>
+pub(crate) fn byte_before(byte: u8, bytes: &[u8], to: usize) -> Option<usize>
     requires { to ≤ length bytes.now }
     ensures { IsLast (Passes (λ b. b == byte) bytes.now) 0 to result }
 {
@@ -128,11 +100,6 @@ pub struct SpaceLeads;
 
 impl ByteTest for SpaceLeads {
     ghost passes = { λ _. has_nibbles SPACE_ROWS SPACE_COLUMNS };
-
-    #[inline(always)]
-    fn has(&self, byte: u8) -> bool {
-        has_nibbles(&SPACE_ROWS, &SPACE_COLUMNS, byte)
-    }
 
     #[inline(always)]
     fn lanes(&self, bytes: &[u8], at: usize) -> u64 {

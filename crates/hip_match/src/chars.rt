@@ -1,5 +1,4 @@
 //! The characters of a text, by position, and sets of characters.
-#![tactic(auto, using(crate::proofs::Rules::chars))]
 
 ghost use Rattle.std.specs.Prelude.{◌≡◌, ◌-◌, ◌<◌, ◌≤◌, ℕ, Bool, Some, MatchOption, length, slice_index};
 ghost use Rattle.std.specs.Str.{IsCharBoundary};
@@ -7,6 +6,7 @@ ghost use Rattle.hip_match.specs.Occurrence.{IsNextMatch, IsLastMatch, start_of}
 ghost use Rattle.hip_match.specs.Characters.{char_at, char_ends, IsCharBefore};
 
 // The number of the character of two to four bytes that starts at `at`, and where it ends.
+#[tactic(auto, using(crate::proofs::Rules::wide_code))]
 #[inline]
 fn wide_code(text: &str, at: usize) -> (u32, usize)
     requires within { at < length text.now }
@@ -43,21 +43,8 @@ fn wide_char_from(text: &str, at: usize) -> (char, usize)
     (unsafe { char::from_u32_unchecked(code) }, end)
 }
 
-// The character that starts at `at`, and where it ends, where the text has not ended.
-#[inline]
-fn char_within(text: &str, at: usize) -> (char, usize)
-    requires within { at < length text.now }
-    requires boundary { IsCharBoundary text.now at }
-    ensures { char_at text.now at ≡ Some result }
-{
-    let first = text.as_bytes()[at];
-    if first < 0x80 {
-        return (first as char, at + 1);
-    }
-    wide_char_from(text, at)
-}
-
 // The character that starts at `at`, and where it ends.
+#[tactic(auto, using(crate::proofs::Rules::chars))]
 #[inline]
 pub(crate) fn char_from(text: &str, at: usize) -> Option<(char, usize)>
     requires { IsCharBoundary text.now at }
@@ -66,11 +53,16 @@ pub(crate) fn char_from(text: &str, at: usize) -> Option<(char, usize)>
     if at == text.len() {
         return None;
     }
-    Some(char_within(text, at))
+    let first = text.as_bytes()[at];
+    if first < 0x80 {
+        return Some((first as char, at + 1));
+    }
+    Some(wide_char_from(text, at))
 }
 
 // The number of the character of two to four bytes that ends at `to`, and where it starts. Its first byte is the last that isn't below
 // 0xC0. What the bytes' marks add to the number is taken off at once.
+#[tactic(auto, using(crate::proofs::Rules::wide_code_before))]
 #[inline]
 fn wide_code_before(text: &str, to: usize) -> (u32, usize)
     requires some { 0 < to }
@@ -108,6 +100,7 @@ fn wide_char_before(text: &str, to: usize) -> (char, usize)
 }
 
 // The character that ends at `to`, and where it starts.
+#[tactic(auto, using(crate::proofs::Rules::chars))]
 #[inline]
 pub(crate) fn char_before(text: &str, to: usize) -> Option<(char, usize)>
     requires { IsCharBoundary text.now to }
@@ -193,6 +186,7 @@ pub(crate) fn last_of<S: CharSet>(set: &S, text: &str, to: usize) -> Option<(usi
 }
 
 // Where the character before `to` starts, if it belongs.
+#[tactic(auto, using(crate::proofs::Rules::chars))]
 #[inline]
 pub(crate) fn start_before<S: CharSet>(set: &S, text: &str, to: usize) -> Option<usize>
     requires can { S.can_test set.now }

@@ -1,20 +1,19 @@
 //! The parts of a text between characters of ASCII that pass a test.
-#![tactic(auto, using(crate::proofs::Rules::marked_parts))]
 
 ghost use Rattle.std.specs.Prelude.{◌≡◌, ◌==◌, ◌<◌, ◌≤◌, ℕ, [], false, length, if◌then◌else◌};
 ghost use Rattle.hip_match.specs.Characters.{char_ends};
-ghost use Rattle.hip_match.specs.Iterators.{Gives};
+ghost use Rattle.hip_match.specs.Iterators.{Gives, GivesAlike};
 ghost use Rattle.hip_match.specs.Marks.{Ahead, Behind, marked_parts};
 ghost use Rattle.hip_match.specs.Pieces.{split};
 ghost use Rattle.hip_match.specs.Ready.{IsWindow};
 
-use crate::ascii_set::AsciiSet;
 use crate::byte_test::{ByteTest, OneByte};
 use crate::marks::Marks;
 use crate::ranges::{CloneRanges, Ranges, RangesBack};
+use std::alloc::AllocError;
 
 /// The parts of a text between the characters of ASCII that pass a test. [`Split`](crate::split::Split) gives them too, in more steps.
-#[derive(Clone, Drop)]
+#[derive(Drop)]
 pub struct MarkedParts<'h, T: ByteTest> {
     text: &'h str,
     from: usize,
@@ -25,6 +24,7 @@ pub struct MarkedParts<'h, T: ByteTest> {
 
 impl<'h, T: ByteTest> MarkedParts<'h, T> {
     // The parts of `text` between the characters that pass `test`.
+    #[tactic(auto, using(crate::proofs::Rules::marked_parts))]
     #[inline]
     pub(crate) fn by(text: &'h str, test: T) -> Self
         requires { (c : ℕ) → 128 ≤ c → T.passes test c ≡ false }
@@ -93,10 +93,24 @@ impl<'h, T: ByteTest> RangesBack for MarkedParts<'h, T> {
     }
 }
 
-impl<'h> CloneRanges for MarkedParts<'h, AsciiSet> {
-    ghost use Rattle.std.proofs.Common.{rules};
+impl<'h, T: ByteTest> Clone for MarkedParts<'h, T> {
+    ghost is_clone = { GivesAlike ⟦<MarkedParts<'h, T> as Ranges>⟧ };
 
-    ghost clone_keeps = { Prim.search rules };
+    ghost is_infallible = { λ _. Unit {0} };
+
+    fn clone(&self) -> Result<Self, AllocError> {
+        Ok(MarkedParts {
+            text: self.text,
+            from: self.from,
+            to: self.to,
+            marks: self.marks,
+            done: self.done,
+        })
+    }
+}
+
+impl<'h, T: ByteTest> CloneRanges for MarkedParts<'h, T> {
+    ghost clone_keeps = { λ _ _ is. is };
 }
 
 /// The parts of a text between one character of ASCII.

@@ -1,5 +1,4 @@
 //! Sets of characters, which a walk finds by the bytes with which they begin.
-#![tactic(auto, using(crate::proofs::Rules::marked_set))]
 
 ghost use Rattle.std.specs.Prelude.{◌≡◌, ◌<◌, ◌≤◌, ℕ, Bool, List, IfSome, length};
 ghost use Rattle.std.specs.Str.{IsCharBoundary};
@@ -33,26 +32,6 @@ pub(crate) trait MarkedSet: CharSet + Drop {
         requires boundary { IsCharBoundary text.now at }
         requires passes { Passes (⟦<Self::Test as ByteTest>⟧.passes test.now) text.now at }
         ensures { result ≡ char_ends (Self.belongs self.now) text.now at };
-
-    /// The first character at or after `from` that belongs, where no test finds it.
-    #[inline]
-    fn first_unmarked(&self, text: &str, from: usize) -> Option<(usize, usize)>
-        requires can { Self.can_test self.now }
-        requires boundary { IsCharBoundary text.now from }
-        ensures { IsNextMatch (char_ends (Self.belongs self.now) text.now) from result }
-    {
-        first_of(self, text, from)
-    }
-
-    /// The last character at or before `to` that belongs, where no test finds it.
-    #[inline]
-    fn last_unmarked(&self, text: &str, to: usize) -> Option<(usize, usize)>
-        requires can { Self.can_test self.now }
-        requires boundary { IsCharBoundary text.now to }
-        ensures { IsLastMatch (char_ends (Self.belongs self.now) text.now) to result }
-    {
-        last_of(self, text, to)
-    }
 
     /// The bytes by which the characters are found are their first.
     ghost first_bytes: { (s : Self) (passes : ℕ → Bool) → is_found_by s passes → AreFirstBytes (Self.belongs s) passes };
@@ -89,7 +68,7 @@ pub(crate) fn next_marked<S: MarkedSet>(
         → AreBehind (S.is_found_by set.now) (⟦<S::Test as ByteTest>⟧.passes) searcher.new text.now to }
 {
     let Some(marks) = searcher else {
-        return set.first_unmarked(text, from);
+        return first_of(set, text, from);
     };
     let bytes = text.as_bytes();
     let mut past = from;
@@ -120,7 +99,7 @@ pub(crate) fn last_marked<S: MarkedSet>(
         → AreAhead (S.is_found_by set.now) (⟦<S::Test as ByteTest>⟧.passes) searcher.new text.now from }
 {
     let Some(marks) = searcher else {
-        return set.last_unmarked(text, to);
+        return last_of(set, text, to);
     };
     let bytes = text.as_bytes();
     let mut past = to;

@@ -1,12 +1,12 @@
 //! The places of a text whose bytes pass a test, found 64 at a time from either end.
 //!
 //! Functions that aren't inlined take a test by value, so that a walk's own fields stay in registers.
-ghost use Rattle.std.specs.Prelude.{◌≡◌, ◌+◌, ◌-◌, ◌<◌, ◌≤◌, ℕ, Bool, List, length, IfSome, IfNone};
+ghost use Rattle.std.specs.Prelude.{◌≡◌, ◌+◌, ◌-◌, ◌<◌, ◌≤◌, ℕ, Bool, List, length, IfSome};
 ghost use Rattle.memchr.specs.Find.{IsFirst, IsLast, Passes};
 ghost use Rattle.hip_match.specs.Marks.{Ahead, AreMarks, Behind};
 
 use crate::bits::{bits_below, bits_from, highest, lowest, shifted_up, without, without_lowest};
-use crate::byte_test::ByteTest;
+use crate::byte_test::{ByteTest, byte_before, byte_from};
 
 const BLOCK: usize = 64;
 
@@ -55,41 +55,19 @@ fn few<T: ByteTest>(test: T, bytes: &[u8]) -> u64
         | lanes_moved(&test, bytes, last, last)
 }
 
-// The marks of the last 64 places of a text, the last by the highest bit.
-#[inline(always)]
-fn last_marks<T: ByteTest>(test: &T, bytes: &[u8]) -> u64
-    requires { 0 < length bytes.now }
-    ensures { AreMarks (T.passes test.now) bytes.now (length bytes.now - 64) (length bytes.now) (length bytes.now) result }
-{
-    let len = bytes.len();
-    if BLOCK <= len {
-        block(test, bytes, len - BLOCK)
-    } else {
-        shifted_up(few(*test, bytes), BLOCK - len)
-    }
-}
-
-// Like `last_marks`, but of the places from `from` on.
+// The marks of the last places of a text, from `from` on. The last is told by the highest bit.
 #[inline(never)]
 fn last_block<T: ByteTest>(test: T, bytes: &[u8], from: usize) -> u64
     requires some { from < length bytes.now }
     requires few { length bytes.now < from + 64 }
     ensures { AreMarks (T.passes test) bytes.now from (length bytes.now) (length bytes.now) result }
 {
-    bits_from(last_marks(&test, bytes), BLOCK - (bytes.len() - from))
-}
-
-// The marks of the places before `to`: bit k is of the place k.
-#[inline(never)]
-fn first_block<T: ByteTest>(test: T, bytes: &[u8], to: usize) -> u64
-    requires within { to ≤ length bytes.now }
-    requires few { to < 64 }
-    ensures { AreMarks (T.passes test) bytes.now 0 to 64 result }
-{
-    if BLOCK <= bytes.len() {
-        return bits_below(block(&test, bytes, 0), to);
+    let len = bytes.len();
+    let passed = BLOCK - (len - from);
+    if BLOCK <= len {
+        return bits_from(block(&test, bytes, len - BLOCK), passed);
     }
-    bits_below(few(test, bytes), to)
+    bits_from(shifted_up(few(test, bytes), BLOCK - len), passed)
 }
 
 // The marks of at most 64 places from `from` on, and the first place behind them.
@@ -117,7 +95,7 @@ fn block_before<T: ByteTest>(test: &T, bytes: &[u8], to: usize) -> (usize, u64)
     if BLOCK <= to {
         return (to - BLOCK, block(test, bytes, to - BLOCK));
     }
-    (0, first_block(*test, bytes, to))
+    (0, few(*test, &bytes[..to]))
 }
 
 /// The marks that are left of a block of 64 places, from its front.
@@ -132,51 +110,7 @@ pub(crate) struct FrontMarks {
 }
 
 impl FrontMarks {
-    // No place is read yet, and `from` is the first to be.
-    #[inline]
-    pub(crate) fn new(from: usize) -> Self
-        ensures { (test : ℕ → Bool) (t : List ℕ) → from ≤ length t → Ahead test t from result.next result.bits }
-    {
-        FrontMarks {
-            next: from,
-            bits: 0,
-            is_far: false,
-        }
-    }
-
-    // Reads the next block.
-    #[inline(always)]
-    fn load<T: ByteTest>(&mut self, test: &T, bytes: &[u8], from: usize)
-        requires ahead { Ahead (T.passes test.now) bytes.now from self.old.next self.old.bits }
-        requires none { self.old.bits ≡ 0 }
-        requires more { self.old.next < length bytes.now }
-        ensures ahead { Ahead (T.passes test.now) bytes.now from self.new.next self.new.bits }
-        ensures goes_on { self.old.next < self.new.next }
-    {
-        let (next, bits) = block_from(test, bytes, self.next);
-        self.next = next;
-        self.bits = bits;
-        self.is_far = bits == 0;
-    }
-
-    // The first place that is left, where the test has a search for far ones.
-    #[inline(always)]
-    fn find<T: ByteTest>(&mut self, test: &T, bytes: &[u8], from: usize) -> Option<Option<usize>>
-        requires ahead { Ahead (T.passes test.now) bytes.now from self.old.next self.old.bits }
-        requires none { self.old.bits ≡ 0 }
-        ensures found { IfSome result (IsFirst (Passes (T.passes test.now) bytes.now) from (length bytes.now)) }
-        ensures ahead { IfSome result (λ r. IfSome r (λ at. Ahead (T.passes test.now) bytes.now (at + 1) self.new.next self.new.bits)) }
-        ensures stays { IfNone result (self.new ≡ self.old) }
-    {
-        let found = test.far_first(bytes, self.next)?;
-        if let Some(at) = found {
-            self.is_far = BLOCK <= at - self.next;
-            self.next = at + 1;
-        }
-        Some(found)
-    }
-
-    // The first place that is left, which is passed.
+    // The first place that is left, which is passed. Where the last one was far, and the test is of one byte, it is searched for.
     #[inline(always)]
     pub(crate) fn next<T: ByteTest>(&mut self, test: &T, bytes: &[u8], from: usize) -> Option<usize>
         requires { Ahead (T.passes test.now) bytes.now from self.old.next self.old.bits }
@@ -192,11 +126,17 @@ impl FrontMarks {
                 return None;
             }
             if self.is_far {
-                if let Some(found) = self.find(test, bytes, from) {
-                    return found;
+                if let Some(byte) = test.only() {
+                    let at = byte_from(byte, bytes, self.next)?;
+                    self.is_far = BLOCK <= at - self.next;
+                    self.next = at + 1;
+                    return Some(at);
                 }
             }
-            self.load(test, bytes, from);
+            let (next, bits) = block_from(test, bytes, self.next);
+            self.next = next;
+            self.bits = bits;
+            self.is_far = bits == 0;
         }
     }
 }
@@ -213,51 +153,7 @@ pub(crate) struct BackMarks {
 }
 
 impl BackMarks {
-    // No place is read yet, and the one before `to` is the first to be.
-    #[inline]
-    pub(crate) fn new(to: usize) -> Self
-        ensures { (test : ℕ → Bool) (t : List ℕ) → to ≤ length t → Behind test t to result.start result.bits }
-    {
-        BackMarks {
-            start: to,
-            bits: 0,
-            is_far: false,
-        }
-    }
-
-    // Reads the block before this one.
-    #[inline(always)]
-    fn load<T: ByteTest>(&mut self, test: &T, bytes: &[u8], to: usize)
-        requires behind { Behind (T.passes test.now) bytes.now to self.old.start self.old.bits }
-        requires none { self.old.bits ≡ 0 }
-        requires more { 0 < self.old.start }
-        ensures behind { Behind (T.passes test.now) bytes.now to self.new.start self.new.bits }
-        ensures goes_on { self.new.start < self.old.start }
-    {
-        let (start, bits) = block_before(test, bytes, self.start);
-        self.start = start;
-        self.bits = bits;
-        self.is_far = bits == 0;
-    }
-
-    // The last place that is left, where the test has a search for far ones.
-    #[inline(always)]
-    fn find<T: ByteTest>(&mut self, test: &T, bytes: &[u8], to: usize) -> Option<Option<usize>>
-        requires behind { Behind (T.passes test.now) bytes.now to self.old.start self.old.bits }
-        requires none { self.old.bits ≡ 0 }
-        ensures found { IfSome result (IsLast (Passes (T.passes test.now) bytes.now) 0 to) }
-        ensures behind { IfSome result (λ r. IfSome r (λ at. Behind (T.passes test.now) bytes.now at self.new.start self.new.bits)) }
-        ensures stays { IfNone result (self.new ≡ self.old) }
-    {
-        let found = test.far_last(bytes, self.start)?;
-        if let Some(at) = found {
-            self.is_far = BLOCK <= self.start - at;
-            self.start = at;
-        }
-        Some(found)
-    }
-
-    // The last place that is left, which is passed.
+    // Like `next`, but the last place.
     #[inline(always)]
     pub(crate) fn last<T: ByteTest>(&mut self, test: &T, bytes: &[u8], to: usize) -> Option<usize>
         requires { Behind (T.passes test.now) bytes.now to self.old.start self.old.bits }
@@ -273,11 +169,17 @@ impl BackMarks {
                 return None;
             }
             if self.is_far {
-                if let Some(found) = self.find(test, bytes, to) {
-                    return found;
+                if let Some(byte) = test.only() {
+                    let at = byte_before(byte, bytes, self.start)?;
+                    self.is_far = BLOCK <= self.start - at;
+                    self.start = at;
+                    return Some(at);
                 }
             }
-            self.load(test, bytes, to);
+            let (start, bits) = block_before(test, bytes, self.start);
+            self.start = start;
+            self.bits = bits;
+            self.is_far = bits == 0;
         }
     }
 }
@@ -291,7 +193,7 @@ pub struct Marks<T: ByteTest> {
 }
 
 impl<T: ByteTest> Marks<T> {
-    // The places of a text from `from` up to `to`.
+    // The places of a text from `from` up to `to`, none of which is read yet.
     #[inline]
     pub(crate) fn new(test: T, from: usize, to: usize) -> Self
         ensures test { result.test ≡ test }
@@ -300,8 +202,16 @@ impl<T: ByteTest> Marks<T> {
     {
         Marks {
             test,
-            front: FrontMarks::new(from),
-            back: BackMarks::new(to),
+            front: FrontMarks {
+                next: from,
+                bits: 0,
+                is_far: false,
+            },
+            back: BackMarks {
+                start: to,
+                bits: 0,
+                is_far: false,
+            },
         }
     }
 }

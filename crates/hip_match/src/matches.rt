@@ -127,9 +127,7 @@ impl<'h, P: OneChar> Matches<'h, P> {
             }
         }
     }
-}
 
-impl<'h, P: OneChar> Matches<'h, P> {
     // The last match that ends before `end`. One that ends there is passed.
     #[inline]
     pub(crate) fn last_before(&mut self, end: usize) -> Option<(usize, usize)>

@@ -1,4 +1,5 @@
 //! The patterns that are characters: one of them, or any of some.
+ghost use Rattle.std.proofs.Common.{rules};
 ghost use Rattle.std.specs.Prelude.{◌≡◌, ◌==◌, ℕ, IfSome};
 ghost use Rattle.std.specs.List.{list_any};
 ghost use Rattle.hip_match.specs.AsciiSets.{in_set};
@@ -46,16 +47,6 @@ impl MarkedSet for char {
     fn end_at_mark(&self, _test: &OneByte, _text: &str, at: usize) -> Option<usize> {
         Some(at + 1)
     }
-
-    #[inline]
-    fn first_unmarked(&self, text: &str, from: usize) -> Option<(usize, usize)> {
-        find_char(text, *self, from)
-    }
-
-    #[inline]
-    fn last_unmarked(&self, text: &str, to: usize) -> Option<(usize, usize)> {
-        rfind_char(text, *self, to)
-    }
 }
 
 impl Pattern for char {
@@ -79,6 +70,9 @@ impl Pattern for char {
         text: &str,
         from: usize,
     ) -> Option<(usize, usize)> {
+        if searcher.is_none() {
+            return find_char(text, *self, from);
+        }
         next_marked(self, searcher, text, from)
     }
 
@@ -98,6 +92,9 @@ impl ReversePattern for char {
         text: &str,
         to: usize,
     ) -> Option<(usize, usize)> {
+        if searcher.is_none() {
+            return rfind_char(text, *self, to);
+        }
         last_marked(self, searcher, text, to)
     }
 
@@ -114,27 +111,10 @@ impl OneChar for char {
 }
 
 impl ClonePattern for char {
-    ghost use Rattle.std.proofs.Common.{rules};
-
     ghost clones_keep = { Prim.search rules };
 }
 
 impl DoubleEndedPattern for char {}
-
-// Whether a character is one of some, which are mostly few.
-#[inline]
-fn is_one_of(set: &[char], c: char) -> bool
-    ensures { result ≡ list_any (λ d. d == c) set.now }
-{
-    let mut rest = set;
-    while let [first, others @ ..] = rest {
-        if *first == c {
-            return true;
-        }
-        rest = others;
-    }
-    false
-}
 
 // The set, where all its characters are of ASCII.
 fn ascii_set(set: &[char]) -> Option<AsciiSet>
@@ -157,7 +137,14 @@ impl<'a> CharSet for &'a [char] {
 
     #[inline]
     fn has(&self, c: char) -> bool {
-        is_one_of(*self, c)
+        let mut rest = *self;
+        while let [first, others @ ..] = rest {
+            if *first == c {
+                return true;
+            }
+            rest = others;
+        }
+        false
     }
 }
 
@@ -236,8 +223,6 @@ impl<'a> OneChar for &'a [char] {
 }
 
 impl<'a> ClonePattern for &'a [char] {
-    ghost use Rattle.std.proofs.Common.{rules};
-
     ghost clones_keep = { Prim.search rules };
 }
 
@@ -304,7 +289,5 @@ impl<'a, const N: usize> OneChar for &'a [char; N] {
 }
 
 impl<'a, const N: usize> ClonePattern for &'a [char; N] {
-    ghost use Rattle.std.proofs.Common.{rules};
-
     ghost clones_keep = { Prim.search rules };
 }

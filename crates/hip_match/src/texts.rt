@@ -1,6 +1,6 @@
 //! Texts found in texts, by the vector searches of `memchr`.
-#![tactic(auto, using(crate::proofs::Rules::texts))]
 
+ghost use Rattle.std.proofs.Common.{rules};
 ghost use Rattle.std.specs.Prelude.{◌≡◌, ◌==◌, ◌<◌, length, string_bytes, IfSome};
 ghost use Rattle.std.specs.Str.{IsCharBoundary};
 ghost use Rattle.memchr.specs.Find.{FindsNeedle, FindsLastNeedle};
@@ -240,6 +240,7 @@ fn last_place(finder: &Option<PreparedBack<'_>>, hay: &[u8], needle: &[u8]) -> O
 }
 
 // The first occurrence of `needle` at or after `from`, by its prepared search if there is one.
+#[tactic(auto, using(crate::proofs::TextLemmas::find_empty))]
 #[inline(always)]
 pub(crate) fn find_text(
     text: &str,
@@ -260,6 +261,7 @@ pub(crate) fn find_text(
 }
 
 // The end of the occurrence of `needle` that starts at `at`.
+#[tactic(auto, using(crate::proofs::Rules::text_at))]
 #[inline]
 pub(crate) fn text_at(text: &str, needle: &str, at: usize) -> Option<usize>
     requires { IsCharBoundary text.now at }
@@ -273,6 +275,7 @@ pub(crate) fn text_at(text: &str, needle: &str, at: usize) -> Option<usize>
 }
 
 // The last occurrence of `needle` that ends at or before `to`, by its prepared search if there is one.
+#[tactic(auto, using(crate::proofs::TextLemmas::rfind_empty))]
 #[inline]
 pub(crate) fn rfind_text(
     text: &str,
@@ -293,6 +296,7 @@ pub(crate) fn rfind_text(
 }
 
 // The start of the occurrence of `needle` that ends at `to`.
+#[tactic(auto, using(crate::proofs::Rules::text_before))]
 #[inline]
 pub(crate) fn text_before(text: &str, needle: &str, to: usize) -> Option<usize>
     requires { IsCharBoundary text.now to }
@@ -366,8 +370,6 @@ impl<'p> Pattern for &'p str {
 }
 
 impl<'p> ClonePattern for &'p str {
-    ghost use Rattle.std.proofs.Common.{rules};
-
     ghost clones_keep = { Prim.search rules };
 }
 
@@ -444,8 +446,6 @@ impl<'p, 'q> Pattern for &'q &'p str {
 }
 
 impl<'p, 'q> ClonePattern for &'q &'p str {
-    ghost use Rattle.std.proofs.Common.{rules};
-
     ghost clones_keep = { Prim.search rules };
 }
 
@@ -522,8 +522,6 @@ impl<'p> Pattern for &'p String {
 }
 
 impl<'p> ClonePattern for &'p String {
-    ghost use Rattle.std.proofs.Common.{rules};
-
     ghost clones_keep = { Prim.search rules };
 }
 

@@ -1,5 +1,4 @@
 //! The runs of a text between white space.
-#![tactic(auto, using(crate::proofs::Rules::white_space))]
 
 ghost use Rattle.std.specs.Prelude.{◌≡◌, IfSome};
 ghost use Rattle.std.proofs.Common.{refl};

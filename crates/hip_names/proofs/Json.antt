@@ -18,4 +18,4 @@ only-none [] many = refl
 only-none (entry ∷ []) many = absurd (many refl)
 only-none (entry ∷ other ∷ more) many = refl
 
-pub ruleset unix = (only-of, only-none)
+pub ruleset unix = (only-of)

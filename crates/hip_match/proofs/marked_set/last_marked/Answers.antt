@@ -1,8 +1,8 @@
-use Rattle.std.proofs.Common.{◌≡◌, ◌∙◌, ℕ, List, Some, subst, sym, arith}
+use Rattle.std.proofs.Common.{◌≡◌, ◌∙◌, ℕ, List, None, Some, subst, sym, arith}
 use Rattle.memchr.specs.Find.{IsLast, Passes}
 use Rattle.hip_match.specs.CharLaws.{char_ends-one_char}
 use Rattle.hip_match.specs.Marks.{Behind}
-use Rattle.hip_match.proofs.MarkedSetLemmas.{beyond_it, ends_last}
+use Rattle.hip_match.proofs.MarkedSetLemmas.{beyond-new, beyond_it, ends_last, none_before}
 use Rattle.hip_match.proofs.marked_set.last_marked.Goals as goal
 
 pub returns-in-Some-end_at_mark-clause-found : goal.returns-in-Some-end_at_mark-clause-found
@@ -21,6 +21,12 @@ returns-in-Some-end_at_mark-clause-back g c k goes =
     let behind = subst (λ (l : List ℕ). Behind (g.S.Test.ByteTest.passes c.loop-at.marks.test) l at c.last.new.self.start c.last.new.self.bits) c.as_bytes-bytes.ensures.value c.in-Some-last.ensures.behind in
     (c.loop-at.invariant.0, rw same behind)
 
+pub returns-clause-found : goal.returns-clause-found
+returns-clause-found g c =
+    let inv = c.loop-at.invariant in
+    none_before _ _ (g.met.S.MarkedSet.first_bytes _ _ inv.0) c.args.text.now c.utf8.text c.args.to c.loop-at.past inv.3
+    (subst (λ (l : List ℕ). IsLast (Passes (g.S.Test.ByteTest.passes c.loop-at.marks.test) l) 0 c.loop-at.past None) c.as_bytes-bytes.ensures.value c.in_default-last.ensures.found)
+
 pub loop-at-preserved : goal.loop-at-preserved
 loop-at-preserved g c =
     let inv = c.loop-at.invariant in
@@ -34,3 +40,8 @@ loop-at-preserved g c =
 
 pub returns-in-Some-end_at_mark-clause-front : goal.returns-in-Some-end_at_mark-clause-front
 returns-in-Some-end_at_mark-clause-front g c from ready = c.loop-at.invariant.4 from (rw c.in-Some.is at ready)
+
+pub loop-at-init : goal.loop-at-init
+loop-at-init g c =
+    let ready = rw c.in-Some.is at c.requires.ready in
+    (ready.0, ready.1, omega arith, beyond-new _ _ (g.met.S.MarkedSet.first_bytes _ _ ready.0) c.args.text.now c.utf8.text c.args.to, λ _ front. front)

@@ -1,7 +1,7 @@
 use Rattle.std.proofs.Common.{◌+◌, ◌∙◌, ℕ, List, Some, None, length, subst, sym, arith}
 use Rattle.memchr.specs.Find.{IsFirst, Passes}
 use Rattle.hip_match.specs.Marks.{Ahead}
-use Rattle.hip_match.proofs.MarkedSetLemmas.{none_left, none_up_to, past_char}
+use Rattle.hip_match.proofs.MarkedSetLemmas.{none_left, none_up_to, past_char, starts_first}
 use Rattle.hip_match.proofs.marked_set.next_marked.Goals as goal
 
 pub returns-in-Some-end_at_mark-clause-front : goal.returns-in-Some-end_at_mark-clause-front
@@ -11,6 +11,13 @@ returns-in-Some-end_at_mark-clause-front g c k goes =
     let first = g.met.S.MarkedSet.first_bytes _ _ inv.0 in
     let ahead = subst (λ (l : List ℕ). Ahead (g.S.Test.ByteTest.passes c.loop-at.marks.test) l (at + 1) c.next.new.self.next c.next.new.self.bits) c.as_bytes-bytes.ensures.value c.in-Some-next.ensures.ahead in
     (inv.0, past_char _ _ first c.args.text.now c.utf8.text at c.in-Some-end_at_mark.end k _ _ (λ i. (c.type_inv.text i).fits) (sym c.in-Some-end_at_mark.ensures) goes ahead)
+
+pub returns-in-Some-end_at_mark-clause-found : goal.returns-in-Some-end_at_mark-clause-found
+returns-in-Some-end_at_mark-clause-found g c =
+    let inv = c.loop-at.invariant in
+    starts_first _ _ (g.met.S.MarkedSet.first_bytes _ _ inv.0) c.args.text.now c.utf8.text c.args.from c.loop-at.past _ _ inv.2 inv.3
+    (subst (λ (l : List ℕ). IsFirst (Passes (g.S.Test.ByteTest.passes c.loop-at.marks.test) l) c.loop-at.past (length l) (Some c.in-Some-next.at)) c.as_bytes-bytes.ensures.value c.in-Some-next.ensures.found)
+    (sym c.in-Some-end_at_mark.ensures)
 
 pub returns-clause-found : goal.returns-clause-found
 returns-clause-found g c =
@@ -31,3 +38,8 @@ loop-at-preserved g c =
 
 pub returns-in-Some-end_at_mark-clause-back : goal.returns-in-Some-end_at_mark-clause-back
 returns-in-Some-end_at_mark-clause-back g c to ready = c.loop-at.invariant.4 to (rw c.in-Some.is at ready)
+
+pub loop-at-init : goal.loop-at-init
+loop-at-init g c =
+    let ready = rw c.in-Some.is at c.requires.ready in
+    (ready.0, ready.1, omega arith, λ k lo hi. absurd (omega arith), λ _ back. back)

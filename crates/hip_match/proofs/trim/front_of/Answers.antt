@@ -1,7 +1,11 @@
 use Rattle.std.proofs.Common.{sym, ◌∙◌, arith}
 use Rattle.std.proofs.lemmas.Option.{none-some, same_Some}
-use Rattle.hip_match.proofs.TrimLemmas.{sequence_more, TrimsFront-stuck}
+use Rattle.std.proofs.lemmas.Str.{IsCharBoundary-start}
+use Rattle.hip_match.proofs.TrimLemmas.{sequence_more, sequence_none, TrimsFront-stuck}
 use Rattle.hip_match.proofs.trim.front_of.Goals as goal
+
+pub loop-end-init : goal.loop-end-init
+loop-end-init g c = (IsCharBoundary-start _ c.utf8.text, sequence_none _ 0)
 
 pub loop-end-smaller : goal.loop-end-smaller
 loop-end-smaller g c =

@@ -35,3 +35,6 @@ returns-in_default-clause-first g c =
       | in_default-via-in-Some+else-at-self x ↦ rw c.if-self.false (only_ahead p was.1 _ _ _ was.0 (Some x.in-Some.at) (first (Some x.in-Some.at) x.in-Some.ensures.found) (λ at is. let same = same_Some x.in-Some.at at is in omega (arith, same, x.if-at-self.false)))
       | in_default-via-in_default x ↦ rw c.if-self.false (only_ahead p was.1 _ _ _ was.0 None (first None x.in_default.ensures.found) (λ at is. absurd (none-some at is)))
     ]
+
+pub next-requires : goal.next-requires
+next-requires g c = rw c.as_bytes.ensures.value (c.requires.2 c.if-self.false).0

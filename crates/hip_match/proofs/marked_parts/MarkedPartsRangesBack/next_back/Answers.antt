@@ -29,3 +29,6 @@ returns-in_default-clause-last g c =
       | in_default-via-in-Some+else-self-at x ↦ rw c.if-self.false (only_behind p was.1 _ _ _ was.0 (Some x.in-Some.at) (last (Some x.in-Some.at) x.in-Some.ensures.found) (λ at is. let same = same_Some x.in-Some.at at is in omega (arith, same, x.if-self-at.false)))
       | in_default-via-in_default x ↦ rw c.if-self.false (only_behind p was.1 _ _ _ was.0 None (last None x.in_default.ensures.found) (λ at is. absurd (none-some at is)))
     ]
+
+pub last-requires : goal.last-requires
+last-requires g c = rw c.as_bytes.ensures.value (c.requires.2 c.if-self.false).1
