@@ -23,7 +23,6 @@ fn unknown<'b, B: Backend>(alloc: Global, name: &HipStr<'b, B>) -> TemplateFault
 }
 
 /// The value of a name: that of the hole at `place` where that is an earlier one of the name, else the one that is looked up.
-#[tactic(auto, using(crate::proofs::Templates::pieces_count))]
 fn value_of<'v, 'b, B: Backend, S: BuildHasher>(
     values: &'v Values<'b, B, S>,
     name: &HipStr<'b, B>,
