@@ -66,10 +66,10 @@ impl<'h> Ranges for Lines<'h> {
 
 impl<'h> CloneRanges for Lines<'h> {
     ghost clone_keeps = { λ _ _ is. lines_kept (ap (λ t. t.now) is.0)
-        (ended_kept (is.1.1.1.1 (λ _ _ same. record {
+        (ended_kept (is.1.0 (λ _ _ same. record {
           searchable = λ h. h;
           occurs = ap (λ c. char_ends (λ d. d == c)) same;
-        })) is.1.0 is.1.1.0 is.1.1.1.0) };
+        })) is.1.1.0 is.1.1.1.0 is.1.1.1.1) };
 }
 
 impl<'h> RangesBack for Lines<'h> {

@@ -14,14 +14,14 @@ use crate::rmatches::RMatches;
 /// The parts of a text between the rightmost occurrences of a pattern, last first.
 #[derive(Clone, Drop)]
 pub struct RSplit<'h, P: ReversePattern> {
+    matches: RMatches<'h, P>,
     start: usize,
     end: usize,
     done: bool,
-    matches: RMatches<'h, P>,
 }
 
 impl<'h, P: ReversePattern + ClonePattern> CloneRanges for RSplit<'h, P> {
-    ghost clone_keeps = { λ _ _ is. gaps_back_kept (is.1.1.1 P.clones_keep) is.0 is.1.0 is.1.1.0 };
+    ghost clone_keeps = { λ _ _ is. gaps_back_kept (is.0 P.clones_keep) is.1.0 is.1.1.0 is.1.1.1 };
 }
 
 impl<'h, P: ReversePattern> RSplit<'h, P> {
@@ -33,10 +33,10 @@ impl<'h, P: ReversePattern> RSplit<'h, P> {
             (rsplit (P.ends pattern text.now) (length text.now)) }
     {
         RSplit {
+            matches: RMatches::new(text, pattern),
             start: 0,
             end: text.len(),
             done: false,
-            matches: RMatches::new(text, pattern),
         }
     }
 }
@@ -90,14 +90,14 @@ impl<'h, P: OneChar> RangesBack for RSplit<'h, P> {
 /// The parts of a text between the rightmost occurrences of a pattern, last first, without the first of them where that is empty.
 #[derive(Clone, Drop)]
 pub struct RSplitTerminator<'h, P: ReversePattern> {
+    split: RSplit<'h, P>,
     // An empty part at the end of the text is still to be left out.
     beginning: bool,
-    split: RSplit<'h, P>,
 }
 
 impl<'h, P: ReversePattern + ClonePattern> CloneRanges for RSplitTerminator<'h, P> {
-    ghost clone_keeps = { λ _ _ is. made_kept (ap from_terminator is.0)
-        (gaps_back_kept (is.1.1.1.1 P.clones_keep) is.1.0 is.1.1.0 is.1.1.1.0) };
+    ghost clone_keeps = { λ _ _ is. made_kept (ap from_terminator is.1)
+        (gaps_back_kept (is.0.0 P.clones_keep) is.0.1.0 is.0.1.1.0 is.0.1.1.1) };
 }
 
 impl<'h, P: ReversePattern> RSplitTerminator<'h, P> {
@@ -109,8 +109,8 @@ impl<'h, P: ReversePattern> RSplitTerminator<'h, P> {
             (rsplit_terminator (P.ends pattern text.now) (length text.now)) }
     {
         RSplitTerminator {
-            beginning: true,
             split: RSplit::new(text, pattern),
+            beginning: true,
         }
     }
 }
@@ -151,16 +151,16 @@ impl<'h, P: OneChar> RangesBack for RSplitTerminator<'h, P> {
 /// begins at the text's start.
 #[derive(Clone, Drop)]
 pub struct RSplitN<'h, P: ReversePattern> {
+    matches: RMatches<'h, P>,
     start: usize,
     end: usize,
     count: usize,
-    matches: RMatches<'h, P>,
 }
 
 impl<'h, P: ReversePattern + ClonePattern> CloneRanges for RSplitN<'h, P> {
     ghost clone_keeps = { λ _ _ is. parts_kept IsBetweenBack
         (λ count i l n. at_most_from count (gaps_back i l n) i)
-        (is.1.1.1 P.clones_keep) is.0 is.1.0 is.1.1.0 };
+        (is.0 P.clones_keep) is.1.0 is.1.1.0 is.1.1.1 };
 }
 
 impl<'h, P: ReversePattern> RSplitN<'h, P> {
@@ -172,10 +172,10 @@ impl<'h, P: ReversePattern> RSplitN<'h, P> {
             (rsplitn count (P.ends pattern text.now) (length text.now)) }
     {
         RSplitN {
+            matches: RMatches::new(text, pattern),
             start: 0,
             end: text.len(),
             count,
-            matches: RMatches::new(text, pattern),
         }
     }
 }

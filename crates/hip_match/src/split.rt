@@ -15,14 +15,14 @@ use crate::ranges::{CloneRanges, Ranges, RangesBack};
 /// The parts of a text between the occurrences of a pattern, one more than there are occurrences.
 #[derive(Clone, Drop)]
 pub struct Split<'h, P: Pattern> {
+    matches: Matches<'h, P>,
     start: usize,
     end: usize,
     done: bool,
-    matches: Matches<'h, P>,
 }
 
 impl<'h, P: ClonePattern> CloneRanges for Split<'h, P> {
-    ghost clone_keeps = { λ _ _ is. gaps_kept (is.1.1.1 P.clones_keep) is.0 is.1.0 is.1.1.0 };
+    ghost clone_keeps = { λ _ _ is. gaps_kept (is.0 P.clones_keep) is.1.0 is.1.1.0 is.1.1.1 };
 }
 
 impl<'h, P: Pattern> Split<'h, P> {
@@ -34,10 +34,10 @@ impl<'h, P: Pattern> Split<'h, P> {
             (split (P.ends pattern text.now) (length text.now)) }
     {
         Split {
+            matches: Matches::new(text, pattern),
             start: 0,
             end: text.len(),
             done: false,
-            matches: Matches::new(text, pattern),
         }
     }
 }
@@ -91,14 +91,14 @@ impl<'h, P: OneChar> RangesBack for Split<'h, P> {
 /// The parts of a text, each ended by an occurrence of a pattern, which belongs to it. A last empty part is left out.
 #[derive(Clone, Drop)]
 pub struct SplitInclusive<'h, P: Pattern> {
+    matches: Matches<'h, P>,
     start: usize,
     end: usize,
     done: bool,
-    matches: Matches<'h, P>,
 }
 
 impl<'h, P: ClonePattern> CloneRanges for SplitInclusive<'h, P> {
-    ghost clone_keeps = { λ _ _ is. ended_kept (is.1.1.1 P.clones_keep) is.0 is.1.0 is.1.1.0 };
+    ghost clone_keeps = { λ _ _ is. ended_kept (is.0 P.clones_keep) is.1.0 is.1.1.0 is.1.1.1 };
 }
 
 impl<'h, P: Pattern> SplitInclusive<'h, P> {
@@ -110,10 +110,10 @@ impl<'h, P: Pattern> SplitInclusive<'h, P> {
             (split_inclusive (P.ends pattern text.now) (length text.now)) }
     {
         SplitInclusive {
+            matches: Matches::new(text, pattern),
             start: 0,
             end: text.len(),
             done: false,
-            matches: Matches::new(text, pattern),
         }
     }
 }
@@ -175,14 +175,14 @@ impl<'h, P: OneChar> RangesBack for SplitInclusive<'h, P> {
 /// The parts of a text between the occurrences of a pattern, without the last where that is empty.
 #[derive(Clone, Drop)]
 pub struct SplitTerminator<'h, P: Pattern> {
+    split: Split<'h, P>,
     // A last empty part is still to be left out.
     ending: bool,
-    split: Split<'h, P>,
 }
 
 impl<'h, P: ClonePattern> CloneRanges for SplitTerminator<'h, P> {
-    ghost clone_keeps = { λ _ _ is. made_kept (ap to_terminator is.0)
-        (gaps_kept (is.1.1.1.1 P.clones_keep) is.1.0 is.1.1.0 is.1.1.1.0) };
+    ghost clone_keeps = { λ _ _ is. made_kept (ap to_terminator is.1)
+        (gaps_kept (is.0.0 P.clones_keep) is.0.1.0 is.0.1.1.0 is.0.1.1.1) };
 }
 
 impl<'h, P: Pattern> SplitTerminator<'h, P> {
@@ -194,8 +194,8 @@ impl<'h, P: Pattern> SplitTerminator<'h, P> {
             (split_terminator (P.ends pattern text.now) (length text.now)) }
     {
         SplitTerminator {
-            ending: true,
             split: Split::new(text, pattern),
+            ending: true,
         }
     }
 }
@@ -235,16 +235,16 @@ impl<'h, P: OneChar> RangesBack for SplitTerminator<'h, P> {
 /// At most `count` parts of a text between the occurrences of a pattern. Where there are `count`, the last of them runs to the end.
 #[derive(Clone, Drop)]
 pub struct SplitN<'h, P: Pattern> {
+    matches: Matches<'h, P>,
     start: usize,
     end: usize,
     count: usize,
-    matches: Matches<'h, P>,
 }
 
 impl<'h, P: ClonePattern> CloneRanges for SplitN<'h, P> {
     ghost clone_keeps = { λ _ _ is. parts_kept IsBetween
         (λ count i l n. at_most_to count (gaps i l n) n)
-        (is.1.1.1 P.clones_keep) is.0 is.1.0 is.1.1.0 };
+        (is.0 P.clones_keep) is.1.0 is.1.1.0 is.1.1.1 };
 }
 
 impl<'h, P: Pattern> SplitN<'h, P> {
@@ -256,10 +256,10 @@ impl<'h, P: Pattern> SplitN<'h, P> {
             (splitn count (P.ends pattern text.now) (length text.now)) }
     {
         SplitN {
+            matches: Matches::new(text, pattern),
             start: 0,
             end: text.len(),
             count,
-            matches: Matches::new(text, pattern),
         }
     }
 }
