@@ -1,4 +1,4 @@
-//! Tests of a byte, one by one and sixteen at a time.
+//! Tests of a byte, sixteen at a time.
 
 ghost use Rattle.std.specs.Prelude.{◌≡◌, ◌==◌, ◌+◌, ◌≤◌, ℕ, Bool, length, IfSome};
 ghost use Rattle.memchr.specs.Find.{IsFirst, IsLast, Passes};

@@ -110,7 +110,7 @@ pub(crate) struct FrontMarks {
 }
 
 impl FrontMarks {
-    // The first place that is left, which is passed. Where the last one was far, and the test is of one byte, it is searched for.
+    // The first place that is left, which is passed. Where the last one was far and one byte alone passes, that byte is searched for.
     #[inline(always)]
     pub(crate) fn next<T: ByteTest>(&mut self, test: &T, bytes: &[u8], from: usize) -> Option<usize>
         requires { Ahead (T.passes test.now) bytes.now from self.old.next self.old.bits }
