@@ -1,5 +1,5 @@
 -- Sets of characters that are found by the bytes with which they begin.
-use Rattle.std.proofs.Common.{◌≡◌, ℕ, ◌+◌, ◌<◌, ◌≤◌, Bool, List, Option, Some, None, length, subst, sym, ap, ◌∙◌, arith, ⊎_elim, IfSome, slice_index, IsUtf8, IsCharBoundary}
+use Rattle.std.proofs.Common.{◌≡◌, ℕ, ◌+◌, ◌<◌, ◌≤◌, Bool, List, Option, Some, None, length, sym, ap, ◌∙◌, arith, ⊎_elim, slice_index, IsUtf8, IsCharBoundary}
 use Rattle.std.proofs.lemmas.Bool.{cases_lt}
 use Rattle.std.proofs.lemmas.Option.{none-some, same_Some}
 use Rattle.memchr.specs.Find.{IsFirst, IsLast, Nowhere, Passes}
@@ -11,10 +11,6 @@ use Rattle.hip_match.specs.CharLaws.{char_ends-one_char, char_ends-spans}
 use Rattle.hip_match.proofs.OccurrenceLemmas.{option_cases}
 use Rattle.hip_match.proofs.SetLemmas.{none_more, none_past}
 use Rattle.hip_match.proofs.MarkLemmas.{ahead-skipped}
-
--- what holds of an option that is there
-pub of_some : {A : Type 0} (F : A → Type 0) (o : Option A) (x : A) → o ≡ Some x → IfSome o F → F x
-of_some F o x is holds = subst (λ o. IfSome o F) is holds
 
 module _ (belongs passes : ℕ → Bool) (first : AreFirstBytes belongs passes) (t : List ℕ) (utf8 : IsUtf8 t) where
   pub no_start : (i j : ℕ) → Nowhere (Passes passes t) i j → (k : ℕ) → i ≤ k → k < j → char_ends belongs t k ≡ None
