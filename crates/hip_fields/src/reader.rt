@@ -2,8 +2,7 @@
 ghost use Rattle.std.specs.Prelude.{◌≡◌, [], map, IfOk, IsOk};
 ghost use Rattle.hip_text.specs.Meter.{RisesAtMost};
 ghost use Rattle.hip_match.specs.Joined.{parts_at};
-ghost use Rattle.hip_fields.specs.Records.{AreRecords, FirstRecord, FirstRecordCosts};
-ghost use Rattle.hip_fields.specs.Records.{fields_of, records_cost, records_of};
+ghost use Rattle.hip_fields.specs.Records.{AreRecords, FirstRecord, FirstRecordCosts, fields_of, records_cost, records_of};
 
 use crate::line::fields_between;
 use hip_cuts::hip_match::lines::Lines;

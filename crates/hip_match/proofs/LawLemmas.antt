@@ -1,15 +1,13 @@
 -- The scan gives the leftmost list, no other list is leftmost, and joining undoes splitting.
-use Rattle.std.proofs.Common.{◌≡◌, ℕ, zero, suc, ◌+◌, ◌-◌, ◌<◌, ◌≤◌, List, [], ◌∷◌, ◌++◌, Option, Some, refl, arith, ⊎_elim, length}
+use Rattle.std.proofs.Common.{◌≡◌, ℕ, zero, suc, ◌+◌, ◌-◌, ◌<◌, ◌≤◌, List, [], ◌∷◌, ◌++◌, Option, Some, refl, arith, ⊎_elim, length, drop, take, sym, ap, ◌∙◌, drop-drop, take_all, le_refl, ◌⊎◌, max, slice_range, eq-eqb, ne_eqb, take-add, append-nil, IsUtf8}
 use Rattle.std.specs.Prelude.{⊤}
 use Rattle.std.proofs.lemmas.Bool.{cases_lt, cond-true, cond-false, cases_eq}
 use Rattle.std.proofs.lemmas.Option.{none-some, same_Some}
 use Rattle.hip_match.proofs.OccurrenceLemmas.{option_cases}
-use Rattle.hip_match.proofs.LeftmostLemmas.{end_within-is, end_within-some}
+use Rattle.hip_match.proofs.LeftmostLemmas.{end_within-is, end_within-some, leftmost_between-InOrder}
 use Rattle.hip_match.specs.Leftmost.{leftmost_from, leftmost, end_within, AllOccur, place_after, BeginInOrder, IsListed, BeginsWithin, IsLeftmost}
-use Rattle.std.proofs.Common.{drop-drop, take_all, le_refl, ◌⊎◌, max, slice_range, eq-eqb, ne_eqb, take-add, append-nil, IsUtf8}
 use Rattle.hip_match.specs.Texts.{text_ends}
 use Rattle.hip_match.specs.TextLaws.{text_ends-is, text_ends-spans}
-use Rattle.hip_match.proofs.LeftmostLemmas.{leftmost_between-InOrder}
 use Rattle.hip_match.proofs.PiecesLemmas.{InOrder-le}
 use Rattle.hip_match.specs.Pieces.{InOrder, gaps, ended, split, split_inclusive}
 use Rattle.hip_match.specs.Joined.{parts_at, together, rejoined}
@@ -97,7 +95,8 @@ AllAre t sep (m ∷ ms) = (slice_range t m.0 m.1 ≡ sep) × AllAre t sep ms
 slice_range-append : (t : List ℕ) (i j k : ℕ) → i ≤ j → j ≤ k → slice_range t i j ++ slice_range t j k ≡ slice_range t i k
 slice_range-append t i j k low high =
     let size : (j - i) + (k - j) ≡ k - i = omega arith in
-    grind (arith, drop-drop, take-add)
+    let there : i + (j - i) ≡ j = omega arith in
+    ap (λ n. slice_range t i j ++ take (k - j) (drop n t)) (sym there) ∙ ap (λ l. slice_range t i j ++ take (k - j) l) (sym (drop-drop (j - i) i t)) ∙ sym (take-add (j - i) (k - j) (drop i t)) ∙ ap (λ n. take n (drop i t)) size
 
 joined-gaps : (t sep : List ℕ) (ms : List (ℕ × ℕ)) (i n : ℕ) → InOrder i ms n → AllAre t sep ms → rejoined sep (parts_at t (gaps i ms n)) ≡ slice_range t i n
 joined-gaps t sep [] i n order same = refl

@@ -1,8 +1,6 @@
 -- The pieces round one more match.
-use Rattle.std.proofs.Common.{◌≡◌, ℕ, zero, suc, ◌-◌, ◌<◌, ◌≤◌, List, [], ◌∷◌, ◌++◌, refl, ap, arith}
-use Rattle.std.proofs.Common.{le_trans, IfSome}
+use Rattle.std.proofs.Common.{◌≡◌, ℕ, zero, suc, ◌-◌, ◌<◌, ◌≤◌, List, [], ◌∷◌, ◌++◌, refl, ap, arith, le_trans, IfSome, Option, Some, Bool, true, eq-eqb, ne_eqb, lt-ltb, le-ltb, MatchOption, if◌then◌else◌, ◌==◌, append-nil}
 use Rattle.hip_match.specs.Ready.{IsBetween, IsBetweenBack, TakesLastCut}
-use Rattle.std.proofs.Common.{Option, Some, Bool, true, eq-eqb, ne_eqb, lt-ltb, le-ltb, MatchOption, if◌then◌else◌, ◌==◌, append-nil}
 use Rattle.std.proofs.lemmas.Bool.{cond-true, cond-false}
 use Rattle.hip_match.specs.Runs.{nonempty}
 use Rattle.hip_match.specs.Pieces.{InOrder, InOrderBack, gaps, gaps_back, ended, at_most_to, at_most_from, without_empty_last, without_empty_first}

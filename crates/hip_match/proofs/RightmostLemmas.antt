@@ -1,6 +1,4 @@
 -- The rightmost list, against the search for the last match.
-use Rattle.std.proofs.lemmas.Bool.Decides.{nat_tests}
-use Rattle.std.proofs.lemmas.Grind.{common_steps}
 use Rattle.std.proofs.Common.{◌≡◌, ℕ, zero, suc, ◌+◌, ◌-◌, ◌<◌, ◌≤◌, true, [], ◌∷◌, Option, Some, None, refl, ap, ◌∙◌, arith, ⊎_elim}
 use Rattle.std.proofs.lemmas.Bool.{cond-true, cond-false, cases_lt, cases_Bool, eqb-true}
 use Rattle.std.proofs.lemmas.Option.{none-some, same_Some}
@@ -92,7 +90,13 @@ module _ (e : ℕ → Option ℕ) (from to : ℕ) (ordered : (k m : ℕ) → e k
       → rightmost_between e from to ≡ (a, b) ∷ rightmost_between e from prev
   rightmost_between-some a b h low prev below under quiet =
       let reach = b - a - 1 in
-      grind (arith, nat_tests, common_steps, rightmost_from-to starts (to + 1) (b + 1), starts-none, rightmost_from-hit starts b a, start_among-found e from (b + 1 - from) b a, rightmost_from-skip starts reach b, rightmost_from-to starts (b - reach) (prev + 1))
+      let size : a ≤ b = ordered a b h.occurs in
+      let next : b + 1 ≡ suc b = omega arith in
+      let here : starts b ≡ Some a = start_among-found e from (b + 1 - from) b a (λ c d. one c d b) low (omega arith) h.occurs in
+      rightmost_from-to starts (to + 1) (b + 1) (omega (arith, h.before)) (λ j lo hi. starts-none j (λ c high is. omega (arith, h.last c j is (omega arith))))
+      ∙ ap (rightmost_from starts 0) next ∙ rightmost_from-hit starts b a here
+      ∙ ap (λ l. (a, b) ∷ l) (rightmost_from-skip starts reach b
+      ∙ rightmost_from-to starts (b - reach) (prev + 1) (omega arith) (λ j lo hi. starts-none j (λ c high is. quiet c j is (omega arith) (omega arith) (omega arith))))
 
   -- the last match, empty and at the window's start
   pub rightmost_between-last : (a b : ℕ) → EndsLast e to (a, b) → a ≡ b → a ≡ from → rightmost_between e from to ≡ (a, b) ∷ []

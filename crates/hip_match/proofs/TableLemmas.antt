@@ -1,5 +1,5 @@
 -- Tables of bytes by their halves.
-use Rattle.std.proofs.lemmas.Grind.{common_steps}
+use Rattle.std.proofs.lemmas.Grind.{common_steps, get_or-set_at}
 use Rattle.std.proofs.Common.{◌≡◌, ℕ, ◌+◌, ◌*◌, ◌/◌, ◌%◌, ◌^◌, ◌<◌, ◌≤◌, ◌==◌, ◌&&◌, ◌||◌, Bool, true, false, not, List, length, max, replicate, get_or, set, sym, ap, ◌∙◌, arith, ⊎_elim, bit_and, bit_or, nat_lt, slice_index, pow_pos, bit_xor, get_or-set_other}
 use Rattle.std.proofs.Math.Path.{fun_ext}
 use Rattle.std.specs.Int.{bit_at}
@@ -10,7 +10,6 @@ use Rattle.std.proofs.lemmas.Nat.Bits.{and_pow, bit_at-lt, bit_at-pow_other, bit
 use Rattle.std.proofs.lemmas.Simd.{get_or-zip2, zip2_splat}
 use lib.Lanes.{zip2}
 use Rattle.std.proofs.lemmas.List.{get_or-map}
-use Rattle.std.proofs.lemmas.Grind.{get_or-set_at}
 use Rattle.hip_match.specs.Marks.{has_nibbles, in_rows}
 use Rattle.hip_match.specs.declared.byte_test.TheConstants.{ASCII_COLUMNS}
 

@@ -1,6 +1,4 @@
 -- Where memchr finds the bytes of a text, the text occurs.
-use Rattle.std.proofs.lemmas.Bool.Decides.{nat_tests}
-use Rattle.std.proofs.lemmas.Grind.{common_steps}
 use Rattle.std.proofs.Common.{◌≡◌, ℕ, ◌+◌, ◌-◌, ◌<◌, ◌≤◌, false, inl, inr, List, Option, Some, None, length, take, drop, slice_index, arith, length-drop, length-take-le, get_or-drop, get_or-take, take_all, add-zero, ◌==◌, eqb-true, eq-eqb, IsUtf8, IsCharBoundary}
 use Rattle.std.proofs.lemmas.Bool.{cases_lt, false≢true}
 use Rattle.std.proofs.lemmas.List.{nil_from_length}
@@ -11,6 +9,10 @@ use Rattle.hip_match.specs.Texts.{text_ends}
 use Rattle.hip_match.specs.TextLaws.{text_ends-some, text_ends-is, text_ends-one_start, Stands-boundaries}
 use Rattle.hip_match.proofs.OccurrenceLemmas.{option_cases}
 use Rattle.hip_match.proofs.RightmostLemmas.{start_among-found, start_among-none}
+
+-- the slice from a place to the end
+pub rest_slice : (t : List ℕ) (from : ℕ) → take (length t - from) (drop from t) ≡ drop from t
+rest_slice t from = take_all _ _ (omega (arith, length-drop from t))
 
 -- ---- a needle of one byte
 
@@ -113,7 +115,12 @@ module _ (t p : List ℕ) where
         let passes : Passes (is_byte (slice_index p back)) t (k + back) = eq-eqb _ _ (h.reads back (omega arith)) in
         elim (cases_lt (k + back) at) [
           | inl before ↦ omega arith
-          | inr behind ↦ grind (arith, nat_tests, common_steps, cases_lt at (k + back), take_all, length-drop, OccursAt-in_drop)
+          | inr behind ↦ elim (cases_lt at (k + back)) [
+            | inl after ↦ absurd (last.after (k + back) (omega arith) (omega arith) passes)
+            | inr here ↦
+                let e : k - (at - back) ≡ 0 = omega arith in
+                absurd (apart (omega arith) (rw rest_slice (rw e at (OccursAt-in_drop (at - back) k (omega arith) h))))
+          ]
         ]
 
     by-place : (r : Option ℕ) → FindsLastNeedle (take at t) p r → FindsLastNeedle t p r
@@ -191,10 +198,6 @@ module _ (t p : List ℕ) where
     text_before-no to cut off =
         start_among-none (text_ends p t) 0 (to + 1) to (λ a lo hi is.
         grind (arith, text_ends-occurs a to is, length-take-le to t cut.0, OccursAt-in_take to a cut.0))
-
--- slices of a rest and of a front
-pub rest_slice : (t : List ℕ) (from : ℕ) → take (length t - from) (drop from t) ≡ drop from t
-rest_slice t from = take_all _ _ (omega (arith, length-drop from t))
 
 pub positive : (n : ℕ) → (n == 0) ≡ false → 0 < n
 positive n h = grind (arith, false≢true, eq-eqb, cases_lt)

@@ -1,9 +1,8 @@
 -- Clones of patterns and of iterators, which keep what their originals have.
-use Rattle.std.proofs.Common.{arith}
+use Rattle.std.proofs.Common.{arith, refl, sym, ◌∙◌}
 use Rattle.std.proofs.lemmas.Bool.Decides.{nat_tests}
 use Rattle.std.proofs.lemmas.Grind.{common_steps}
 use Rattle.std.specs.Prelude.{◌≡◌, ℕ, Bool, Option, List, [], map, if◌then◌else◌}
-use Rattle.std.proofs.Common.{refl, sym, ◌∙◌}
 use Rattle.hip_match.specs.Pieces.{ended, gaps, gaps_back}
 use Rattle.hip_match.specs.Ready.{IsBetween, IsBetweenBack}
 use Rattle.hip_match.specs.Runs.{line_of}

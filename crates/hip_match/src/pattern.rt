@@ -3,8 +3,7 @@ ghost use Rattle.std.specs.Prelude.{◌≡◌, ℕ, List, Option, Some, IfSome};
 ghost use Rattle.std.specs.Option.{is_some};
 ghost use Rattle.std.specs.Str.{IsUtf8, IsCharBoundary};
 ghost use Rattle.hip_match.specs.Clones.{ClonesKeep};
-ghost use Rattle.hip_match.specs.Occurrence.{IsNextMatch, IsLastMatch, IsCut, IsOneChar, start_of};
-ghost use Rattle.hip_match.specs.Occurrence.{GoesOnAt, GoesOnBefore};
+ghost use Rattle.hip_match.specs.Occurrence.{IsNextMatch, IsLastMatch, IsCut, IsOneChar, start_of, GoesOnAt, GoesOnBefore};
 
 /// A pattern that can be looked for in a text from its front.
 ///

@@ -3,8 +3,7 @@ ghost use Rattle.std.specs.Prelude.{[], length, if◌then◌else◌};
 ghost use Rattle.std.proofs.Common.{ap};
 ghost use Rattle.hip_match.specs.Clones.{gaps_back_kept, made_kept, parts_kept};
 ghost use Rattle.hip_match.specs.Iterators.{Gives, LiesBetweenBack};
-ghost use Rattle.hip_match.specs.Pieces.{rsplit, rsplit_terminator, rsplitn};
-ghost use Rattle.hip_match.specs.Pieces.{at_most_from, from_terminator, gaps_back};
+ghost use Rattle.hip_match.specs.Pieces.{rsplit, rsplit_terminator, rsplitn, at_most_from, from_terminator, gaps_back};
 ghost use Rattle.hip_match.specs.Ready.{IsBetweenBack};
 
 use crate::pattern::{ClonePattern, OneChar, ReversePattern};

@@ -4,8 +4,7 @@ ghost use Rattle.std.specs.Prelude.{[], length, if◌then◌else◌};
 ghost use Rattle.std.proofs.Common.{ap};
 ghost use Rattle.hip_match.specs.Clones.{ended_kept, gaps_kept, made_kept, parts_kept};
 ghost use Rattle.hip_match.specs.Iterators.{Gives, LiesBetween};
-ghost use Rattle.hip_match.specs.Pieces.{split, split_inclusive, split_terminator, splitn};
-ghost use Rattle.hip_match.specs.Pieces.{at_most_to, ended, gaps, to_terminator};
+ghost use Rattle.hip_match.specs.Pieces.{split, split_inclusive, split_terminator, splitn, at_most_to, ended, gaps, to_terminator};
 ghost use Rattle.hip_match.specs.Ready.{IsBetween};
 
 use crate::matches::Matches;

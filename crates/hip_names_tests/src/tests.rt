@@ -1,12 +1,16 @@
+mod borsh;
 mod calls;
 mod decoding;
 mod handle;
 mod hip_byt;
 mod hip_os_str;
 mod hip_path;
+mod hip_str;
 mod hostile;
+mod json;
 mod maps;
 mod name;
 mod names;
 mod rooms;
+mod streams;
 mod support;

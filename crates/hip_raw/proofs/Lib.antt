@@ -4,5 +4,7 @@ mod PlacesMemory
 mod PlacesSharing
 pub mod Alike
 pub mod Decided
+pub mod Handles
 pub mod Lanes
+pub mod Rooms
 pub mod Windows

@@ -1,6 +1,5 @@
 -- Parts of parts of lists.
-use Rattle.std.proofs.Common.{[], ◌∷◌, zero, suc, refl, ◌≡◌, ℕ, ◌+◌, ◌-◌, ◌≤◌, List, ◌++◌, length, take, drop, sym, ap, ◌∙◌, arith}
-use Rattle.std.proofs.lemmas.Grind.{common_steps}
+use Rattle.std.proofs.Common.{[], ◌∷◌, zero, suc, refl, ◌≡◌, ℕ, ◌+◌, ◌-◌, ◌≤◌, List, ◌++◌, length, take, drop, sym, ap, ◌∙◌, length-take-le, arith}
 use Rattle.std.specs.List.{refill}
 use Rattle.std.proofs.Math.Seq.{take-append-add, take-append_seam}
 use Rattle.std.proofs.lemmas.List.{drop-take, drop-drop, take-take}
@@ -28,6 +27,6 @@ take-over_front (w ∷ ws) (x ∷ xs) (suc m) = ap (λ ys. w ∷ ys) (take-over_
 -- writing over the front of a list, and then taking that front
 pub refill-front : (m : ℕ) (xs ws : List ℕ) → m ≤ length xs → take m (refill (length xs) xs ws) ≡ refill (length (take m xs)) (take m xs) ws
 refill-front m xs ws le =
-    let count : length (take m xs) ≡ m = grind (arith, common_steps) in
+    let count : length (take m xs) ≡ m = length-take-le m xs le in
     let short : take m (refill (length xs) xs ws) ≡ take m (ws ++ drop (length ws) xs) = take-take m (length xs) (ws ++ drop (length ws) xs) le in
     short ∙ take-over_front ws xs m ∙ ap (λ k. take k (ws ++ drop (length ws) (take m xs))) (sym count)

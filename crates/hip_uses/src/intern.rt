@@ -1,8 +1,7 @@
 //! Texts that have numbers: each different text is kept once, and the first has number 0.
 //!
 //! - [`words`]: the numbers of the words of a text.
-ghost use Rattle.std.specs.Prelude.{◌≡◌, ◌==◌, ◌≤◌, [], length, slice_get, Some};
-ghost use Rattle.std.specs.Prelude.{IfSome, MatchOption};
+ghost use Rattle.std.specs.Prelude.{◌≡◌, ◌==◌, ◌≤◌, [], length, slice_get, Some, IfSome, MatchOption};
 ghost use Rattle.hip_uses.specs.Number.{number_of};
 
 pub use crate::fault::InternFault;

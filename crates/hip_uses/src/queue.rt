@@ -1,8 +1,7 @@
 //! Queues of messages: what is published goes to each subscriber as a clone of one handle.
 #![tactic(auto, using(crate::proofs::Published::queues))]
 
-ghost use Rattle.std.specs.Prelude.{◌≡◌, ◌↔◌, ◌*◌, [], ◌∷◌, length, true, vec_len, All, Any};
-ghost use Rattle.std.specs.Prelude.{IfOk, IsErrOf, IsTrue, MatchBool, MatchOption, OnErr, OnOk};
+ghost use Rattle.std.specs.Prelude.{◌≡◌, ◌↔◌, ◌*◌, [], ◌∷◌, length, true, vec_len, All, Any, IfOk, IsErrOf, IsTrue, MatchBool, MatchOption, OnErr, OnOk};
 ghost use Rattle.std.specs.Bool.{OnFalse};
 ghost use Rattle.hipstr.specs.Meter.{RisesAtMost};
 ghost use Rattle.hip_uses.specs.Waiting.{HasRoom, IsFull, all_with, with_message};

@@ -3,8 +3,7 @@
 
 ghost use Rattle.std.specs.Prelude.{◌≡◌, ◌∷◌, All, IfErr, IfOk, MatchOption, length};
 ghost use Rattle.hip_fields.specs.Records.{records_of};
-ghost use Rattle.hip_uses.specs.Cells.{HasCell, HasCellAt, HasNoCell, HasNoCellAt};
-ghost use Rattle.hip_uses.specs.Cells.{IsFirstAt, IsNoColumn, ReadFails};
+ghost use Rattle.hip_uses.specs.Cells.{HasCell, HasCellAt, HasNoCell, HasNoCellAt, IsFirstAt, IsNoColumn, ReadFails};
 
 pub use crate::fault::TableFault;
 use hip_fields::reader::Records;

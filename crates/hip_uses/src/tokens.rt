@@ -1,6 +1,5 @@
 //! Tokens: a source is cut into the longest runs of one class, each a part of the source at its place.
-ghost use Rattle.std.specs.Prelude.{◌≡◌, ℕ, ◌↔◌, ◌*◌, ◌<◌, ◌≤◌, length, slice_index, true};
-ghost use Rattle.std.specs.Prelude.{All, IfOk, IsTrue};
+ghost use Rattle.std.specs.Prelude.{◌≡◌, ℕ, ◌↔◌, ◌*◌, ◌<◌, ◌≤◌, length, slice_index, true, All, IfOk, IsTrue};
 ghost use Rattle.std.specs.List.{flat_map};
 ghost use Rattle.std.specs.Str.{IsCharBoundary};
 ghost use Rattle.hipstr.specs.Meter.{RisesAtMost};

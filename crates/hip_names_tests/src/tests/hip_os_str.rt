@@ -1,9 +1,10 @@
 //! The tests' calls of an OS string.
-use super::handle::Handle;
+use super::handle::{Handle, Json};
 use super::name::{Name, OsStr};
 use super::support::kind_of;
 use hip_bytes::RefMut;
-use hip_names::{Backend, HipByt, HipOsStr, HipPath, Kind};
+use hip_names::{Backend, HipByt, HipOsStr, HipPath, JsonFault, Kind};
+use serde_json::Value;
 use std::alloc::{AllocError, Global};
 use std::borrow::CowSlice;
 use std::cmp::Ordering;
@@ -19,6 +20,16 @@ impl<B: Backend> Handle for HipOsStr<'static, B> {
 
     fn kind(&self) -> Option<Kind> {
         kind_of(self.is_inline(), self.is_borrowed(), self.is_allocated())
+    }
+}
+
+impl<B: Backend> Json for HipOsStr<'static, B> {
+    fn to_json(&self, alloc: Global) -> Result<Value, JsonFault> {
+        self.to_json(alloc).or(Err(JsonFault::Memory))
+    }
+
+    fn from_json(alloc: Global, value: &Value) -> Result<Self, JsonFault> {
+        HipOsStr::from_json(alloc, value)
     }
 }
 

@@ -18,6 +18,14 @@ pub(crate) fn must<T, E: Drop>(rt: &impl Abort, outcome: Result<T, E>) -> T {
     }
 }
 
+/// The error of a refused call. A call that wasn't refused ends the test.
+pub(crate) fn must_refuse<T: Drop, E>(rt: &impl Abort, outcome: Result<T, E>) -> E {
+    match outcome {
+        Ok(_) => panic!(rt; "a call wasn't refused"),
+        Err(error) => error,
+    }
+}
+
 /// How two keys stand to each other, each way round, and whether they are equal.
 pub(crate) fn compared<K: Ord>(left: &K, right: &K) -> (Ordering, Ordering, bool) {
     (left.cmp(right), right.cmp(left), left == right)
@@ -31,6 +39,15 @@ pub(crate) fn are_equal<V: Eq>(left: &V, right: &V) -> bool {
 /// A value as `Debug` shows it.
 pub(crate) fn text_of<T: fmt::Debug>(alloc: Global, value: &T) -> Result<String, AllocError> {
     format!(in alloc; "{value:?}")
+}
+
+/// Where so many bytes lie that were copied.
+pub(crate) fn kind_of_copy(len: usize) -> Option<Kind> {
+    if len > 23 {
+        Some(Kind::Allocated)
+    } else {
+        Some(Kind::Inline)
+    }
 }
 
 /// The kind that is told by three answers, where just one is true.

@@ -1,8 +1,7 @@
 //! Texts that get numbers.
 #![tactic(auto, using(crate::proofs::Interned::pushes))]
 
-ghost use Rattle.std.specs.Prelude.{◌≡◌, ◌≤◌, ◌^◌, [], ◌∷◌, ◌++◌, length, true, None, Some};
-ghost use Rattle.std.specs.Prelude.{IfOk, IsErrOf, IsOk, IsSome, OnErr, OnOk, slice_range};
+ghost use Rattle.std.specs.Prelude.{◌≡◌, ◌≤◌, ◌^◌, [], ◌∷◌, ◌++◌, length, true, None, Some, IfOk, IsErrOf, IsOk, IsSome, OnErr, OnOk, slice_range};
 ghost use Rattle.hipstr.specs.Occurrence.{IsCut};
 ghost use Rattle.hipstr.specs.Meter.{RisesAtMost};
 ghost use Rattle.hip_uses.specs.Number.{interned, number_of};

@@ -2,8 +2,7 @@
 ghost use Rattle.std.specs.Prelude.{◌≡◌, ◌++◌, IfErr, IfOk};
 ghost use Rattle.std.specs.Option.{option_map};
 ghost use Rattle.hip_uses.specs.Number.{text_bytes};
-ghost use Rattle.hip_uses.specs.Template.{AllKnown, all_shown, filled, value_of, woven};
-ghost use Rattle.hip_uses.specs.Template.{FillFails, IsUnknown};
+ghost use Rattle.hip_uses.specs.Template.{AllKnown, all_shown, filled, value_of, woven, FillFails, IsUnknown};
 
 use crate::template::values::Values;
 use crate::template::{Hole, Template, TemplateFault};

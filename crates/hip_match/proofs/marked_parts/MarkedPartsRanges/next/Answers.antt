@@ -1,4 +1,4 @@
-use Rattle.std.proofs.Common.{ℕ, ◌+◌, Option, Some, None, length, subst, arith}
+use Rattle.std.proofs.Common.{true≢false, ℕ, ◌+◌, Option, Some, None, length, subst, arith, refl}
 use Rattle.memchr.specs.Find.{IsFirst, Passes}
 use Rattle.hip_match.specs.Marks.{Ahead}
 use Rattle.hip_match.proofs.GapLemmas.{first_cut, first_part, only_ahead}
@@ -6,24 +6,19 @@ use Rattle.std.proofs.lemmas.Option.{none-some, same_Some}
 use Rattle.hip_match.proofs.marked_parts.MarkedPartsRanges.next.Goals as goal
 use Rattle.hip_match.proofs.marked_parts.MarkedPartsRanges.next.Goals.{in_default-via-in-Some+else-at-self, in_default-via-in_default}
 
-pub returns-in-Some-clause-first : goal.returns-in-Some-clause-first
-returns-in-Some-clause-first g c =
-    let p = g.T.ByteTest.passes c.args.self.now.marks.test in
-    let was = c.requires in
-    let found = subst (λ l. IsFirst (Passes p l) c.args.self.now.from (length l) (Some c.in-Some.at)) c.as_bytes.ensures.value c.in-Some.ensures.found in
-    rw c.if-self.false (first_part p was.1 _ _ _ was.0 c.in-Some.at found c.if-at-self.true)
-
-pub returns-in-Some-clause-ready : goal.returns-in-Some-clause-ready
-returns-in-Some-clause-ready g c =
+pub returns-in-Some : goal.returns-in-Some
+returns-in-Some g c =
     let p = g.T.ByteTest.passes c.args.self.now.marks.test in
     let was = c.requires in
     let at = c.in-Some.at in
     let found = subst (λ l. IsFirst (Passes p l) c.args.self.now.from (length l) (Some at)) c.as_bytes.ensures.value c.in-Some.ensures.found in
-    let ahead = subst (λ l. Ahead p l (at + 1) c.next.new.self.next c.next.new.self.bits) c.as_bytes.ensures.value c.in-Some.ensures.ahead in (
-      record { utf8 = was.0.utf8; start = (first_cut p was.1 _ _ _ was.0 at found).end; end = was.0.end; ordered = omega (arith, c.if-at-self.true) },
-      was.1,
-      λ going. (ahead, (was.2 c.if-self.false).1),
-    )
+    let cut = first_cut p was.1 _ _ _ was.0 at found in
+    let ahead = subst (λ l. Ahead p l (at + 1) c.next.new.self.next c.next.new.self.bits) c.as_bytes.ensures.value c.in-Some.ensures.ahead in
+    record {
+      first = rw c.if-self.false (first_part p was.1 _ _ _ was.0 at found c.if-at-self.true);
+      cut = record { start = was.0.start; end = cut.start; ordered = found.0.low }; text = refl;
+      ready = (record { utf8 = was.0.utf8; start = cut.end; end = was.0.end; ordered = omega (arith, c.if-at-self.true) }, was.1, λ going. (ahead, (was.2 c.if-self.false).1));
+    }
 
 pub returns-in_default-clause-first : goal.returns-in_default-clause-first
 returns-in_default-clause-first g c =
@@ -38,3 +33,6 @@ returns-in_default-clause-first g c =
 
 pub next-requires : goal.next-requires
 next-requires g c = rw c.as_bytes.ensures.value (c.requires.2 c.if-self.false).0
+
+pub returns-in_default-clause-ready : goal.returns-in_default-clause-ready
+returns-in_default-clause-ready g c = (c.requires.0, c.requires.1, λ going. absurd (true≢false going))

@@ -1,23 +1,24 @@
-use Rattle.std.proofs.Common.{ℕ, Option, Some, None, subst, arith}
+use Rattle.std.proofs.Common.{true≢false, ℕ, Option, Some, None, subst, arith, refl}
 use Rattle.memchr.specs.Find.{IsLast, Passes}
+use Rattle.hip_match.specs.Marks.{Behind}
 use Rattle.hip_match.proofs.GapLemmas.{last_cut, last_part, only_behind}
 use Rattle.std.proofs.lemmas.Option.{none-some, same_Some}
 use Rattle.hip_match.proofs.marked_parts.MarkedPartsRangesBack.next_back.Goals as goal
 use Rattle.hip_match.proofs.marked_parts.MarkedPartsRangesBack.next_back.Goals.{in_default-via-in-Some+else-self-at, in_default-via-in_default}
 
-pub returns-in-Some-clause-last : goal.returns-in-Some-clause-last
-returns-in-Some-clause-last g c =
+pub returns-in-Some : goal.returns-in-Some
+returns-in-Some g c =
     let p = g.T.ByteTest.passes c.args.self.now.marks.test in
     let was = c.requires in
-    let found = subst (λ l. IsLast (Passes p l) 0 c.args.self.now.to (Some c.in-Some.at)) c.as_bytes.ensures.value c.in-Some.ensures.found in
-    rw c.if-self.false (last_part p was.1 _ _ _ was.0 c.in-Some.at found c.if-self-at.true)
-
-pub returns-in-Some-clause-cut : goal.returns-in-Some-clause-cut
-returns-in-Some-clause-cut g c =
-    let p = g.T.ByteTest.passes c.args.self.now.marks.test in
-    let was = c.requires in
-    let found = subst (λ l. IsLast (Passes p l) 0 c.args.self.now.to (Some c.in-Some.at)) c.as_bytes.ensures.value c.in-Some.ensures.found in
-    record { start = (last_cut p was.1 _ _ _ was.0 c.in-Some.at found).end; end = was.0.end; ordered = (let high = found.0.high in omega arith) }
+    let at = c.in-Some.at in
+    let found = subst (λ l. IsLast (Passes p l) 0 c.args.self.now.to (Some at)) c.as_bytes.ensures.value c.in-Some.ensures.found in
+    let cut = last_cut p was.1 _ _ _ was.0 at found in
+    let behind = subst (λ l. Behind p l at c.last.new.self.start c.last.new.self.bits) c.as_bytes.ensures.value c.in-Some.ensures.behind in
+    record {
+      last = rw c.if-self.false (last_part p was.1 _ _ _ was.0 at found c.if-self-at.true);
+      cut = record { start = cut.end; end = was.0.end; ordered = (let high = found.0.high in omega arith) }; text = refl;
+      ready = (record { utf8 = was.0.utf8; start = was.0.start; end = cut.start; ordered = c.if-self-at.true }, was.1, λ going. ((was.2 c.if-self.false).0, behind));
+    }
 
 pub returns-in_default-clause-last : goal.returns-in_default-clause-last
 returns-in_default-clause-last g c =
@@ -32,3 +33,6 @@ returns-in_default-clause-last g c =
 
 pub last-requires : goal.last-requires
 last-requires g c = rw c.as_bytes.ensures.value (c.requires.2 c.if-self.false).1
+
+pub returns-in_default-clause-ready : goal.returns-in_default-clause-ready
+returns-in_default-clause-ready g c = (c.requires.0, c.requires.1, λ going. absurd (true≢false going))
