@@ -16,7 +16,8 @@ returns-in-Some g c =
     let ahead = subst (λ l. Ahead p l (at + 1) c.next.new.self.next c.next.new.self.bits) c.as_bytes.ensures.value c.in-Some.ensures.ahead in
     record {
       first = rw c.if-self.false (first_part p was.1 _ _ _ was.0 at found c.if-at-self.true);
-      cut = record { start = was.0.start; end = cut.start; ordered = found.0.low }; text = refl;
+      cut = record { start = was.0.start; end = cut.start; ordered = found.0.low };
+      text = refl;
       ready = (record { utf8 = was.0.utf8; start = cut.end; end = was.0.end; ordered = omega (arith, c.if-at-self.true) }, was.1, λ going. (ahead, (was.2 c.if-self.false).1));
     }
 

@@ -16,7 +16,8 @@ returns-in-Some g c =
     let behind = subst (λ l. Behind p l at c.last.new.self.start c.last.new.self.bits) c.as_bytes.ensures.value c.in-Some.ensures.behind in
     record {
       last = rw c.if-self.false (last_part p was.1 _ _ _ was.0 at found c.if-self-at.true);
-      cut = record { start = cut.end; end = was.0.end; ordered = (let high = found.0.high in omega arith) }; text = refl;
+      cut = record { start = cut.end; end = was.0.end; ordered = (let high = found.0.high in omega arith) };
+      text = refl;
       ready = (record { utf8 = was.0.utf8; start = was.0.start; end = cut.start; ordered = c.if-self-at.true }, was.1, λ going. ((was.2 c.if-self.false).0, behind));
     }
 

@@ -17,7 +17,8 @@ returns-then-start-end g c =
     let lt = c.if-start-end.true in
     record {
       first = rw c.if-self.false (leftmost_between-some _ _ _ _ _ _ c.in-Some.ensures.found c.if-end-self.true lt (le_refl _) (omega arith) (le_of_lt lt) (λ k lo mid hi. absurd (lt_irrefl _ (lt_of_le_of_lt mid hi))));
-      cut = here; text = refl;
+      cut = here;
+      text = refl;
       ready = record {
         searchable = (c.requires.searchable.0, λ going. (c.in-Some.ensures.front _ (le_refl _, λ some. refl), c.in-Some.ensures.back _ (c.requires.searchable.1 c.if-self.false).1));
         window = record { utf8 = c.requires.window.utf8; start = here.end; end = c.requires.window.end; ordered = c.if-end-self.true };
@@ -34,7 +35,8 @@ returns-then-end-self-2 g c =
     record {
       first = rw c.if-self.false (leftmost_between-some _ _ _ _ _ _ c.in-Some.ensures.found c.if-end-self.true past (le_of_lt next.after) (not_past _ _ _ _ next c.if-end-self-2.true c.requires.window.end) here.ordered
           (λ k lo mid hi. none_off_boundary _ _ spans k (next.none k (omega (arith, c.if-start-end.false, lo)) hi)));
-      cut = here; text = refl;
+      cut = here;
+      text = refl;
       ready = record {
         searchable = (c.requires.searchable.0, λ going. (c.in-Some.ensures.front _ (le_of_lt next.after, λ some. absurd (lt_irrefl _ (lt_of_lt_of_le some c.if-start-end.false))), c.in-Some.ensures.back _ (c.requires.searchable.1 c.if-self.false).1));
         window = record { utf8 = c.requires.window.utf8; start = next.boundary; end = c.requires.window.end; ordered = ⊎_elim (λ lt. absurd (next.none _ c.if-end-self-2.true lt c.requires.window.end)) (λ ge. ge) (cases_lt c.args.self.now.to c.boundary_after-self.result) };
@@ -47,7 +49,8 @@ returns-else-end-self-2 g c =
     let here = g.met.P.Pattern.spans _ _ _ _ c.requires.window.utf8 c.in-Some.ensures.found.occurs in
     record {
       first = rw c.if-self.false (leftmost_between-last _ _ _ _ _ c.in-Some.ensures.found c.if-end-self.true (omega (arith, here.ordered)) (omega arith));
-      cut = here; text = refl;
+      cut = here;
+      text = refl;
       ready = record { searchable = (c.requires.searchable.0, λ going. absurd (true≢false going)); window = c.requires.window; whole = c.requires.whole };
     }
 
@@ -58,6 +61,7 @@ returns-in_default g c =
         | in_default-via-in-Some+else-end-self w ↦ (rw c.if-self.false (leftmost_between-past _ _ _ _ _ w.in-Some.ensures.found w.if-end-self.false c.requires.whole (λ k m is. (g.met.P.Pattern.spans _ _ _ _ c.requires.window.utf8 is).ordered)), refl)
         | in_default-via-in_default w ↦ (rw c.if-self.false (leftmost_between-none _ _ _ w.in_default.ensures.found), refl)
       ];
-      cut = _; text = refl;
+      cut = _;
+      text = refl;
       ready = record { searchable = (c.requires.searchable.0, λ going. absurd (true≢false going)); window = c.requires.window; whole = c.requires.whole };
     }

@@ -17,7 +17,8 @@ returns-then-start-end g c =
     record {
       first = rw c.if-self.false (rightmost_between-some _ _ _ (λ k m is. (spans k m is).ordered) (λ a b m. g.met.P.ReversePattern.one_start _ _ a b m c.requires.window.utf8)
           _ _ c.in-Some.ensures.found c.if-self-start.true _ c.if-start-end.true (le_refl _) (λ k m is lo mid hi. absurd (lt_irrefl _ (lt_of_le_of_lt mid lo))));
-      cut = here; text = refl;
+      cut = here;
+      text = refl;
       ready = record {
         searchable = (c.requires.searchable.0, λ going. (c.in-Some.ensures.front _ (c.requires.searchable.1 c.if-self.false).0, c.in-Some.ensures.back _ (le_refl _, λ some. refl)));
         window = record { utf8 = c.requires.window.utf8; start = c.requires.window.start; end = here.start; ordered = c.if-self-start.true };
@@ -34,7 +35,8 @@ returns-then-self-start-2 g c =
       first = rw c.if-self.false (rightmost_between-some _ _ _ (λ k m is. (spans k m is).ordered) (λ a b m. g.met.P.ReversePattern.one_start _ _ a b m c.requires.window.utf8)
           _ _ c.in-Some.ensures.found c.if-self-start.true _ (lt_of_lt_of_le prev.before here.ordered) (le_of_lt prev.before)
           (λ k m is lo mid hi. prev.none m lo (omega (arith, c.if-start-end.false, hi)) (spans k m is).end));
-      cut = here; text = refl;
+      cut = here;
+      text = refl;
       ready = record {
         searchable = (c.requires.searchable.0, λ going. (c.in-Some.ensures.front _ (c.requires.searchable.1 c.if-self.false).0, c.in-Some.ensures.back _ (le_of_lt prev.before, λ some. absurd (lt_irrefl _ (lt_of_lt_of_le some c.if-start-end.false)))));
         window = record { utf8 = c.requires.window.utf8; start = c.requires.window.start; end = prev.boundary; ordered = ⊎_elim (λ lt. absurd (prev.none _ lt c.if-self-start-2.true c.requires.window.start)) (λ ge. ge) (cases_lt c.boundary_before-self.result c.args.self.now.from) };
@@ -49,7 +51,8 @@ returns-else-self-start-2 g c =
     record {
       first = rw c.if-self.false (rightmost_between-last _ _ _ (λ k m is. (spans k m is).ordered) (λ a b m. g.met.P.ReversePattern.one_start _ _ a b m c.requires.window.utf8)
           _ _ c.in-Some.ensures.found (omega (arith, here.ordered)) (omega arith));
-      cut = here; text = refl;
+      cut = here;
+      text = refl;
       ready = record { searchable = (c.requires.searchable.0, λ going. absurd (true≢false going)); window = c.requires.window; whole = c.requires.whole };
     }
 
@@ -65,6 +68,7 @@ returns-in_default g c =
         )
         | in_default-via-in_default w ↦ (rw c.if-self.false (rightmost_between-none _ _ _ (λ k m is. (spans k m is).ordered) (λ a b m. g.met.P.ReversePattern.one_start _ _ a b m c.requires.window.utf8) w.in_default.ensures.found), refl)
       ];
-      cut = _; text = refl;
+      cut = _;
+      text = refl;
       ready = record { searchable = (c.requires.searchable.0, λ going. absurd (true≢false going)); window = c.requires.window; whole = c.requires.whole };
     }

@@ -13,7 +13,8 @@ returns-in-Some g c =
     let one = one_chars _ _ (λ a b. g.met.P.Pattern.spans _ _ a b utf8) (λ a b. g.met.P.OneChar.one_char _ _ a b utf8) in
     record {
       last = rw c.if-self.false (front_match _ _ one _ _ c.requires.window _ _ c.in-Some.ensures.found c.if-end-self.true);
-      cut = here; text = refl;
+      cut = here;
+      text = refl;
       ready = record {
         searchable = (c.requires.searchable.0, λ going. (c.in-Some.ensures.front _ (le_refl _, λ some. refl), c.in-Some.ensures.back _ (c.requires.searchable.1 c.if-self.false).1));
         window = record { utf8 = utf8; start = here.end; end = c.requires.window.end; ordered = c.if-end-self.true };
@@ -30,6 +31,7 @@ returns-in_default g c =
         | in_default-via-in-Some+else-end-self w ↦ (rw c.if-self.false (front_past _ _ one _ _ c.requires.window _ _ w.in-Some.ensures.found w.if-end-self.false), refl)
         | in_default-via-in_default w ↦ (rw c.if-self.false (front_none _ _ one _ _ c.requires.window w.in_default.ensures.found), refl)
       ];
-      cut = _; text = refl;
+      cut = _;
+      text = refl;
       ready = record { searchable = (c.requires.searchable.0, λ going. absurd (true≢false going)); window = c.requires.window; whole = c.requires.whole };
     }
