@@ -64,8 +64,7 @@ module _ (p : ℕ → Bool) (t : List ℕ) (utf8 : IsUtf8 t) where
   char_before-yes to r h passes = grind (arith, char_at-starts, char_ends-yes)
 
   pub char_before-no : (to : ℕ) (r : ℕ × ℕ) → IsCharBefore t to r → p r.0 ≡ false → start_of (char_ends p t) to ≡ None
-  char_before-no to r h fails =
-      start_of-none to (λ a is. grind (arith, last_step to to r h fails))
+  char_before-no to r h fails = start_of-none to (λ a is. grind (arith, last_step to to r h fails))
 
   pub start_of-zero : (to : ℕ) → to ≡ 0 → start_of (char_ends p t) to ≡ None
   start_of-zero to zero = start_of-none to (λ a is. grind (arith, char_ends-one_char))

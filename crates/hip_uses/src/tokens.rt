@@ -97,8 +97,7 @@ fn next_end(text: &str, start: usize, class: Class, turns: &mut Turns) -> usize
     }
 }
 
-/// The tokens of a source. Where owners are shared, each copies at most the 23 bytes that a handle
-/// holds in itself.
+/// The tokens of a source. Where owners are shared, each copies at most the 23 bytes that a handle holds in itself.
 pub fn tokens<'b, B: Backend>(
     alloc: Global,
     source: &HipStr<'b, B>,

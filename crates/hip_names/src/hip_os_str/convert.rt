@@ -21,8 +21,7 @@ impl<'b, B: Backend> HipOsStr<'b, B> {
         self.bytes
     }
 
-    /// The bytes in a vector, where that takes no copy: they lie with an owner that no other handle shares. Any other value is handed
-    /// back.
+    /// The bytes in a vector, where that takes no copy: they lie with an owner that no other handle shares. Any other value is handed back.
     #[inline]
     pub fn into_os_string(self, alloc: Global) -> Result<Vec<u8>, Self>
         ensures items { IfOk result (λ vec. vec.items ≡ self.entry.items) }

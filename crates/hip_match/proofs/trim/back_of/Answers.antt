@@ -29,6 +29,5 @@ returns-then-start-to-clause-back g c =
 
 pub returns-in_default-clause-back : goal.returns-in_default-clause-back
 returns-in_default-clause-back g c =
-    let utf8 = c.utf8.text in
-    TrimsBack-stuck _ _ _ _ (λ a b d. g.met.P.ReversePattern.one_start _ _ a b d utf8) c.loop-start.invariant.1 c.loop-start.invariant.2
-    (λ a is low. absurd (none-some a (c.in_default.ensures ∙ start_of-one _ _ a (λ b d k. g.met.P.ReversePattern.one_start _ _ b d k utf8) (λ k m h. (g.met.P.Pattern.spans _ _ k m utf8 h).ordered) is)))
+    TrimsBack-stuck _ _ _ _ (λ a b d. g.met.P.ReversePattern.one_start _ _ a b d c.utf8.text) c.loop-start.invariant.1 c.loop-start.invariant.2
+    (λ a is low. absurd (none-some a (c.in_default.ensures ∙ start_of-one _ _ a (λ b d k. g.met.P.ReversePattern.one_start _ _ b d k c.utf8.text) (λ k m h. (g.met.P.Pattern.spans _ _ k m c.utf8.text h).ordered) is)))

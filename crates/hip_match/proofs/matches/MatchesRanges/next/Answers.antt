@@ -14,9 +14,8 @@ boundary_after-self-requires g c = lt_of_lt_of_le c.if-end-self-2.true c.require
 pub returns-then-start-end : goal.returns-then-start-end
 returns-then-start-end g c =
     let here = g.met.P.Pattern.spans _ _ _ _ c.requires.window.utf8 c.in-Some.ensures.found.occurs in
-    let lt = c.if-start-end.true in
     record {
-      first = rw c.if-self.false (leftmost_between-some _ _ _ _ _ _ c.in-Some.ensures.found c.if-end-self.true lt (le_refl _) (omega arith) (le_of_lt lt) (λ k lo mid hi. absurd (lt_irrefl _ (lt_of_le_of_lt mid hi))));
+      first = rw c.if-self.false (leftmost_between-some _ _ _ _ _ _ c.in-Some.ensures.found c.if-end-self.true c.if-start-end.true (le_refl _) (omega arith) (le_of_lt c.if-start-end.true) (λ k lo mid hi. absurd (lt_irrefl _ (lt_of_le_of_lt mid hi))));
       cut = here;
       text = refl;
       ready = record {
@@ -31,9 +30,8 @@ returns-then-end-self-2 g c =
     let spans = λ (a b : ℕ). g.met.P.Pattern.spans c.args.self.now.pattern c.args.self.now.text.now a b c.requires.window.utf8 in
     let here = spans _ _ c.in-Some.ensures.found.occurs in
     let next = c.boundary_after-self.ensures in
-    let past = lt_of_le_of_lt here.ordered next.after in
     record {
-      first = rw c.if-self.false (leftmost_between-some _ _ _ _ _ _ c.in-Some.ensures.found c.if-end-self.true past (le_of_lt next.after) (not_past _ _ _ _ next c.if-end-self-2.true c.requires.window.end) here.ordered
+      first = rw c.if-self.false (leftmost_between-some _ _ _ _ _ _ c.in-Some.ensures.found c.if-end-self.true (lt_of_le_of_lt here.ordered next.after) (le_of_lt next.after) (not_past _ _ _ _ next c.if-end-self-2.true c.requires.window.end) here.ordered
           (λ k lo mid hi. none_off_boundary _ _ spans k (next.none k (omega (arith, c.if-start-end.false, lo)) hi)));
       cut = here;
       text = refl;

@@ -10,8 +10,7 @@ returns-then-self-2-clause-ready g c =
 pub returns-else-self-2-clause-last : goal.returns-else-self-2-clause-last
 returns-else-self-2-clause-last g c =
     let taken = c.in-None.ensures.taken.list _ c.requires.1.in_order in
-    let low = InOrder-le _ _ _ c.requires.1.in_order in
-    (rw c.if-self.false (taken.0 ∙ ended-nil _ _ low c.if-self-2.false), refl)
+    (rw c.if-self.false (taken.0 ∙ ended-nil _ _ (InOrder-le _ _ _ c.requires.1.in_order) c.if-self-2.false), refl)
 
 pub returns-else-self-2-clause-ready : goal.returns-else-self-2-clause-ready
 returns-else-self-2-clause-ready g c =

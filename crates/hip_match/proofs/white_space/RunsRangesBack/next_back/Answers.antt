@@ -7,5 +7,4 @@ returns-then-start-end-clause-last g c = c.loop-start.invariant.2 ∙ nonempty-a
 
 pub loop-start-preserved : goal.loop-start-preserved
 loop-start-preserved g c =
-    let inv = c.loop-start.invariant in
-    (c.in-Some.ensures.ready, c.in-Some.ensures.text ∙ inv.1, inv.2 ∙ nonempty-append_dropped _ _ _ c.in-Some.ensures.last c.if-start-end.false)
+    (c.in-Some.ensures.ready, c.in-Some.ensures.text ∙ c.loop-start.invariant.1, c.loop-start.invariant.2 ∙ nonempty-append_dropped _ _ _ c.in-Some.ensures.last c.if-start-end.false)
