@@ -5,3 +5,4 @@ pub mod JsonItems
 pub mod Pushes
 pub mod Repeats
 pub mod Slices
+pub mod Writes

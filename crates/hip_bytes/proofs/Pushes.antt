@@ -27,7 +27,7 @@ nothing shares h [] m none = (
 )
 nothing shares h (y ∷ ys) m none = absurd (omega arith)
 
-all_copied : (shares : Bool) (n : ℕ) → n ≤ times_copied shares n
+pub all_copied : (shares : Bool) (n : ℕ) → n ≤ times_copied shares n
 all_copied true n = le_refl n
 all_copied false n = omega arith
 
