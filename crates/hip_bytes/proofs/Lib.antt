@@ -1,3 +1,4 @@
+pub mod Clones
 pub mod Costs
 pub mod Forms
 pub mod Joins
