@@ -3,6 +3,7 @@ pub mod Costs
 pub mod Forms
 pub mod Joins
 pub mod JsonItems
+pub mod Parts
 pub mod Pushes
 pub mod Repeats
 pub mod Slices
