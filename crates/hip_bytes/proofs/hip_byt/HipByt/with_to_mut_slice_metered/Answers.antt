@@ -1,4 +1,5 @@
 use Rattle.std.proofs.Common.{◌≡◌, ◌∙◌, ◌<◌, ◌≤◌, length, ap, sym, subst, subst₂, rules, arith}
+use Rattle.std.proofs.lemmas.Bool.{false≢true, true_from_ne_false}
 use Rattle.std.proofs.lemmas.Result.{IfOk-from_err}
 use Rattle.std.specs.Fn.{FnOnceReturnsAtMut}
 use Rattle.hip_raw.specs.Meter.{RisesAtMost, times_copied}
@@ -6,12 +7,14 @@ use Rattle.hip_raw.proofs.Handles.{if_err}
 use Rattle.hip_bytes.specs.Cost.{write_cost, WriteNeedsMemory}
 use Rattle.std.specs.List.{refill}
 use Rattle.hip_bytes.specs.Handle.{Handle}
+use Rattle.hip_bytes.specs.Kinds.{HasCapacity, owned_kind}
 use Rattle.hip_bytes.specs.Repr.{handle_of}
 use Rattle.hip_bytes.specs.declared.kind.Kind.TheVariants.{Borrowed}
 use Rattle.hip_bytes.specs.declared.kind.TheConstants.{INLINE_CAPACITY}
+use Rattle.hip_bytes.proofs.Pushes.{owner_handle}
 use Rattle.hip_bytes.proofs.Writes.{Apart, Rewrites, copied_long, copied_short, in_handle, in_owner, may_fail, refill-whole, refused}
 use Rattle.hip_bytes.proofs.hip_byt.HipByt.with_to_mut_slice_metered.Goals as goal
-use Rattle.hip_bytes.proofs.hip_byt.HipByt.with_to_mut_slice_metered.Goals.{then-is_borrowed+then-len-le-INLINE_CAPACITY, else-is_borrowed+in_ok-repr, else-is_borrowed-via-then-is_borrowed+else-len-le-INLINE_CAPACITY, else-is_borrowed-via-else-is_borrowed}
+use Rattle.hip_bytes.proofs.hip_byt.HipByt.with_to_mut_slice_metered.Goals.{then-is_borrowed+then-len-le-INLINE_CAPACITY, else-is_borrowed+in_ok-repr, in-Borrowed, in-Allocated+in-Err}
 
 pub returns-in-Inline : goal.returns-in-Inline
 returns-in-Inline g c =
@@ -39,7 +42,7 @@ returns-in-Ok g c =
     let does = in_owner g.B.Backend.SHARES c.in-Allocated.allocated c.with_mut_slice.new.self c.args.self.now c.args.meter.now view wrote.fits wrote.capacity in
     record {
       ran = subst (λ xs. FnOnceReturnsAtMut g.F.FnOnce c.args.f xs c.in-Ok.answer c.with_mut_slice.new.self.items) items wrote.ran;
-      len = wrote.len ∙ ap length items;
+      len = subst (λ xs. length c.with_mut_slice.new.self.items ≡ length xs) items wrote.len;
       kind = does.0;
       capacity = does.1;
       kept = does.2;
@@ -51,16 +54,29 @@ returns-in-Ok g c =
 pub returns-in_err-repr : goal.returns-in_err-repr
 returns-in_err-repr g c =
     let mid = handle_of c.match-self.self-inside.bare.repr in
-    let same : mid ≡ c.args.self.now = search rules in
-    let apart : Apart g.B.Backend.SHARES mid.kind = search rules in
+    let found : (mid ≡ c.args.self.now) × Apart g.B.Backend.SHARES mid.kind × (c.match-self.f ≡ c.args.f) =
+    elim c.match-self.branch [
+      | in-Borrowed w ↦ (
+        ap (λ i. handle_of i.bare.repr) w.self-inside-is ∙ c.self.view_is,
+        subst (Apart g.B.Backend.SHARES) (sym (ap (λ i. (handle_of i.bare.repr).kind) w.self-inside-is ∙ ap (λ r. (handle_of r).kind) w.in-Borrowed.is)) tt,
+        w.f-is,
+      )
+      | in-Allocated+in-Err w ↦ (
+        ap (λ i. handle_of i.bare.repr) w.self-inside-is ∙ ap owner_handle w.in-Err.ensures.err ∙ ap handle_of (sym w.in-Allocated.is) ∙ c.self.view_is,
+        subst (Apart g.B.Backend.SHARES) (sym (ap (λ i. (handle_of i.bare.repr).kind) w.self-inside-is)) (true_from_ne_false _ (λ sole. false≢true (w.in-Err.ensures.sole sole))),
+        w.f-is ∙ w.in-Err.ensures.handed_back,
+      )
+    ] in
+    let same = found.0 in
+    let apart = found.1 in
     let long : (mid.kind ≡ Borrowed → INLINE_CAPACITY < length mid.items) = search rules in
     let counted = subst (λ xs. RisesAtMost c.args.meter.now c.written.new.meter (times_copied g.B.Backend.SHARES (length xs))) c.as_slice-else-is_borrowed.ensures.items c.written.ensures.counted in
     let err = c.from_residual.ensures.0 in
     record {
       ran = IfOk-from_err _ _ err;
       len = ap (λ (h : Handle). length h.items) same;
-      kind = IfOk-from_err _ _ err;
-      capacity = IfOk-from_err _ _ err;
+      kind = IfOk-from_err _ (λ _. mid.kind ≡ owned_kind c.args.self.now.kind (length c.args.self.now.items)) err;
+      capacity = IfOk-from_err _ (λ _. HasCapacity mid.kind (length mid.items) mid.capacity) err;
       kept = λ sole own. ap (λ (h : Handle). h.capacity) same;
       memory = if_err _ _ (subst (λ h. WriteNeedsMemory g.B.Backend.SHARES h.kind (length h.items)) same (may_fail g.B.Backend.SHARES mid.kind (length mid.items) apart long));
       counted = subst (λ h. RisesAtMost c.args.meter.now c.written.new.meter (write_cost g.B.Backend.SHARES h.kind (length h.items))) same (refused g.B.Backend.SHARES mid.kind (length mid.items) _ _ apart counted);
@@ -70,8 +86,22 @@ returns-in_err-repr g c =
 pub returns : goal.returns
 returns g c =
     let mid = handle_of c.match-self.self-inside.bare.repr in
-    let same : mid ≡ c.args.self.now = search rules in
-    let still : c.match-self.f ≡ c.args.f = search rules in
+    let found : (mid ≡ c.args.self.now) × Apart g.B.Backend.SHARES mid.kind × (c.match-self.f ≡ c.args.f) =
+    elim c.match-self.branch [
+      | in-Borrowed w ↦ (
+        ap (λ i. handle_of i.bare.repr) w.self-inside-is ∙ c.self.view_is,
+        subst (Apart g.B.Backend.SHARES) (sym (ap (λ i. (handle_of i.bare.repr).kind) w.self-inside-is ∙ ap (λ r. (handle_of r).kind) w.in-Borrowed.is)) tt,
+        w.f-is,
+      )
+      | in-Allocated+in-Err w ↦ (
+        ap (λ i. handle_of i.bare.repr) w.self-inside-is ∙ ap owner_handle w.in-Err.ensures.err ∙ ap handle_of (sym w.in-Allocated.is) ∙ c.self.view_is,
+        subst (Apart g.B.Backend.SHARES) (sym (ap (λ i. (handle_of i.bare.repr).kind) w.self-inside-is)) (true_from_ne_false _ (λ sole. false≢true (w.in-Err.ensures.sole sole))),
+        w.f-is ∙ w.in-Err.ensures.handed_back,
+      )
+    ] in
+    let same = found.0 in
+    let apart = found.1 in
+    let still = found.2 in
     let new = handle_of c.if-is_borrowed.repr.0 in
     elim c.if-is_borrowed.branch [
       | then-is_borrowed+then-len-le-INLINE_CAPACITY w ↦
@@ -99,7 +129,6 @@ returns g c =
           }
       | else-is_borrowed+in_ok-repr w ↦
           let long : (mid.kind ≡ Borrowed → INLINE_CAPACITY < length mid.items) = search rules in
-          let apart : Apart g.B.Backend.SHARES mid.kind = search rules in
           let wrote = w.in_ok-repr.ensures in
           let made = handle_of w.in_ok-repr.repr in
           let items = w.as_slice-else-is_borrowed.ensures.items in
