@@ -1,5 +1,6 @@
 pub mod Costs
 pub mod Forms
+pub mod GatherLemmas
 pub mod Joins
 pub mod JsonItems
 pub mod Repeats
