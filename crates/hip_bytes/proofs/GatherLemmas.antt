@@ -1,5 +1,5 @@
 -- Bytes that are added to a list that is being made.
-use Rattle.std.proofs.Common.{◌≡◌, ◌∙◌, ℕ, ◌+◌, ◌-◌, ◌^◌, ◌<◌, ◌≤◌, true, false, List, ◌++◌, length, nat_le, Option, Some, None, Result, Ok, Err, IfOk, OnOk, if◌then◌else◌, Bool, Vec, Global, ap, ap₂, sym, length-append, arith}
+use Rattle.std.proofs.Common.{◌≡◌, ◌∙◌, ℕ, ◌+◌, ◌-◌, ◌*◌, ◌^◌, ◌<◌, ◌≤◌, true, false, List, [], ◌++◌, length, nat_le, Option, Some, None, Result, Ok, Err, IfOk, OnOk, if◌then◌else◌, Bool, Vec, Global, ap, ap₂, sym, length-append, arith}
 use Rattle.std.specs.Option.{SomeIff, is_some}
 use Rattle.std.specs.Result.{IsErrAnd}
 use Rattle.std.proofs.lemmas.Bool.{le-leb, lt-leb}
@@ -115,3 +115,18 @@ pub filled_by : (vec : Vec ℕ Global) (xs ys front back : List ℕ) (len : ℕ)
 filled_by vec xs ys front back len front_is back_is same sum =
     let both = ap₂ (λ us ws. us ++ ws) front_is back_is in
     with_items_is vec (xs ++ ys) (ap length both ∙ length-append front back ∙ sym (same ∙ sum)) ∙ both
+
+pub none_copied : (a b : ℕ) (xs : List ℕ) → xs ≡ [] → a ≤ b → RisesAtLeast a b (length xs)
+none_copied a b xs none more = omega (arith, ap length none)
+
+pub counted_more : (a b m n : ℕ) → RisesAtMost a b m → m ≤ n → RisesAtMost a b n
+counted_more a b m n rises more = record { never_falls = rises.never_falls; at_most = omega arith }
+
+pub once_more : (m n : ℕ) → m ≤ m + n
+once_more m n = omega arith
+
+pub half_of_twice : (m : ℕ) → m ≤ 2 * m
+half_of_twice m = omega arith
+
+pub at_most_twice : (m n : ℕ) → n ≤ m → m + n ≤ 2 * m
+at_most_twice m n le = omega arith
