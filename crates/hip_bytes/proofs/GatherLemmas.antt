@@ -76,6 +76,9 @@ pub over : (xs gap bytes : List ℕ) (more len : ℕ) → more ≡ length gap + 
     → INLINE_CAPACITY < length xs + length gap + length bytes
 over xs gap bytes more len more_is len_is past = omega arith
 
+pub kind_beyond : (len : ℕ) → INLINE_CAPACITY < len → Allocated ≡ by_length len
+kind_beyond len long = sym (ap (λ fits. if fits then Inline else Allocated) (lt-leb len INLINE_CAPACITY long))
+
 -- two slices one behind the other, in a handle of their own
 module _ (front back : List ℕ) (len : ℕ) (sum : len ≡ length front + length back) where
   pub short_kind : len ≤ INLINE_CAPACITY → Inline ≡ by_length (length front + length back)
@@ -86,7 +89,7 @@ module _ (front back : List ℕ) (len : ℕ) (sum : len ≡ length front + lengt
     needs_memory = omega arith
 
     pub long_kind : Allocated ≡ by_length (length front + length back)
-    long_kind = sym (ap (λ fits. if fits then Inline else Allocated) (lt-leb (length front + length back) INLINE_CAPACITY needs_memory))
+    long_kind = kind_beyond (length front + length back) needs_memory
 
 pub holds_both : (front back items : List ℕ) (capacity : ℕ) → items ≡ front ++ back → length items ≤ capacity → length front + length back ≤ capacity
 holds_both front back items capacity is fits = omega (arith, ap length is, length-append front back)

@@ -1,6 +1,7 @@
 pub mod Costs
 pub mod Forms
 pub mod GatherLemmas
+pub mod JoinLemmas
 pub mod Joins
 pub mod JsonItems
 pub mod Repeats
