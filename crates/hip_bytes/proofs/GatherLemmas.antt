@@ -133,3 +133,14 @@ half_of_twice m = omega arith
 
 pub at_most_twice : (m n : ℕ) → n ≤ m → m + n ≤ 2 * m
 at_most_twice m n le = omega arith
+
+pub fits_none : (xs : List ℕ) → xs ≡ [] → nat_le (length xs) INLINE_CAPACITY ≡ true
+fits_none xs none = ap (λ ys. nat_le (length ys) INLINE_CAPACITY) none
+
+pub longer_than : (len gap more all : ℕ) → all ≡ len + gap + more → len ≤ all
+longer_than len gap more all is = omega arith
+
+-- a refused addition counts nothing
+pub counted_before : (a b c : ℕ) (in_handle : Bool) (len more : ℕ) → RisesAtMost a b (len + (if in_handle then 0 else INLINE_CAPACITY)) → c ≡ b → len ≤ more → RisesAtMost a c (more + INLINE_CAPACITY)
+counted_before a b c true len more rises same longer = record { never_falls = omega arith; at_most = omega arith }
+counted_before a b c false len more rises same longer = record { never_falls = omega arith; at_most = omega arith }
