@@ -2,7 +2,7 @@
 use Rattle.std.proofs.Common.{◌≡◌, ◌∙◌, ℕ, zero, suc, ◌+◌, ◌*◌, ◌-◌, ◌≤◌, List, [], ◌∷◌, ◌++◌, length, take, refl, sym, ap, append_assoc, length-append, arith}
 use Rattle.std.proofs.Math.Nat.{add-mul, suc-mul, mul-le-mul_right}
 use Rattle.std.proofs.Math.Seq.{take-append_seam}
-use Rattle.std.proofs.Common.{◌<◌, ◌^◌, subst, rules, Result, Ok, Err, IfErr}
+use Rattle.std.proofs.Common.{◌<◌, ◌^◌, min, Fits, w64, subst, rules, Result, Ok, Err, IfErr}
 use Rattle.std.specs.List.{repeat}
 use Rattle.hip_bytes.specs.Handle.{Handle}
 use Rattle.hip_bytes.specs.Join.{repeated_kind, RepeatNeedsMemory}
@@ -53,3 +53,29 @@ clone-of-nothing source n (Err Memory) none clone memory = (
   subst (λ len. n * len < 2 ^ 64) (sym none) (omega arith),
 )
 clone-of-nothing source n (Err TooLong) none clone memory = search rules
+
+-- the list as often as was wanted
+module _ (made bytes : List ℕ) (done n len : ℕ) (whole : len ≡ n * length bytes) (all : done ≡ n) (so_far : made ≡ repeat done bytes) where
+  pub repeated_all : made ≡ repeat n bytes
+  repeated_all = so_far ∙ ap (λ k. repeat k bytes) all
+
+  pub repeated_long : length made ≡ len
+  repeated_long = ap length repeated_all ∙ length-repeat n bytes ∙ sym whole
+
+  pub repeated_count : done * length bytes ≡ len
+  repeated_count = ap (λ k. k * length bytes) all ∙ sym whole
+
+pub once : (n : ℕ) → n ≡ 1 * n
+once n = omega arith
+
+pub first_time : (n : ℕ) → (n ≡ 0 → ⊥) → (0 < 1) × (1 ≤ n)
+first_time n some = (omega arith, omega (arith, some))
+
+pub all_times : (done n : ℕ) → n ≤ done → done ≤ n → done ≡ n
+all_times done n over within = omega arith
+
+-- some of the repetitions are no longer than all
+pub some_fit : (more inner done most n len : ℕ) (bytes : List ℕ) → more ≡ min inner most → inner ≡ min done (n - done) → len ≡ n * length bytes → Fits w64 len → Fits w64 (more * length bytes)
+some_fit more inner done most n len bytes least some whole fits =
+    let within : more ≤ n = omega arith in
+    record { fits = omega (arith, mul-le-mul_right {m = more} {n = n} (length bytes) within, fits.fits) }
