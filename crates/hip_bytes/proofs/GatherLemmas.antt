@@ -144,3 +144,12 @@ longer_than len gap more all is = omega arith
 pub counted_before : (a b c : ℕ) (in_handle : Bool) (len more : ℕ) → RisesAtMost a b (len + (if in_handle then 0 else INLINE_CAPACITY)) → c ≡ b → len ≤ more → RisesAtMost a c (more + INLINE_CAPACITY)
 counted_before a b c true len more rises same longer = record { never_falls = omega arith; at_most = omega arith }
 counted_before a b c false len more rises same longer = record { never_falls = omega arith; at_most = omega arith }
+
+-- a copy that then goes into an owner
+pub counted_copied : (a b c n len : ℕ) (shares : Bool) → RisesAtMost a b n → RisesAtMost b c (unless_shared shares len) → len ≡ n → RisesAtMost a c (times_copied shares n)
+counted_copied a b c n len true first second same = record { never_falls = omega arith; at_most = omega arith }
+counted_copied a b c n len false first second same = record { never_falls = omega arith; at_most = omega arith }
+
+-- what is written over a vector's items is as long as they were
+pub written_long : (vec : Vec ℕ Global) (ws bytes items : List ℕ) → items ≡ (with_items vec ws).items → vec.items ≡ bytes → length items ≡ length bytes
+written_long vec ws bytes items is was = ap length is ∙ sym (with_items vec ws).ok.0 ∙ vec.ok.0 ∙ ap length was
