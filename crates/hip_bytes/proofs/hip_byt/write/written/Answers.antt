@@ -1,6 +1,6 @@
 use Rattle.std.proofs.Common.{◌∙◌, ◌≤◌, ap, length, subst, arith}
 use Rattle.std.proofs.lemmas.Grind.{common_steps}
-use Rattle.hip_bytes.proofs.GatherLemmas.{counted_copied, written_long}
+use Rattle.hip_bytes.proofs.GatherLemmas.{counted_copied, counted_more, once_copied, if_fault, written_long}
 use Rattle.hip_bytes.proofs.hip_byt.write.written.Goals as goal
 
 pub returns-in-Ok-clause-ran : goal.returns-in-Ok-clause-ran
@@ -19,3 +19,15 @@ returns-in-Ok-clause-counted g c = counted_copied _ _ _ _ _ _ c.copy_counted.ens
 
 pub returns-in-Err-clause-counted : goal.returns-in-Err-clause-counted
 returns-in-Err-clause-counted g c = counted_copied _ _ _ _ _ _ c.copy_counted.ensures.counted c.in-Err.ensures.counted (c.in_ok-vec.vec.ok.0 ∙ ap length c.in_ok-vec.ensures.items)
+
+pub returns-in_err-vec : goal.returns-in_err-vec
+returns-in_err-vec g c =
+    let r = c.from_residual.result in
+    let fault = c.from_residual.ensures.1 in
+    record {
+      ran = if_fault r _ _ fault;
+      len = if_fault r _ _ fault;
+      kind = if_fault r _ _ fault;
+      fits = if_fault r _ _ fault;
+      counted = counted_more _ _ _ _ c.copy_counted.ensures.counted (once_copied _ _);
+    }
