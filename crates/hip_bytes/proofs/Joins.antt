@@ -1,5 +1,5 @@
 -- Lemmas on joins, for the loops that make one.
-use Rattle.std.proofs.Common.{◌≡◌, ◌∙◌, ℕ, Bool, true, false, ◌&&◌, nat_le, if◌then◌else◌, zero, suc, ◌+◌, ◌-◌, ◌*◌, ◌<◌, ◌≤◌, List, [], ◌∷◌, ◌++◌, length, take, drop, get_or, refl, sym, ap, append_assoc, append-nil, length-append, map, arith}
+use Rattle.std.proofs.Common.{◌≡◌, ◌∙◌, ℕ, Bool, true, false, ◌&&◌, nat_le, if◌then◌else◌, zero, suc, ◌+◌, ◌-◌, ◌*◌, ◌<◌, ◌≤◌, List, [], ◌∷◌, ◌++◌, length, take, drop, get_or, refl, sym, ap, append_assoc, append-nil, length-append, map, take_all, arith}
 use Rattle.std.proofs.Math.Nat.{suc-mul}
 use Rattle.std.proofs.lemmas.Bool.{le-leb, leb-true, leb-false}
 use Rattle.std.proofs.lemmas.Grind.{flat_map-append}
@@ -24,6 +24,14 @@ pub joined-take_more : {A : Type 0} (f : A → List ℕ) (sep : List ℕ) (xs : 
 joined-take_more f sep xs i d within =
     ap (join_by f sep) (take_more xs i d within) ∙ joined-snoc f sep (take i xs) (get_or xs i d)
     ∙ ap (λ gap. (join_by f sep (take i xs) ++ gap) ++ f (get_or xs i d)) (ap (λ k. gap_at k sep) (length-take-le i xs (omega arith)))
+
+-- a loop over all pieces has made the whole join
+module _ {A : Type 0} (f : A → List ℕ) (sep : List ℕ) (xs : List A) (i : ℕ) (made : List ℕ) (over : length xs ≤ i) (so_far : made ≡ join_by f sep (take i xs)) where
+  pub joined_all : made ≡ join_by f sep xs
+  joined_all = so_far ∙ ap (join_by f sep) (take_all i xs over)
+
+  pub length-joined_all : (len : ℕ) → len ≡ length (join_by f sep xs) → length made ≡ len
+  length-joined_all len whole = ap length joined_all ∙ sym whole
 
 -- the length of a join with one piece more
 pub length-joined-take_more : {A : Type 0} (f : A → List ℕ) (sep : List ℕ) (xs : List A) (i : ℕ) (d : A) → i < length xs

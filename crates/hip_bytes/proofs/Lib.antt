@@ -1,6 +1,8 @@
 pub mod Clones
 pub mod Costs
 pub mod Forms
+pub mod GatherLemmas
+pub mod JoinLemmas
 pub mod Joins
 pub mod JsonItems
 pub mod Parts

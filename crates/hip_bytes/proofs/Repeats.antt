@@ -1,8 +1,7 @@
 -- Lemmas on repetitions, for the loop that makes one.
-use Rattle.std.proofs.Common.{◌≡◌, ◌∙◌, ℕ, zero, suc, ◌+◌, ◌*◌, ◌-◌, ◌≤◌, List, [], ◌∷◌, ◌++◌, length, take, refl, sym, ap, append_assoc, length-append, arith}
+use Rattle.std.proofs.Common.{◌≡◌, ◌≢◌, ◌∙◌, ℕ, zero, suc, ◌+◌, ◌*◌, ◌-◌, ◌^◌, ◌<◌, ◌≤◌, ◌==◌, min, Bool, true, false, if◌then◌else◌, Fits, w64, List, [], ◌∷◌, ◌++◌, length, take, append_assoc, append-nil, length-append, Result, Ok, Err, IfErr, IfOk, refl, sym, ap, subst, subst₂, arith, rules}
 use Rattle.std.proofs.Math.Nat.{add-mul, suc-mul, mul-le-mul_right}
 use Rattle.std.proofs.Math.Seq.{take-append_seam}
-use Rattle.std.proofs.Common.{◌<◌, ◌^◌, ◌≢◌, ◌==◌, Bool, true, false, if◌then◌else◌, append-nil, subst, subst₂, rules, Result, Ok, Err, IfErr, IfOk}
 use Rattle.std.proofs.lemmas.Bool.{eq-eqb, ne_eqb, or_from, or_left, or_right}
 use Rattle.std.specs.Prelude.{MatchBool, IsErrAnd}
 use Rattle.hip_raw.specs.Meter.{RisesAtLeast, RisesAtMost, times_copied, unless_shared}
@@ -148,3 +147,29 @@ counted_twice shares n m mid m' first second = record { never_falls = omega (ari
 
 pub counted_once : (shares : Bool) (n m m' : ℕ) → RisesAtMost m m' n → RisesAtMost m m' (times_copied shares n)
 counted_once shares n m m' counted = record { never_falls = counted.never_falls; at_most = omega (arith, counted.at_most, twice shares n) }
+
+-- the list as often as was wanted
+module _ (made bytes : List ℕ) (done n len : ℕ) (whole : len ≡ n * length bytes) (all : done ≡ n) (so_far : made ≡ repeat done bytes) where
+  pub repeated_all : made ≡ repeat n bytes
+  repeated_all = so_far ∙ ap (λ k. repeat k bytes) all
+
+  pub repeated_long : length made ≡ len
+  repeated_long = ap length repeated_all ∙ length-repeat n bytes ∙ sym whole
+
+  pub repeated_count : done * length bytes ≡ len
+  repeated_count = ap (λ k. k * length bytes) all ∙ sym whole
+
+pub once : (n : ℕ) → n ≡ 1 * n
+once n = omega arith
+
+pub first_time : (n : ℕ) → (n ≡ 0 → ⊥) → (0 < 1) × (1 ≤ n)
+first_time n some = (omega arith, omega (arith, some))
+
+pub all_times : (done n : ℕ) → n ≤ done → done ≤ n → done ≡ n
+all_times done n over within = omega arith
+
+-- some of the repetitions are no longer than all
+pub some_fit : (more inner done most n len : ℕ) (bytes : List ℕ) → more ≡ min inner most → inner ≡ min done (n - done) → len ≡ n * length bytes → Fits w64 len → Fits w64 (more * length bytes)
+some_fit more inner done most n len bytes least some whole fits =
+    let within : more ≤ n = omega arith in
+    record { fits = omega (arith, mul-le-mul_right {m = more} {n = n} (length bytes) within, fits.fits) }

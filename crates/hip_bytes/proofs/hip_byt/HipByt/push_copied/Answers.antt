@@ -1,7 +1,7 @@
 use Rattle.std.proofs.Common.{◌∙◌, ◌+◌, ◌<◌, ◌++◌, ap, length, length-append, sym, refl, subst}
 use Rattle.std.proofs.lemmas.Result.{IfOk-from_err}
 use Rattle.hip_raw.specs.Meter.{RisesAtLeast, RisesAtMost, times_copied}
-use Rattle.hip_raw.proofs.Handles.{if_err}
+use Rattle.hip_bytes.proofs.Costs.{if_err}
 use Rattle.hip_bytes.specs.Kinds.{by_length, HasCapacity}
 use Rattle.hip_bytes.specs.Repr.{handle_of}
 use Rattle.hip_bytes.specs.declared.kind.TheConstants.{INLINE_CAPACITY}

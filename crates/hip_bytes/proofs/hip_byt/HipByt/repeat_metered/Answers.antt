@@ -3,7 +3,7 @@ use Rattle.std.proofs.lemmas.Bool.{eqb-true, eqb-false}
 use Rattle.std.specs.List.{repeat}
 use Rattle.hip_raw.specs.Meter.{RisesAtLeast, RisesAtMost, times_copied, unless_shared}
 use Rattle.hip_bytes.specs.declared.kind.TheConstants.{INLINE_CAPACITY}
-use Rattle.hip_raw.proofs.Handles.{nothing_copied}
+use Rattle.hip_bytes.proofs.Costs.{nothing_copied}
 use Rattle.hip_bytes.proofs.Repeats.{counted_once, counted_twice, repeats-made, repeats-nothing, repeats-once, repeats-refused}
 use Rattle.hip_bytes.proofs.hip_byt.HipByt.repeat_metered.Goals as goal
 

@@ -1,5 +1,5 @@
 use Rattle.std.proofs.Common.{length, subst}
-use Rattle.hip_raw.proofs.Handles.{nothing_copied}
+use Rattle.hip_bytes.proofs.Costs.{nothing_copied}
 use Rattle.hip_bytes.specs.Cost.{CutNeedsMemory}
 use Rattle.hip_bytes.specs.Made.{IsPart}
 use Rattle.hip_bytes.proofs.Slices.{costs_slice, is_slice, sound}

@@ -3,7 +3,7 @@ use Rattle.std.proofs.lemmas.Bool.{false≢true, true_from_ne_false}
 use Rattle.std.proofs.lemmas.Result.{IfOk-from_err}
 use Rattle.std.specs.Fn.{FnOnceReturnsAtMut}
 use Rattle.hip_raw.specs.Meter.{RisesAtMost, times_copied}
-use Rattle.hip_raw.proofs.Handles.{if_err}
+use Rattle.hip_bytes.proofs.Costs.{if_err}
 use Rattle.hip_bytes.specs.Cost.{write_cost, WriteNeedsMemory}
 use Rattle.std.specs.List.{refill}
 use Rattle.hip_bytes.specs.Handle.{Handle}

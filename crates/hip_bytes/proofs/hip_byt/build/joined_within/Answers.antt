@@ -1,5 +1,9 @@
-use Rattle.std.proofs.Common.{◌∙◌, ◌+◌, ◌++◌, length, length-append, ap, subst, sym, refl, arith}
-use Rattle.hip_bytes.proofs.Joins.{joined-next, gap_fits, piece_fits, kept-gap}
+use Rattle.std.proofs.Common.{◌≡◌, le_refl, ◌∙◌, ◌+◌, ◌++◌, length, length-append, ap, subst, sym, refl, arith}
+use Rattle.std.proofs.lemmas.Bool.{le-leb, lt-leb}
+use Rattle.hip_raw.specs.Meter.{RisesAtLeast, RisesAtMost}
+use Rattle.hip_bytes.proofs.Costs.{if_err, nothing_copied}
+use Rattle.hip_bytes.proofs.GatherLemmas.{none_copied, if_fault}
+use Rattle.hip_bytes.proofs.Joins.{joined-next, gap_fits, piece_fits, kept-gap, joined_all}
 use Rattle.hip_bytes.proofs.hip_byt.build.joined_within.Goals as goal
 
 pub push_behind_within-requires : goal.push_behind_within-requires
@@ -62,4 +66,63 @@ loop-i-preserved g c =
         at_most = omega (arith, more.counted.at_most, behind.counted.at_most, c.loop-i.invariant.counted.at_most, grown);
       };
       copied = omega (arith, more.exact, behind.exact, c.loop-i.invariant.copied, grown);
+    }
+
+pub loop-i-init : goal.loop-i-init
+loop-i-init g c =
+    let none = c.empty-inline.ensures in
+    record { items = none; kept = subst g.P.Piece.keeps (sym none) g.met.P.Piece.empty; counted = nothing_copied _ _; copied = none_copied _ _ _ none (le_refl _) }
+
+pub loop-i-2-init : goal.loop-i-2-init
+loop-i-2-init g c =
+    let made = c.in_ok-filling.ensures in
+    record {
+      items = made.items;
+      kept = subst g.P.Piece.keeps (sym made.items) g.met.P.Piece.empty;
+      room = made.capacity;
+      counted = nothing_copied _ _;
+      copied = none_copied _ _ _ made.items (le_refl _);
+    }
+
+pub returns-then-len-le-INLINE_CAPACITY : goal.returns-then-len-le-INLINE_CAPACITY
+returns-then-len-le-INLINE_CAPACITY g c =
+    let made = c.loop-i.inline in
+    let all = joined_all g.P.Piece.bytes c.args.sep.now c.args.pieces.now c.loop-i.i made c.loop-i-test.false c.loop-i.invariant.items in
+    let long : length made ≡ c.args.len = ap length all ∙ sym c.requires.whole in
+    let whole = c.in_handle.ensures in
+    record {
+      items = whole.items ∙ all;
+      kept = subst g.P.Piece.keeps (sym whole.items) c.loop-i.invariant.kept;
+      place = whole.place ∙ sym (le-leb _ _ c.if-len-le-INLINE_CAPACITY.true);
+      memory = tt;
+      counted = subst (RisesAtMost c.args.meter.now c.loop-i.meter) long c.loop-i.invariant.counted;
+      copied = subst (RisesAtLeast c.args.meter.now c.loop-i.meter) long c.loop-i.invariant.copied;
+    }
+
+pub returns-in_err-filling : goal.returns-in_err-filling
+returns-in_err-filling g c =
+    let r = c.from_residual.result in
+    let fault = c.from_residual.ensures.1 in
+    record {
+      items = if_fault r _ _ fault;
+      kept = if_fault r _ _ fault;
+      place = if_fault r _ _ fault;
+      memory = if_err r _ c.if-len-le-INLINE_CAPACITY.false;
+      counted = nothing_copied _ _;
+      copied = if_fault r _ _ fault;
+    }
+
+pub returns : goal.returns
+returns g c =
+    let made = c.loop-i-2.filling.items in
+    let all = joined_all g.P.Piece.bytes c.args.sep.now c.args.pieces.now c.loop-i-2.i made c.loop-i-2-test.false c.loop-i-2.invariant.items in
+    let long : length made ≡ c.args.len = ap length all ∙ sym c.requires.whole in
+    let whole = c.in_vector.ensures in
+    record {
+      items = whole.items ∙ all;
+      kept = subst g.P.Piece.keeps (sym whole.items) c.loop-i-2.invariant.kept;
+      place = whole.place ∙ sym (lt-leb _ _ c.if-len-le-INLINE_CAPACITY.false);
+      memory = tt;
+      counted = subst (RisesAtMost c.args.meter.now c.loop-i-2.meter) long c.loop-i-2.invariant.counted;
+      copied = subst (RisesAtLeast c.args.meter.now c.loop-i-2.meter) long c.loop-i-2.invariant.copied;
     }

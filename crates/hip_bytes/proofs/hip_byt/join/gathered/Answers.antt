@@ -1,6 +1,8 @@
-use Rattle.std.proofs.Common.{◌≡◌, ◌∙◌, ◌+◌, ◌≤◌, ◌++◌, ◌∷◌, ◌&&◌, [], nat_le, length, length-append, Err, ap, subst, sym, arith}
+use Rattle.std.proofs.Common.{◌≡◌, ◌∙◌, ◌+◌, ◌≤◌, ◌++◌, ◌∷◌, ◌&&◌, [], nat_le, length, length-append, Err, ap, subst, sym, refl, le_refl, arith}
 use Rattle.std.proofs.iter.Next.{Yields-more}
 use Rattle.hip_bytes.specs.declared.grow_fault.GrowFault.TheVariants.{TooLong, Memory}
+use Rattle.hip_bytes.proofs.Costs.{nothing_copied}
+use Rattle.hip_bytes.proofs.GatherLemmas.{done_is_no_fault, none_copied, fits_none, counted_before, longer_than}
 use Rattle.hip_bytes.proofs.Joins.{length-joined-snoc, joined-more, gap-snoc, kept-gap, fits_before, spilled_once, refused_long}
 use Rattle.hip_bytes.specs.declared.kind.TheConstants.{INLINE_CAPACITY}
 use Rattle.hip_bytes.proofs.hip_byt.join.gathered.Goals as goal
@@ -39,4 +41,38 @@ loop-piece-preserved g c =
         at_most = omega (arith, more.counted.at_most, spilled_once c.loop-piece.made.in_handle c.add_behind.new.self.in_handle (nat_le (length c.add_behind.new.self.items) INLINE_CAPACITY) more.place);
       };
       copied = omega (arith, more.copied, c.loop-piece.invariant.copied, length_is);
+    }
+
+pub loop-piece-init : goal.loop-piece-init
+loop-piece-init g c =
+    let made = c.new-made.ensures in
+    record {
+      items = made.items;
+      kept = subst g.P.Piece.keeps (sym made.items) g.met.P.Piece.empty;
+      gap = refl;
+      place = made.place ∙ sym (fits_none _ made.items);
+      counted = nothing_copied _ _;
+      copied = none_copied _ _ _ made.items (le_refl _);
+    }
+
+pub returns-in-Err-clause-refused_counts : goal.returns-in-Err-clause-refused_counts
+returns-in-Err-clause-refused_counts g c =
+    let made = c.loop-piece.made in
+    let length_is = length-joined-snoc g.P.Piece.bytes c.args.sep.now c.loop-piece.yielded c.in-Some.piece c.as_piece.result.now made.items c.loop-piece.gap.now c.as_piece.ensures.bytes c.loop-piece.invariant.items c.loop-piece.invariant.gap in
+    let steps = Yields-more g.I.IntoIter.Iterator.next_gives c.into_iter-piece-iterator.result c.loop-piece.yielded c.loop-piece.piece-iterator c.in-Some.piece c.next.new.self c.loop-piece.yielded_by c.in-Some.ensures.steps in
+    let costs = counted_before _ _ _ made.in_handle _ _ c.loop-piece.invariant.counted c.in-Err.ensures.refused_copies_nothing (longer_than _ _ _ _ length_is) in
+    (c.into_iter-piece-iterator.result, c.loop-piece.yielded ++ c.in-Some.piece ∷ [], c.next.new.self, c.into_iter-piece-iterator.ensures.into_iter_gives, steps, costs)
+
+pub returns : goal.returns
+returns g c =
+    let made = c.loop-piece.invariant in
+    record {
+      items = (c.into_iter-piece-iterator.result, c.loop-piece.yielded, c.into_iter-piece-iterator.ensures.into_iter_gives, (c.next.new.self, (c.loop-piece.piece-iterator, c.loop-piece.yielded_by, c.in-None.ensures.steps)), made.items);
+      kept = made.kept;
+      place = made.place;
+      too_long = done_is_no_fault;
+      memory = done_is_no_fault;
+      counted = counted_before _ _ _ c.loop-piece.made.in_handle _ _ made.counted refl (le_refl _);
+      copied = made.copied;
+      refused_counts = tt;
     }

@@ -1,0 +1,74 @@
+-- The answers and the costs of joins.
+use Rattle.std.proofs.Common.{◌≡◌, ℕ, ◌+◌, ◌*◌, ◌^◌, ◌<◌, ◌≤◌, Bool, true, false, List, length, Option, Result, Ok, Err, sym, subst, arith}
+use Rattle.std.specs.List.{join_by}
+use Rattle.std.specs.Result.{IsErrAnd}
+use Rattle.hip_raw.specs.Held.{Held}
+use Rattle.hip_raw.specs.Meter.{RisesAtLeast, RisesAtMost, count_from, unless_shared}
+use Rattle.hip_bytes.specs.Handle.{Handle}
+use Rattle.hip_bytes.specs.Join.{join_cost, GivesFirst}
+use Rattle.hip_bytes.specs.Kinds.{by_length, HasCapacity, Holds}
+use Rattle.hip_bytes.specs.Made.{JoinAnswers, GatherAnswers, GatherCosts}
+use Rattle.hip_bytes.specs.declared.grow_fault.GrowFault.{GrowFault}
+use Rattle.hip_bytes.specs.declared.grow_fault.GrowFault.TheVariants.{Memory, TooLong}
+use Rattle.hip_bytes.specs.declared.kind.Kind.TheVariants.{Allocated}
+use Rattle.hip_bytes.specs.declared.kind.TheConstants.{INLINE_CAPACITY}
+use Rattle.hip_bytes.proofs.GatherLemmas.{kind_beyond}
+
+pub not_below : (m n : ℕ) → (m < n → ⊥) → n ≤ m
+not_below m n over = omega (arith, over)
+
+pub join_refused : (r : Result Handle GrowFault) (items : List ℕ) → IsErrAnd r (λ fault. fault ≡ Memory) → INLINE_CAPACITY < length items → length items < 2 ^ 64 → JoinAnswers items r
+join_refused (Ok handle) items is long fits = absurd is
+join_refused (Err fault) items is long fits = subst (λ (f : GrowFault). JoinAnswers items (Err f)) (sym is) (long, fits)
+
+-- a handle of a list that another list is
+pub holds_whole : (handle : Handle) (xs items : List ℕ) → xs ≡ items → handle.items ≡ xs → handle.kind ≡ by_length (length xs) → HasCapacity handle.kind (length xs) handle.capacity
+    → Holds handle (by_length (length items)) items
+holds_whole handle xs items same items_are kind capacity =
+    subst (λ ys. Holds handle (by_length (length ys)) ys) same (record { kind_is = kind; items_are = items_are; capacity = subst (λ k. HasCapacity k (length xs) handle.capacity) kind capacity })
+
+-- a handle of an owner of a list that is longer than a handle holds in itself
+pub holds_owned : (handle : Handle) (held : Held) (items : List ℕ) → handle ≡ record { kind = Allocated; items = held.items; capacity = held.capacity }
+    → held.items ≡ items → length held.items ≤ held.capacity → INLINE_CAPACITY < length items → Holds handle (by_length (length items)) items
+holds_owned handle held items is same fits long =
+    let kind = kind_beyond (length items) long in
+    subst (λ (h : Handle). Holds h (by_length (length items)) items) (sym is)
+    (record { kind_is = kind; items_are = same; capacity = subst (λ k. HasCapacity k (length items) held.capacity) kind (subst (λ xs. length xs ≤ held.capacity) same fits) })
+
+-- a meter of its own counts the bytes that are put together
+module _ (old mid none apart n : ℕ) (empty : none ≡ 0) (all : RisesAtMost old mid apart) where
+  pub counted_sole : (shares : Bool) (len : ℕ) → shares ≡ false → RisesAtMost none apart (2 * len) → len ≡ n → RisesAtMost old mid (join_cost shares n)
+  counted_sole true len sole own same = absurd (cc)
+  counted_sole false len sole own same = record { never_falls = all.never_falls; at_most = omega arith }
+
+  pub counted_within : (shares : Bool) (len : ℕ) → RisesAtMost none apart len → len ≡ n → RisesAtMost old mid (join_cost shares n)
+  counted_within true len own same = record { never_falls = all.never_falls; at_most = omega arith }
+  counted_within false len own same = record { never_falls = all.never_falls; at_most = omega arith }
+
+  pub counted_whole : (shares : Bool) (new len size : ℕ) → RisesAtMost none apart len → len ≡ n → RisesAtMost mid new (unless_shared shares size) → size ≡ n → RisesAtMost old new (join_cost shares n)
+  counted_whole true new len size own same last long = record { never_falls = omega arith; at_most = omega arith }
+  counted_whole false new len size own same last long = record { never_falls = omega arith; at_most = omega arith }
+
+  pub counted_refused : (shares : Bool) → RisesAtMost none apart (n + INLINE_CAPACITY) → RisesAtMost old mid (join_cost shares n)
+  counted_refused true own = record { never_falls = all.never_falls; at_most = omega arith }
+  counted_refused false own = record { never_falls = all.never_falls; at_most = omega arith }
+
+  pub counted_gathered : (shares : Bool) (new size : ℕ) → RisesAtMost none apart (size + INLINE_CAPACITY) → RisesAtMost mid new (unless_shared shares size) → size ≡ n → RisesAtMost old new (join_cost shares n)
+  counted_gathered true new size own last long = record { never_falls = omega arith; at_most = omega arith }
+  counted_gathered false new size own last long = record { never_falls = omega arith; at_most = omega arith }
+
+pub copied_whole : (old mid new none apart len n : ℕ) → none ≡ 0 → RisesAtLeast none apart len → mid ≡ count_from old apart → mid ≤ new → len ≡ n → RisesAtLeast old new n
+copied_whole old mid new none apart len n empty own exact more same = omega arith
+
+-- joins of the pieces that an iterator gives
+module _ {I T A : Type 0} (into : I → T → Type 0) (steps : T → Option A → T → Type 0) (pieces : I) (shown : A → List ℕ) (sep : List ℕ) where
+  pub gather_refused : (r : Result Handle GrowFault) (fault : GrowFault) → IsErrAnd r (λ f. f ≡ fault) → (fault ≡ TooLong → GivesFirst into steps pieces (λ xs. 2 ^ 64 ≤ length (join_by shown sep xs)))
+      → (fault ≡ Memory → GivesFirst into steps pieces (λ xs. INLINE_CAPACITY < length (join_by shown sep xs))) → GatherAnswers shown into steps pieces sep r
+  gather_refused (Ok handle) fault is long memory = absurd is
+  gather_refused (Err Memory) fault is long memory = memory (sym is)
+  gather_refused (Err TooLong) fault is long memory = long (sym is)
+
+  pub refused_costs : (shares : Bool) (old new : ℕ) (r : Result Handle GrowFault) (fault : GrowFault) → IsErrAnd r (λ f. f ≡ fault) → GivesFirst into steps pieces (λ xs. RisesAtMost old new (join_cost shares (length (join_by shown sep xs))))
+      → GatherCosts shares shown into steps pieces sep r old new
+  refused_costs shares old new (Ok handle) fault is costs = absurd is
+  refused_costs shares old new (Err f) fault is costs = costs
