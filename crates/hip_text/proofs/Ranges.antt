@@ -40,3 +40,17 @@ is_range source low high text start end given gave is range ordered within =
       cost = λ shares. ap (cut_cost shares source.kind) (sym (length-part source.items start end ordered (omega (arith, within, ap length is))) ∙ ap length same)
           ∙ ap (λ fault. if is_none fault then cut_cost shares source.kind (length (slice_of low high source.items)) else 0) (sym valid);
     }
+
+shown : {K : Type 0} → Result (ℕ × ℕ) K → Option K
+shown (Ok range) = None
+shown (Err kind) = Some kind
+
+refused : {K : Type 0} (range : ℕ × ℕ) {kind : K} (given : Result (ℕ × ℕ) K) (fault : Option K) → given ≡ Err kind → MatchOption fault (given ≡ Ok range) (λ told. given ≡ Err told) → fault ≡ Some kind
+unfolding shown
+refused pair given None is range = absurd (cc)
+refused pair given (Some told) is range = ap shown (sym range ∙ is)
+
+pub is_fault : (source : Handle) (low high : Bound ℕ) (text : List ℕ) (kind : SliceErrorKind) (given : Result (ℕ × ℕ) SliceErrorKind) → given ≡ Err kind → text ≡ source.items
+    → MatchOption (text_slice_fault low high text) (given ≡ Ok (start_index low, end_index high (length text))) (λ told. given ≡ Err told)
+    → text_slice_fault low high source.items ≡ Some kind
+is_fault source low high text kind given gave is range = subst (λ l. text_slice_fault low high l ≡ Some kind) is (refused _ given (text_slice_fault low high text) gave range)
