@@ -1,11 +1,12 @@
 -- Calls that keep a text UTF-8, and tests that bytes are.
-use Rattle.std.proofs.Common.{◌≡◌, ◌∙◌, ℕ, zero, suc, ◌-◌, ◌≤◌, Bool, true, false, List, [], ◌++◌, length, drop, take, slice_index, slice_range, Result, Ok, Err, OnOk, OnErr, ap, refl, subst, sym, arith}
+use Rattle.std.proofs.Common.{◌≡◌, ◌∙◌, ℕ, zero, suc, ◌-◌, ◌≤◌, Bool, true, false, List, [], ◌++◌, length, drop, take, slice_index, slice_range, Option, Some, None, IfSome, Result, Ok, Err, OnOk, OnErr, ap, refl, subst, sym, arith}
 use Rattle.std.proofs.lemmas.List.{get_or-drop, length-drop}
 use Rattle.std.proofs.Math.Decide.{dec_le}
 use Rattle.std.proofs.Math.Nat.{lt_of_not-le}
 use Rattle.std.proofs.Math.Seq.{take-append_seam}
 use Rattle.std.specs.Char.{encode_utf8}
 use Rattle.std.specs.List.{repeat}
+use Rattle.std.specs.Option.{IfNone, is_some}
 use Rattle.std.specs.Str.{IsCharBoundary}
 use Rattle.std.specs.Str.{is_utf8}
 use Rattle.std.proofs.lemmas.Str.{IsUtf8-append, IsUtf8-drop, IsUtf8-nil, IsUtf8-string_bytes, IsUtf8-take, IsUtf8-from_is_utf8, is_utf8-from_IsUtf8}
@@ -95,6 +96,17 @@ not-true false never = refl
 
 pub not-is_utf8 : (bytes : List ℕ) → ¬ (IsUtf8 bytes) → is_utf8 bytes ≡ false
 not-is_utf8 bytes never = not-true (is_utf8 bytes) (λ utf8. never (IsUtf8-from_is_utf8 bytes utf8))
+
+-- bytes in which no fault was found
+pub no_fault : {E : Type 0} (fault : Option E) {bytes items : List ℕ} {found : Bool} → IfNone fault (IsUtf8 bytes) → found ≡ is_some fault → found ≡ false → bytes ≡ items → IsUtf8 items
+no_fault None utf8 is never same = subst IsUtf8 same utf8
+no_fault (Some error) utf8 is never same = absurd (cc)
+
+-- bytes in which one was found
+pub a_fault : {E : Type 0} (Cause : E → Type 0) (fault : Option E) {bytes items : List ℕ} {found : Bool}
+    → IfSome fault (λ error. ¬ (IsUtf8 bytes) × Cause error) → found ≡ is_some fault → found ≡ true → bytes ≡ items → ¬ (IsUtf8 items)
+a_fault Cause None told is found same = absurd (cc)
+a_fault Cause (Some error) told is found same = λ utf8. told.0 (subst IsUtf8 (sym same) utf8)
 
 pub ruleset texts = (IsUtf8-from_is_utf8, is_utf8-from_IsUtf8, not-is_utf8)
 

@@ -1,22 +1,24 @@
 -- Commands that are a call on one slot, which changes where it stands.
-use Rattle.std.proofs.Common.{◌≡◌, ◌∙◌, ℕ, ◌<◌, inl, inr, Bool, true, false, List, length, map, get_or, slice_set, Option, Some, None, Result, Ok, Err, MatchOption, ap, refl, subst, sym}
+use Rattle.std.proofs.Common.{◌≡◌, ◌∙◌, ℕ, ◌<◌, inl, inr, Bool, true, false, List, length, map, max, get_or, slice_set, Option, Some, None, Result, Ok, Err, MatchOption, ap, refl, subst, sym}
 use Rattle.std.proofs.Math.ListN.{get_or-map}
 use Rattle.std.proofs.lemmas.List.{get_or_default}
 use Rattle.std.specs.Borrow.{Bor}
+use Rattle.std.specs.Char.{to_ascii_lowercase, to_ascii_uppercase}
 use Rattle.std.specs.Option.{option_or}
-use Rattle.hip_bytes.specs.Change.{IsPushed, IsRewritten, IsShortened}
-use Rattle.hip_bytes.specs.Cost.{OwnNeedsMemory, PushNeedsMemory, WriteNeedsMemory}
+use Rattle.hip_bytes.specs.Change.{IsPushed, IsRewritten, IsShortened, IsShrunk}
+use Rattle.hip_bytes.specs.Cost.{shrink_cost, write_cost, CutNeedsMemory, OwnNeedsMemory, PushNeedsMemory, WriteNeedsMemory}
 use Rattle.hip_bytes.specs.Handle.{Handle}
 use Rattle.hip_bytes.specs.Made.{IsOwned}
+use Rattle.hip_bytes.specs.Meter.{RisesAtMost}
 use Rattle.hipstr.proofs.Places.{put-is}
 use Rattle.hipstr.proofs.Steps.{as-it-was, faulted, neither, no-other, performed, replaced, slot-there}
 use Rattle.hipstr.specs.Reason.{answer_of}
 use Rattle.hipstr.specs.Slot.{Replaces, SlotState, empty_slot, slot_at, state_at, state_of, text_at}
-use Rattle.hipstr.specs.Step.{IsHalfMutated, Performs, SlotAnswers, SlotMutates, SlotPops, Step, addition_fault, end_fault, fault_of, not_text_fault, set_fault, slot_fault, text_fault}
+use Rattle.hipstr.specs.Step.{IsHalfMutated, Performs, SlotAnswers, SlotMutates, SlotPops, Step, addition_fault, cost_of, end_fault, fault_of, not_text_fault, set_fault, slot_fault, text_fault, unless}
 use Rattle.hipstr.specs.declared.command.Answer.{Answer}
 use Rattle.hipstr.specs.declared.command.Answer.TheVariants.{Byte, Char, Done, Nothing, Refused}
 use Rattle.hipstr.specs.declared.command.Command.{Command}
-use Rattle.hipstr.specs.declared.command.Command.TheVariants.{Bytes, Mutate, Owned, Pop, Push, Set, Text, Truncate}
+use Rattle.hipstr.specs.declared.command.Command.TheVariants.{Bytes, Lower, Mutate, Owned, Pop, Push, Set, Shrink, Text, Truncate, Upper}
 use Rattle.hipstr.specs.declared.command.Reason.{Reason}
 use Rattle.hipstr.specs.declared.command.Reason.TheVariants.{Memory}
 use Rattle.hipstr.specs.declared.pool.Slot.{Slot}
@@ -114,6 +116,54 @@ module _ (shares : Bool) {old new : List SlotState} {t : ℕ} {was slot : SlotSt
             let kept = subst (AfterRefusal (state_at old t) slot reason) is answers in
             subst (λ (reason : Reason). Step shares old (Mutate t bytes) (Refused reason) new) (sym kept.0)
             (faulted shares old new (Mutate t bytes) first (ap (λ (none : Option Reason). option_or none (addition_fault (state_at old t) bytes.now)) there ∙ is) (as-it-was old new t slot at.put kept.1))
+
+  -- bytes that were written over
+  rewritten : (f : List ℕ → List ℕ) → IsRewritten shares was.handle slot.handle (f was.handle.items) → slot.is_text ≡ was.is_text
+      → Replaces old new t (text_at old t) (λ now. IsRewritten shares (slot_at old t) now (f (slot_at old t).items))
+  rewritten f done flag =
+      replaced old new t slot _ _ at.within at.put (flag ∙ ap (λ (s : SlotState). s.is_text) at.is_was) (subst (λ (s : SlotState). IsRewritten shares s.handle slot.handle (f s.handle.items)) at.is_was done)
+
+  pub upper-step : IsRewritten shares was.handle slot.handle (map to_ascii_uppercase was.handle.items) → slot.is_text ≡ was.is_text → Step shares old (Upper t) Done new
+  upper-step done flag = performed shares old (Upper t) Done new (slot-there old t at.within) (rewritten (map to_ascii_uppercase) done flag)
+
+  pub lower-step : IsRewritten shares was.handle slot.handle (map to_ascii_lowercase was.handle.items) → slot.is_text ≡ was.is_text → Step shares old (Lower t) Done new
+  lower-step done flag = performed shares old (Lower t) Done new (slot-there old t at.within) (rewritten (map to_ascii_lowercase) done flag)
+
+  -- what a call on the slot counted
+  there : (copies : SlotState → ℕ) → copies was ≡ unless (slot_fault old t) (copies (state_at old t))
+  there copies = ap copies at.is_was ∙ ap (λ (fault : Option Reason). unless fault (copies (state_at old t))) (sym (slot-there old t at.within))
+
+  pub write-counted : (m n : ℕ) → RisesAtMost m n (write_cost shares was.handle.kind (length was.handle.items)) → RisesAtMost m n (cost_of shares old (Upper t))
+  write-counted m n = subst (RisesAtMost m n) (there (λ s. write_cost shares s.handle.kind (length s.handle.items)))
+
+  pub shrink-counted : (least m n : ℕ) → RisesAtMost m n (shrink_cost shares was.handle.kind (length was.handle.items)) → RisesAtMost m n (cost_of shares old (Shrink t least))
+  shrink-counted least m n = subst (RisesAtMost m n) (there (λ s. shrink_cost shares s.handle.kind (length s.handle.items)))
+
+  -- a command that was refused memory, and left the slot as it was
+  unchanged : slot.handle ≡ was.handle → slot.is_text ≡ was.is_text → new ≡ old
+  unchanged same flag = as-it-was old new t slot at.put ((λ i. record { is_text = flag i; handle = same i }) ∙ at.is_was)
+
+  write-refused : (command : Command) (answer : Answer) → fault_of old command ≡ slot_fault old t → answer ≡ Refused Memory → Performs shares old command (Refused Memory) new → Step shares old command answer new
+  write-refused command answer is told done = subst (λ (answer : Answer). Step shares old command answer new) (sym told) (performed shares old command (Refused Memory) new (is ∙ slot-there old t at.within) done)
+
+  needs-there : WriteNeedsMemory shares was.handle.kind (length was.handle.items) → WriteNeedsMemory shares (slot_at old t).kind (length (slot_at old t).items)
+  needs-there = subst (λ (s : SlotState). WriteNeedsMemory shares s.handle.kind (length s.handle.items)) at.is_was
+
+  pub upper-refused : (answer : Answer) → answer ≡ Refused Memory → WriteNeedsMemory shares was.handle.kind (length was.handle.items) × (slot.handle ≡ was.handle) → slot.is_text ≡ was.is_text → Step shares old (Upper t) answer new
+  upper-refused answer told why flag = write-refused (Upper t) answer refl told (needs-there why.0, unchanged why.1 flag)
+
+  pub lower-refused : (answer : Answer) → answer ≡ Refused Memory → WriteNeedsMemory shares was.handle.kind (length was.handle.items) × (slot.handle ≡ was.handle) → slot.is_text ≡ was.is_text → Step shares old (Lower t) answer new
+  lower-refused answer told why flag = write-refused (Lower t) answer refl told (needs-there why.0, unchanged why.1 flag)
+
+  pub shrink-refused : (least : ℕ) (answer : Answer) → answer ≡ Refused Memory → CutNeedsMemory was.handle.kind (max least (length was.handle.items)) × (slot.handle ≡ was.handle) → slot.is_text ≡ was.is_text
+      → Step shares old (Shrink t least) answer new
+  shrink-refused least answer told why flag =
+      write-refused (Shrink t least) answer refl told (subst (λ (s : SlotState). CutNeedsMemory s.handle.kind (max least (length s.handle.items))) at.is_was why.0, unchanged why.1 flag)
+
+  pub shrink-step : (least : ℕ) → IsShrunk was.handle slot.handle (max least (length was.handle.items)) → slot.is_text ≡ was.is_text → Step shares old (Shrink t least) Done new
+  shrink-step least done flag =
+      performed shares old (Shrink t least) Done new (slot-there old t at.within)
+      (replaced old new t slot _ _ at.within at.put (flag ∙ ap (λ (s : SlotState). s.is_text) at.is_was) (subst (λ (s : SlotState). IsShrunk s.handle slot.handle (max least (length s.handle.items))) at.is_was done))
 
   pub pop-step : (answer : Answer) → SlotPops was answer slot → Step shares old (Pop t) answer new
   pop-step answer pops = performed shares old (Pop t) answer new (slot-there old t at.within) (by-answer answer (subst (λ (s : SlotState). SlotPops s answer slot) at.is_was pops)) where
