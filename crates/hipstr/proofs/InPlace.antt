@@ -6,7 +6,7 @@ use Rattle.std.specs.Borrow.{Bor}
 use Rattle.std.specs.Char.{to_ascii_lowercase, to_ascii_uppercase}
 use Rattle.std.specs.Option.{option_or}
 use Rattle.hip_bytes.specs.Change.{IsPushed, IsRewritten, IsShortened, IsShrunk}
-use Rattle.hip_bytes.specs.Cost.{shrink_cost, write_cost, CutNeedsMemory, OwnNeedsMemory, PushNeedsMemory, WriteNeedsMemory}
+use Rattle.hip_bytes.specs.Cost.{shortened_cost, shrink_cost, write_cost, CutNeedsMemory, OwnNeedsMemory, PushNeedsMemory, WriteNeedsMemory}
 use Rattle.hip_bytes.specs.Handle.{Handle}
 use Rattle.hip_bytes.specs.Made.{IsOwned}
 use Rattle.hip_bytes.specs.Meter.{RisesAtMost}
@@ -18,7 +18,7 @@ use Rattle.hipstr.specs.Step.{IsHalfMutated, Performs, SlotAnswers, SlotMutates,
 use Rattle.hipstr.specs.declared.command.Answer.{Answer}
 use Rattle.hipstr.specs.declared.command.Answer.TheVariants.{Byte, Char, Done, Nothing, Refused}
 use Rattle.hipstr.specs.declared.command.Command.{Command}
-use Rattle.hipstr.specs.declared.command.Command.TheVariants.{Bytes, Lower, Mutate, Owned, Pop, Push, Set, Shrink, Text, Truncate, Upper}
+use Rattle.hipstr.specs.declared.command.Command.TheVariants.{Bytes, Clear, Lower, Mutate, Owned, Pop, Push, Set, Shrink, Text, Truncate, Upper}
 use Rattle.hipstr.specs.declared.command.Reason.{Reason}
 use Rattle.hipstr.specs.declared.command.Reason.TheVariants.{Memory}
 use Rattle.hipstr.specs.declared.pool.Slot.{Slot}
@@ -164,6 +164,14 @@ module _ (shares : Bool) {old new : List SlotState} {t : ℕ} {was slot : SlotSt
   shrink-step least done flag =
       performed shares old (Shrink t least) Done new (slot-there old t at.within)
       (replaced old new t slot _ _ at.within at.put (flag ∙ ap (λ (s : SlotState). s.is_text) at.is_was) (subst (λ (s : SlotState). IsShrunk s.handle slot.handle (max least (length s.handle.items))) at.is_was done))
+
+  pub clear-step : IsShortened was.handle slot.handle 0 → slot.is_text ≡ was.is_text → Step shares old (Clear t) Done new
+  clear-step done flag =
+      performed shares old (Clear t) Done new (slot-there old t at.within)
+      (replaced old new t slot _ _ at.within at.put (flag ∙ ap (λ (s : SlotState). s.is_text) at.is_was) (subst (λ (s : SlotState). IsShortened s.handle slot.handle 0) at.is_was done))
+
+  pub clear-counted : (m n : ℕ) → RisesAtMost m n (shortened_cost was.handle.kind) → RisesAtMost m n (cost_of shares old (Clear t))
+  clear-counted m n = subst (RisesAtMost m n) (there (λ s. shortened_cost s.handle.kind))
 
   pub pop-step : (answer : Answer) → SlotPops was answer slot → Step shares old (Pop t) answer new
   pop-step answer pops = performed shares old (Pop t) answer new (slot-there old t at.within) (by-answer answer (subst (λ (s : SlotState). SlotPops s answer slot) at.is_was pops)) where

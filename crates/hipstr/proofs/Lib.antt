@@ -5,5 +5,6 @@ pub mod Little
 pub mod Parts
 pub mod Places
 pub mod Runs
+pub mod Slices
 pub mod Steps
 pub mod Ways

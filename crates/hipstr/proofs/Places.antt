@@ -1,5 +1,5 @@
 -- Lemmas on the places of a pool, for the methods that put a slot into one.
-use Rattle.std.proofs.Common.{◌≡◌, ◌∙◌, ◌*◌, ◌<◌, if◌then◌else◌, List, [], ℕ, Bool, false, true, length, map, slice_set, ap, refl, subst, arith, rules, Option, Some, None, Result, Ok, MatchOption}
+use Rattle.std.proofs.Common.{◌≡◌, ◌∙◌, ◌*◌, ◌<◌, ◌↔◌, IfSome, IsSome, if◌then◌else◌, List, [], ℕ, Bool, false, true, length, map, slice_set, ap, refl, subst, sym, arith, rules, Option, Some, None, Result, Ok, MatchOption}
 use Rattle.std.proofs.lemmas.Grind.{common_steps}
 use Rattle.std.proofs.lemmas.List.{get_or-map, length-map, length-set, map-set, set-get_or}
 use Rattle.hip_bytes.specs.Handle.{Handle}
@@ -10,7 +10,10 @@ use Rattle.hip_cuts.specs.Cut.{PartsIfAny}
 use Rattle.hip_text.proofs.Texts.{texts}
 use Rattle.hip_cuts.specs.Piece.{IsPartAt}
 use Rattle.hip_bytes.specs.Made.{RepeatAnswers}
-use Rattle.std.proofs.lemmas.Bool.{lt-ltb}
+use Rattle.std.proofs.lemmas.Bool.{lt-ltb, ltb-true}
+use Rattle.std.proofs.Math.Dec.{ltb}
+use Rattle.std.specs.Borrow.{Bor}
+use Rattle.std.specs.Slice.{IsItemAt}
 use Rattle.hipstr.specs.Step.{Step, length_fault, slot_fault}
 use Rattle.hipstr.specs.declared.command.Answer.TheVariants.{Done}
 use Rattle.hipstr.specs.declared.command.Command.TheVariants.{Repeat}
@@ -68,3 +71,18 @@ repeat-step shares old new s t n was made there_s there_t within is put flag ans
     let at = subst (λ (slot : SlotState). RepeatAnswers slot.handle n (Ok made.handle)) is answers in
     let fits : length_fault (n * length (slot_at old s).items) ≡ None = ap (λ b. if b then None else Some TooLong) (lt-ltb _ _ at.1) in
     performed shares old (Repeat s t n) Done new (neither _ _ there_s (neither _ _ there_t fits)) (replaced old new t made _ _ within put (flag ∙ ap (λ (slot : SlotState). slot.is_text) is) at.0)
+
+-- the slot that is read at a position, where there is one
+pub slot-read : {B S P : Type 0} (items : List (Slot B S P)) (slots : List SlotState) (i : ℕ) (result : Option (Bor (Slot B S P))) → map state_of items ≡ slots → IsItemAt items i result
+    → IfSome result (λ slot. state_of slot.now ≡ state_at slots i)
+slot-read items slots i None view at = tt
+slot-read items slots i (Some slot) view at =
+    let within : i < length items = ltb-true _ _ (sym at.0) in
+    ap state_of at.1 ∙ sym (get_or-map state_of items i slot.now empty_slot within) ∙ ap (λ l. state_at l i) view
+
+pub slot-found : {B S P : Type 0} (items : List (Slot B S P)) (slots : List SlotState) (i : ℕ) (result : Option (Bor (Slot B S P))) → map state_of items ≡ slots → IsItemAt items i result
+    → IsSome result ↔ (i < length slots)
+slot-found items slots i result view at =
+    let same : length items ≡ length slots = sym (length-map items state_of) ∙ ap length view in
+    let is = at.0 ∙ ap (λ n. ltb i n) same in
+    (λ some. ltb-true i (length slots) (sym is ∙ some), λ within. is ∙ lt-ltb i (length slots) within)
