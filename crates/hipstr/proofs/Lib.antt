@@ -1,6 +1,7 @@
 pub mod Amortised
 pub mod InPlace
 pub mod Joins
+pub mod Lent
 pub mod Little
 pub mod Parts
 pub mod Places

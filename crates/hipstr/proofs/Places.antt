@@ -1,5 +1,5 @@
 -- Lemmas on the places of a pool, for the methods that put a slot into one.
-use Rattle.std.proofs.Common.{◌≡◌, ◌∙◌, ◌*◌, ◌<◌, ◌↔◌, IfSome, IsSome, if◌then◌else◌, List, [], ℕ, Bool, false, true, length, map, slice_set, ap, refl, subst, sym, arith, rules, Option, Some, None, Result, Ok, MatchOption}
+use Rattle.std.proofs.Common.{◌≡◌, ◌∙◌, ◌*◌, ◌^◌, ◌<◌, ◌≤◌, ◌↔◌, if◌then◌else◌, List, [], ℕ, Bool, false, true, length, map, slice_set, ap, refl, subst, sym, arith, rules, Option, Some, None, IfSome, IsSome, Result, Ok, Err, MatchOption}
 use Rattle.std.proofs.lemmas.Grind.{common_steps}
 use Rattle.std.proofs.lemmas.List.{get_or-map, length-map, length-set, map-set, set-get_or}
 use Rattle.hip_bytes.specs.Handle.{Handle}
@@ -10,15 +10,23 @@ use Rattle.hip_cuts.specs.Cut.{PartsIfAny}
 use Rattle.hip_text.proofs.Texts.{texts}
 use Rattle.hip_cuts.specs.Piece.{IsPartAt}
 use Rattle.hip_bytes.specs.Made.{RepeatAnswers}
-use Rattle.std.proofs.lemmas.Bool.{lt-ltb, ltb-true}
+use Rattle.std.proofs.lemmas.Bool.{le-ltb, lt-ltb, ltb-true}
 use Rattle.std.proofs.Math.Dec.{ltb}
 use Rattle.std.specs.Borrow.{Bor}
 use Rattle.std.specs.Slice.{IsItemAt}
-use Rattle.hipstr.specs.Step.{Step, length_fault, slot_fault}
-use Rattle.hipstr.specs.declared.command.Answer.TheVariants.{Done}
+use Rattle.std.specs.Option.{option_or}
+use Rattle.hip_bytes.specs.Join.{repeat_cost}
+use Rattle.hip_bytes.specs.Meter.{RisesAtMost}
+use Rattle.hip_bytes.specs.declared.grow_fault.GrowFault.{GrowFault}
+use Rattle.hip_bytes.specs.declared.grow_fault.GrowFault.TheVariants.{Memory as grow_memory, TooLong as grow_too_long}
+use Rattle.hipstr.specs.Reason.{grow_reason_of}
+use Rattle.hipstr.specs.Step.{Step, cost_of, fault_of, length_fault, slot_fault, unless}
+use Rattle.hipstr.specs.declared.command.Answer.{Answer}
+use Rattle.hipstr.specs.declared.command.Reason.{Reason}
+use Rattle.hipstr.specs.declared.command.Answer.TheVariants.{Done, Refused}
 use Rattle.hipstr.specs.declared.command.Command.TheVariants.{Repeat}
-use Rattle.hipstr.specs.declared.command.Reason.TheVariants.{TooLong}
-use Rattle.hipstr.proofs.Steps.{neither, performed, replaced}
+use Rattle.hipstr.specs.declared.command.Reason.TheVariants.{Memory, TooLong}
+use Rattle.hipstr.proofs.Steps.{faulted, neither, performed, replaced}
 use Rattle.hipstr.specs.Slot.{SlotState, Replaces, empty_slot, slot_at, state_at, state_of}
 use Rattle.hipstr.specs.declared.pool.Slot.{Slot}
 
@@ -86,3 +94,43 @@ slot-found items slots i result view at =
     let same : length items ≡ length slots = sym (length-map items state_of) ∙ ap length view in
     let is = at.0 ∙ ap (λ n. ltb i n) same in
     (λ some. ltb-true i (length slots) (sym is ∙ some), λ within. is ∙ lt-ltb i (length slots) within)
+
+-- the faults of a repeat whose slots are there
+repeat-fault : (old : List SlotState) (s t n : ℕ) (first : Option Reason) → slot_fault old s ≡ None → slot_fault old t ≡ None → length_fault (n * length (slot_at old s).items) ≡ first → fault_of old (Repeat s t n) ≡ first
+repeat-fault old s t n first there_s there_t is =
+    let len = length_fault (n * length (slot_at old s).items) in
+    ap (λ (fault : Option Reason). option_or fault (option_or (slot_fault old t) len)) there_s ∙ ap (λ (fault : Option Reason). option_or fault len) there_t ∙ is
+
+pub short-enough : (n : ℕ) → n < 2 ^ 64 → length_fault n ≡ None
+short-enough n within = ap (λ b. if b then None else Some TooLong) (lt-ltb n (2 ^ 64) within)
+
+pub too-long : (n : ℕ) → 2 ^ 64 ≤ n → length_fault n ≡ Some TooLong
+too-long n past = ap (λ b. if b then None else Some TooLong) (le-ltb n (2 ^ 64) past)
+
+-- a repeat that was refused, for its length or for memory
+pub repeat-refused : (shares : Bool) (old new : List SlotState) (s t n : ℕ) (was : SlotState) (fault : GrowFault) (answer : Answer) → slot_fault old s ≡ None → slot_fault old t ≡ None → was ≡ state_at old s → new ≡ old
+    → answer ≡ Refused (grow_reason_of fault) → RepeatAnswers was.handle n (Err fault) → Step shares old (Repeat s t n) answer new
+repeat-refused shares old new s t n was fault answer there_s there_t is same told answers =
+    subst (λ (answer : Answer). Step shares old (Repeat s t n) answer new) (sym told) (by-fault fault (subst (λ (slot : SlotState). RepeatAnswers slot.handle n (Err fault)) is answers)) where
+      by-fault : (fault : GrowFault) → RepeatAnswers (slot_at old s) n (Err fault) → Step shares old (Repeat s t n) (Refused (grow_reason_of fault)) new
+      by-fault grow_memory at = performed shares old (Repeat s t n) (Refused Memory) new (repeat-fault old s t n None there_s there_t (short-enough _ at.1)) (at.0, same)
+      by-fault grow_too_long at = faulted shares old new (Repeat s t n) TooLong (repeat-fault old s t n (Some TooLong) there_s there_t (too-long _ at)) same
+
+-- what a repeat counted
+pub repeat-counted : (shares : Bool) (old : List SlotState) (s t n : ℕ) (was : SlotState) (result : Result Handle GrowFault) (before after : ℕ) → slot_fault old s ≡ None → slot_fault old t ≡ None → was ≡ state_at old s
+    → RepeatAnswers was.handle n result → RisesAtMost before after (repeat_cost shares was.handle.kind (length was.handle.items) n) → (result ≡ Err grow_too_long → after ≡ before)
+    → RisesAtMost before after (cost_of shares old (Repeat s t n))
+repeat-counted shares old s t n was result before after there_s there_t is answers rises none = by-result result (subst (λ (slot : SlotState). RepeatAnswers slot.handle n result) is answers) none where
+  cost : ℕ
+  cost = repeat_cost shares (slot_at old s).kind (length (slot_at old s).items) n
+
+  by-fault : (fault : Option Reason) → length_fault (n * length (slot_at old s).items) ≡ fault → RisesAtMost before after (unless fault cost) → RisesAtMost before after (cost_of shares old (Repeat s t n))
+  by-fault fault same counts = subst (λ (fault : Option Reason). RisesAtMost before after (unless fault cost)) (sym (repeat-fault old s t n fault there_s there_t same)) counts
+
+  there : RisesAtMost before after cost
+  there = subst (λ (slot : SlotState). RisesAtMost before after (repeat_cost shares slot.handle.kind (length slot.handle.items) n)) is rises
+
+  by-result : (result : Result Handle GrowFault) → RepeatAnswers (slot_at old s) n result → (result ≡ Err grow_too_long → after ≡ before) → RisesAtMost before after (cost_of shares old (Repeat s t n))
+  by-result (Ok handle) at none = by-fault None (short-enough _ at.1) there
+  by-result (Err grow_memory) at none = by-fault None (short-enough _ at.1) there
+  by-result (Err grow_too_long) at none = by-fault (Some TooLong) (too-long _ at) (record { never_falls = omega (arith, none refl); at_most = omega (arith, none refl) })

@@ -62,6 +62,10 @@ faulted shares old new command reason is same =
     subst (λ (fault : Option Reason). MatchOption fault (Performs shares old command (Refused reason) new) (λ first. (let answer : Answer = Refused reason in answer) ≡ Refused first × (new ≡ old)))
     (sym is) (refl, same)
 
+-- a command whose slot isn't there
+pub no-slot : (shares : Bool) (slots : List SlotState) (command : Command) (answer : Answer) → answer ≡ Refused NoSlot → fault_of slots command ≡ Some NoSlot → Step shares slots command answer slots
+no-slot shares slots command answer told is = subst (λ (answer : Answer). Step shares slots command answer slots) (sym told) (faulted shares slots slots command NoSlot is refl)
+
 -- a slot that was put is replaced by one whose handle P holds of
 pub replaced : (old new : List SlotState) (t : ℕ) (slot : SlotState) (is_text : Bool) (P : Handle → Type 0)
     → t < length old → new ≡ slice_set old t slot → slot.is_text ≡ is_text → P slot.handle → Replaces old new t is_text P

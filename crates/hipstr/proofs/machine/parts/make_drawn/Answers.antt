@@ -1,11 +1,10 @@
 use Rattle.std.proofs.Common.{◌≡◌, ◌≤◌, ◌∙◌, Bool, false, subst, length, map, replicate, refl, ap, sym, arith}
-use Rattle.std.proofs.lemmas.Grind.{common_steps}
 use Rattle.std.proofs.lemmas.List.{length-map}
 use Rattle.hip_match.specs.Draw.{draw}
 use Rattle.std.specs.Prelude.{◌&&◌}
 use Rattle.hipstr.specs.Cut.{has_back}
 use Rattle.hipstr.specs.Slot.{empty_slot, state_of}
-use Rattle.hipstr.proofs.Parts.{all-front, goes-on, has-ended, is-refused, so-far-none}
+use Rattle.hipstr.proofs.Parts.{all-front, goes-on, has-ended, is-refused, script-ended, so-far-none}
 use Rattle.hipstr.proofs.machine.parts.make_drawn.Goals as goal
 
 pub loop-i-init : goal.loop-i-init
@@ -47,4 +46,31 @@ draw_at-requires g c one_way =
     all-front c.args.script.now c.loop-i.i _ (subst (λ (alone : Bool). (alone && has_back c.args.script.now) ≡ false) one_way c.requires.ends) c.loop-i-test.true
 
 pub returns : goal.returns
-returns g c = grind (arith, common_steps)
+returns g c =
+    let state = state_of {B = g.row.B.Denot} {S = g.row.B-Sole.Denot} {P = g.row.B-Extent.Denot} in
+    let all = script-ended g.B.Backend.SHARES c.args.walk.source (draw c.args.walk.rest c.args.script.now) c.loop-i.walk.rest c.args.script.now c.loop-i.i
+    (map state c.loop-i.spare) c.args.meter.now c.loop-i.meter c.loop-i.invariant.so_far c.loop-i-test.false in
+    record { made = (omega (arith, all.made.0, c.loop-i-test.false, c.loop-i.auto.i-end), all.made.1); counted = all.rises }
+
+pub bounds-script-i : goal.bounds-script-i
+bounds-script-i g c = c.loop-i-test.true
+
+pub put_text-requires : goal.put_text-requires
+put_text-requires g c =
+    let state = state_of {B = g.row.B.Denot} {S = g.row.B-Sole.Denot} {P = g.row.B-Extent.Denot} in
+    omega (arith, c.loop-i-test.true, c.requires.room.within, c.loop-i.auto.spare, length-map c.args.spare.now state)
+
+pub empty_all-requires : goal.empty_all-requires
+empty_all-requires g c = λ κs within. within
+
+pub drop-walk-inside-requires : goal.drop-walk-inside-requires
+drop-walk-inside-requires g c = λ κs within. within
+
+pub loop-i-smaller : goal.loop-i-smaller
+loop-i-smaller g c = omega (arith, c.loop-i-test.true)
+
+pub drop-walk-inside-requires-in-None : goal.drop-walk-inside-requires-in-None
+drop-walk-inside-requires-in-None g c = λ κs within. within
+
+pub drop-walk-inside-requires-2 : goal.drop-walk-inside-requires-2
+drop-walk-inside-requires-2 g c = λ κs within. within

@@ -1,6 +1,11 @@
-use Rattle.std.proofs.Common.{◌∙◌, ap, refl, slice_set, sym}
+use Rattle.std.proofs.Common.{◌≡◌, ◌∙◌, ap, refl, rules, slice_set, subst, sym}
+use Rattle.hip_bytes.specs.Meter.{RisesAtMost}
+use Rattle.hipstr.specs.Reason.{answer_of, grow_reason_of}
+use Rattle.hipstr.specs.Step.{cost_of}
+use Rattle.hipstr.specs.declared.command.Answer.TheVariants.{Refused}
+use Rattle.hipstr.specs.declared.command.Command.TheVariants.{Repeat}
 use Rattle.hipstr.specs.Slot.{state_of}
-use Rattle.hipstr.proofs.Places.{repeat-step}
+use Rattle.hipstr.proofs.Places.{repeat-counted, repeat-refused, repeat-step}
 use Rattle.hipstr.proofs.pool.Pool.make_repeat.Goals.{in-Bytes+in_ok-repeat_metered-in-Bytes, in-Text+in_ok-repeat_metered-in-Text}
 use Rattle.hipstr.proofs.pool.Pool.make_repeat.Goals as goal
 
@@ -10,4 +15,34 @@ returns-clause-step g c = elim c.match-source.branch [
       c.in_ok-find.ensures.within (sym (ap state_of w.in-Bytes.is) ∙ c.in_ok-source.ensures.slot) (c.put.ensures ∙ ap (λ m. slice_set c.args.self.now c.args.t (state_of m)) w.made-is) refl w.in_ok-repeat_metered-in-Bytes.ensures.repeated
   | in-Text+in_ok-repeat_metered-in-Text w ↦ repeat-step g.B.Backend.SHARES c.args.self.now c.put.new.self c.args.s c.args.t c.args.n _ _ c.in_ok-source.ensures.found c.in_ok-find.ensures.found
       c.in_ok-find.ensures.within (sym (ap state_of w.in-Text.is) ∙ c.in_ok-source.ensures.slot) (c.put.ensures ∙ ap (λ m. slice_set c.args.self.now c.args.t (state_of m)) w.made-is) refl w.in_ok-repeat_metered-in-Text.ensures.repeated
+]
+
+pub returns-in_err-repeat_metered-in-Bytes : goal.returns-in_err-repeat_metered-in-Bytes
+returns-in_err-repeat_metered-in-Bytes g c =
+    let told : answer_of c.from_residual-in_err-repeat_metered-in-Bytes.result ≡ Refused (grow_reason_of c.in_err-repeat_metered-in-Bytes.field-0.0) = search rules in
+    record {
+      step = repeat-refused g.B.Backend.SHARES c.args.self.now c.args.self.now c.args.s c.args.t c.args.n _ c.in_err-repeat_metered-in-Bytes.field-0.0 _ c.in_ok-source.ensures.found c.in_ok-find.ensures.found
+          (sym (ap state_of c.in-Bytes.is) ∙ c.in_ok-source.ensures.slot) refl told c.in_err-repeat_metered-in-Bytes.ensures.repeated;
+      counted = repeat-counted g.B.Backend.SHARES c.args.self.now c.args.s c.args.t c.args.n _ _ _ _ c.in_ok-source.ensures.found c.in_ok-find.ensures.found
+          (sym (ap state_of c.in-Bytes.is) ∙ c.in_ok-source.ensures.slot) c.in_err-repeat_metered-in-Bytes.ensures.repeated c.in_err-repeat_metered-in-Bytes.ensures.counted c.in_err-repeat_metered-in-Bytes.ensures.refused_counts_none;
+    }
+
+pub returns-in_err-repeat_metered-in-Text : goal.returns-in_err-repeat_metered-in-Text
+returns-in_err-repeat_metered-in-Text g c =
+    let told : answer_of c.from_residual-in_err-repeat_metered-in-Text.result ≡ Refused (grow_reason_of c.in_err-repeat_metered-in-Text.field-0.0) = search rules in
+    record {
+      step = repeat-refused g.B.Backend.SHARES c.args.self.now c.args.self.now c.args.s c.args.t c.args.n _ c.in_err-repeat_metered-in-Text.field-0.0 _ c.in_ok-source.ensures.found c.in_ok-find.ensures.found
+          (sym (ap state_of c.in-Text.is) ∙ c.in_ok-source.ensures.slot) refl told c.in_err-repeat_metered-in-Text.ensures.repeated;
+      counted = repeat-counted g.B.Backend.SHARES c.args.self.now c.args.s c.args.t c.args.n _ _ _ _ c.in_ok-source.ensures.found c.in_ok-find.ensures.found
+          (sym (ap state_of c.in-Text.is) ∙ c.in_ok-source.ensures.slot) c.in_err-repeat_metered-in-Text.ensures.repeated c.in_err-repeat_metered-in-Text.ensures.counted c.in_err-repeat_metered-in-Text.ensures.refused_counts_none;
+    }
+
+pub returns-clause-counted : goal.returns-clause-counted
+returns-clause-counted g c = elim c.match-source.branch [
+  | in-Bytes+in_ok-repeat_metered-in-Bytes w ↦ subst (λ m. RisesAtMost c.args.meter.now m (cost_of g.B.Backend.SHARES c.args.self.now (Repeat c.args.s c.args.t c.args.n))) (sym w.meter-is)
+      (repeat-counted g.B.Backend.SHARES c.args.self.now c.args.s c.args.t c.args.n _ _ _ _ c.in_ok-source.ensures.found c.in_ok-find.ensures.found
+      (sym (ap state_of w.in-Bytes.is) ∙ c.in_ok-source.ensures.slot) w.in_ok-repeat_metered-in-Bytes.ensures.repeated w.in_ok-repeat_metered-in-Bytes.ensures.counted w.in_ok-repeat_metered-in-Bytes.ensures.refused_counts_none)
+  | in-Text+in_ok-repeat_metered-in-Text w ↦ subst (λ m. RisesAtMost c.args.meter.now m (cost_of g.B.Backend.SHARES c.args.self.now (Repeat c.args.s c.args.t c.args.n))) (sym w.meter-is)
+      (repeat-counted g.B.Backend.SHARES c.args.self.now c.args.s c.args.t c.args.n _ _ _ _ c.in_ok-source.ensures.found c.in_ok-find.ensures.found
+      (sym (ap state_of w.in-Text.is) ∙ c.in_ok-source.ensures.slot) w.in_ok-repeat_metered-in-Text.ensures.repeated w.in_ok-repeat_metered-in-Text.ensures.counted w.in_ok-repeat_metered-in-Text.ensures.refused_counts_none)
 ]

@@ -1,5 +1,23 @@
+use Rattle.std.proofs.Common.{◌≡◌, Option, ap, rules}
+use Rattle.std.specs.Option.{option_or}
 use Rattle.hipstr.proofs.InPlace.{in-place, text-step}
+use Rattle.hipstr.proofs.Steps.{no-slot}
+use Rattle.hipstr.specs.Reason.{answer_of}
+use Rattle.hipstr.specs.Slot.{state_at}
+use Rattle.hipstr.specs.Step.{text_fault}
+use Rattle.hipstr.specs.declared.command.Answer.TheVariants.{Refused}
+use Rattle.hipstr.specs.declared.command.Command.TheVariants.{Text}
+use Rattle.hipstr.specs.declared.command.Reason.{Reason}
+use Rattle.hipstr.specs.declared.command.Reason.TheVariants.{NoSlot}
 use Rattle.hipstr.proofs.pool.Pool.make_text.Goals as goal
+
+pub returns-in_err-find : goal.returns-in_err-find
+returns-in_err-find g c =
+    let told : answer_of c.from_residual.result ≡ Refused NoSlot = search rules in
+    record {
+      step = no-slot g.B.Backend.SHARES c.args.self.now (Text c.args.t) _ told
+          (ap (λ (none : Option Reason). option_or none (text_fault (state_at c.args.self.now c.args.t))) c.in_err-find.ensures.missing);
+    }
 
 pub returns : goal.returns
 returns g c = record { step = text-step g.B.Backend.SHARES (in-place c.self.inside.slots.items c.args.self.now c.args.t c.index_mut.result.now c.make_text.new.self c.self.view_is c.in_ok-find.ensures.within c.index_mut.ensures.value) c.make_text.result c.make_text.ensures.text }
