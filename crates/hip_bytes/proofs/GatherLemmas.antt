@@ -153,7 +153,3 @@ counted_copied a b c n len false first second same = record { never_falls = omeg
 -- what is written over a vector's items is as long as they were
 pub written_long : (vec : Vec ℕ Global) (ws bytes items : List ℕ) → items ≡ (with_items vec ws).items → vec.items ≡ bytes → length items ≡ length bytes
 written_long vec ws bytes items is was = ap length is ∙ sym (with_items vec ws).ok.0 ∙ vec.ok.0 ∙ ap length was
-
-pub once_copied : (shares : Bool) (n : ℕ) → n ≤ times_copied shares n
-once_copied true n = le_refl n
-once_copied false n = omega arith

@@ -107,13 +107,6 @@ length-joined f sep (x ∷ xs) =
     let others : length (x ∷ xs) - 1 ≡ length xs = omega arith in
     omega (arith, ap (λ n. n * length sep) others, length-flat_map-next f sep xs, length-append (f x) (flat_map (next f sep) xs), length-append (f x) (flat_map f xs))
 
--- the length of a front of the pieces with one more
-pub length-front : {A : Type 0} (f : A → List ℕ) (xs : List A) (i : ℕ) (d : A) → i < length xs
-    → length (flat_map f (take (i + 1) xs)) ≡ length (flat_map f (take i xs)) + length (f (get_or xs i d))
-length-front f xs i d within =
-    ap (λ ys. length (flat_map f ys)) (take_more xs i d within) ∙ ap length (flat_map-append f (take i xs) (get_or xs i d ∷ []))
-    ∙ omega (arith, length-append (flat_map f (take i xs)) (flat_map f (get_or xs i d ∷ [])), length-append (f (get_or xs i d)) [])
-
 -- a join goes on by the gap and the piece
 pub joined-more : {A : Type 0} (f : A → List ℕ) (sep : List ℕ) (xs : List A) (y : A) (shown made gap : List ℕ)
     → shown ≡ f y → made ≡ join_by f sep xs → gap ≡ gap_at (length xs) sep → (made ++ gap) ++ shown ≡ join_by f sep (xs ++ y ∷ [])

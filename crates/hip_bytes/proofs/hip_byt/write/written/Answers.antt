@@ -1,6 +1,7 @@
 use Rattle.std.proofs.Common.{◌∙◌, ◌≤◌, ap, length, subst, arith}
 use Rattle.std.proofs.lemmas.Grind.{common_steps}
-use Rattle.hip_bytes.proofs.GatherLemmas.{counted_copied, counted_more, once_copied, if_fault, written_long}
+use Rattle.hip_bytes.proofs.Pushes.{all_copied}
+use Rattle.hip_bytes.proofs.GatherLemmas.{counted_copied, counted_more, if_fault, written_long}
 use Rattle.hip_bytes.proofs.hip_byt.write.written.Goals as goal
 
 pub returns-in-Ok-clause-ran : goal.returns-in-Ok-clause-ran
@@ -29,5 +30,5 @@ returns-in_err-vec g c =
       len = if_fault r _ _ fault;
       kind = if_fault r _ _ fault;
       fits = if_fault r _ _ fault;
-      counted = counted_more _ _ _ _ c.copy_counted.ensures.counted (once_copied _ _);
+      counted = counted_more _ _ _ _ c.copy_counted.ensures.counted (all_copied _ _);
     }
