@@ -1,5 +1,5 @@
 -- Bytes that are added to a list that is being made.
-use Rattle.std.proofs.Common.{◌≡◌, ◌∙◌, ℕ, ◌+◌, ◌-◌, ◌*◌, ◌^◌, ◌<◌, ◌≤◌, true, false, List, [], ◌++◌, length, nat_le, Option, Some, None, Result, Ok, Err, IfOk, OnOk, if◌then◌else◌, Bool, Vec, Global, ap, ap₂, sym, length-append, le_refl, arith}
+use Rattle.std.proofs.Common.{◌≡◌, ◌∙◌, ℕ, ◌+◌, ◌-◌, ◌*◌, ◌^◌, ◌<◌, ◌≤◌, true, false, List, [], ◌++◌, length, nat_le, Option, Some, None, Result, Ok, Err, IfOk, OnOk, if◌then◌else◌, Bool, Vec, Global, ap, ap₂, sym, length-append, arith}
 use Rattle.std.specs.Option.{SomeIff, is_some}
 use Rattle.std.specs.Result.{IsErrAnd}
 use Rattle.std.proofs.lemmas.Bool.{le-leb, lt-leb}
