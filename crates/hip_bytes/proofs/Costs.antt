@@ -20,7 +20,7 @@ shared_part_is_little Allocated len = search arith
 pub nothing_copied : (m n : ℕ) → RisesAtMost m m n
 nothing_copied m n = record { never_falls = le_refl m; at_most = omega arith }
 
--- what holds in any case holds of a refusal
+-- a fact that holds in any case holds of a refusal
 pub if_err : {A E : Type 0} (r : Result A E) (P : Type 0) → P → OnErr r P
 if_err (Ok a) P h = tt
 if_err (Err e) P h = h

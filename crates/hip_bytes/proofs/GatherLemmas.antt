@@ -6,6 +6,7 @@ use Rattle.std.proofs.lemmas.Bool.{le-leb, lt-leb}
 use Rattle.std.proofs.lemmas.List.{with_items_is}
 use Rattle.std.specs.Vec.{with_items}
 use Rattle.hip_raw.specs.Meter.{RisesAtLeast, RisesAtMost, count_from, times_copied, unless_shared}
+use Rattle.hip_bytes.proofs.Pushes.{is_long, is_short}
 use Rattle.hip_bytes.specs.Gathering.{spill_cost}
 use Rattle.hip_bytes.specs.declared.grow_fault.GrowFault.{GrowFault}
 use Rattle.hip_bytes.specs.declared.grow_fault.GrowFault.TheVariants.{TooLong, Memory}
@@ -36,12 +37,12 @@ copied_twice a b c m n first second = omega arith
 pub counted_there : (a b m : ℕ) → RisesAtMost a b m → RisesAtMost a b (m + spill_cost false false)
 counted_there a b m rises = record { never_falls = rises.never_falls; at_most = omega arith }
 
--- what fits the handle stays in it
+-- bytes that fit the handle stay in it
 pub stays : (xs gap bytes all : List ℕ) (more len : ℕ) → all ≡ (xs ++ gap) ++ bytes → more ≡ length gap + length bytes → len ≡ length xs → len ≤ INLINE_CAPACITY → more ≤ INLINE_CAPACITY - len
     → true ≡ nat_le (length all) INLINE_CAPACITY
 stays xs gap bytes all more len is more_is len_is within fits = sym (le-leb (length all) INLINE_CAPACITY (omega (arith, length-two_behind xs gap bytes all is)))
 
--- what doesn't fit it moves into a vector
+-- bytes that don't fit it move into a vector
 pub moves : (xs gap bytes all : List ℕ) (more len : ℕ) → all ≡ (xs ++ gap) ++ bytes → more ≡ length gap + length bytes → len ≡ length xs → INLINE_CAPACITY - len < more
     → false ≡ nat_le (length all) INLINE_CAPACITY
 moves xs gap bytes all more len is more_is len_is over = sym (lt-leb (length all) INLINE_CAPACITY (omega (arith, length-two_behind xs gap bytes all is)))
@@ -71,25 +72,22 @@ pub past_behind : (r : Option ℕ) (xs gap bytes : List ℕ) (more len : ℕ) �
 past_behind (Some n) xs gap bytes more len sum none more_is len_is = absurd (cc)
 past_behind None xs gap bytes more len sum none more_is len_is = omega (arith, sum)
 
--- what doesn't fit the handle
+-- bytes that don't fit the handle
 pub over : (xs gap bytes : List ℕ) (more len : ℕ) → more ≡ length gap + length bytes → len ≡ length xs → INLINE_CAPACITY - len < more
     → INLINE_CAPACITY < length xs + length gap + length bytes
 over xs gap bytes more len more_is len_is past = omega arith
 
-pub kind_beyond : (len : ℕ) → INLINE_CAPACITY < len → Allocated ≡ by_length len
-kind_beyond len long = sym (ap (λ fits. if fits then Inline else Allocated) (lt-leb len INLINE_CAPACITY long))
-
 -- two slices one behind the other, in a handle of their own
 module _ (front back : List ℕ) (len : ℕ) (sum : len ≡ length front + length back) where
   pub short_kind : len ≤ INLINE_CAPACITY → Inline ≡ by_length (length front + length back)
-  short_kind short = sym (ap (λ fits. if fits then Inline else Allocated) (le-leb (length front + length back) INLINE_CAPACITY (omega arith)))
+  short_kind short = sym (is_short (length front + length back) (omega arith))
 
   module _ (long : INLINE_CAPACITY < len) where
     pub needs_memory : INLINE_CAPACITY < length front + length back
     needs_memory = omega arith
 
     pub long_kind : Allocated ≡ by_length (length front + length back)
-    long_kind = kind_beyond (length front + length back) needs_memory
+    long_kind = sym (is_long (length front + length back) needs_memory)
 
 pub holds_both : (front back items : List ℕ) (capacity : ℕ) → items ≡ front ++ back → length items ≤ capacity → length front + length back ≤ capacity
 holds_both front back items capacity is fits = omega (arith, ap length is, length-append front back)
@@ -150,6 +148,6 @@ pub counted_copied : (a b c n len : ℕ) (shares : Bool) → RisesAtMost a b n �
 counted_copied a b c n len true first second same = record { never_falls = omega arith; at_most = omega arith }
 counted_copied a b c n len false first second same = record { never_falls = omega arith; at_most = omega arith }
 
--- what is written over a vector's items is as long as they were
+-- bytes written over a vector's items are as many as these
 pub written_long : (vec : Vec ℕ Global) (ws bytes items : List ℕ) → items ≡ (with_items vec ws).items → vec.items ≡ bytes → length items ≡ length bytes
 written_long vec ws bytes items is was = ap length is ∙ sym (with_items vec ws).ok.0 ∙ vec.ok.0 ∙ ap length was

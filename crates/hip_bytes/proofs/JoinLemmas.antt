@@ -12,7 +12,7 @@ use Rattle.hip_bytes.specs.declared.grow_fault.GrowFault.{GrowFault}
 use Rattle.hip_bytes.specs.declared.grow_fault.GrowFault.TheVariants.{Memory, TooLong}
 use Rattle.hip_bytes.specs.declared.kind.Kind.TheVariants.{Allocated}
 use Rattle.hip_bytes.specs.declared.kind.TheConstants.{INLINE_CAPACITY}
-use Rattle.hip_bytes.proofs.GatherLemmas.{kind_beyond}
+use Rattle.hip_bytes.proofs.Pushes.{is_long}
 
 pub not_below : (m n : ℕ) → (m < n → ⊥) → n ≤ m
 not_below m n over = omega (arith, over)
@@ -31,7 +31,7 @@ holds_whole handle xs items same items_are kind capacity =
 pub holds_owned : (handle : Handle) (held : Held) (items : List ℕ) → handle ≡ record { kind = Allocated; items = held.items; capacity = held.capacity }
     → held.items ≡ items → length held.items ≤ held.capacity → INLINE_CAPACITY < length items → Holds handle (by_length (length items)) items
 holds_owned handle held items is same fits long =
-    let kind = kind_beyond (length items) long in
+    let kind = sym (is_long (length items) long) in
     subst (λ (h : Handle). Holds h (by_length (length items)) items) (sym is)
     (record { kind_is = kind; items_are = same; capacity = subst (λ k. HasCapacity k (length items) held.capacity) kind (subst (λ xs. length xs ≤ held.capacity) same fits) })
 

@@ -1,5 +1,5 @@
 -- Parts, by where the bytes lie.
-use Rattle.std.proofs.Common.{◌≡◌, ℕ, ◌-◌, ◌<◌, ◌≤◌, Bool, List, if◌then◌else◌, drop, length, length-drop, length-take-le, slice_range, Result, Ok, Err, refl, sym, ap, subst, subst₂, arith}
+use Rattle.std.proofs.Common.{◌≡◌, ℕ, ◌-◌, ◌<◌, ◌≤◌, Bool, List, if◌then◌else◌, length, slice_range, Result, Ok, Err, refl, sym, ap, subst, subst₂, arith}
 use Rattle.std.proofs.lemmas.Bool.{le-leb, lt-leb}
 use Rattle.std.specs.Prelude.{IsErr}
 use Rattle.hip_raw.specs.Held.{Held}
@@ -10,20 +10,17 @@ use Rattle.hip_bytes.specs.Kinds.{by_length, HasCapacity}
 use Rattle.hip_bytes.specs.Made.{CutAnswers, IsPart}
 use Rattle.hip_bytes.specs.declared.kind.Kind.TheVariants.{Inline, Borrowed, Allocated}
 use Rattle.hip_bytes.specs.declared.kind.TheConstants.{INLINE_CAPACITY}
-use Rattle.hip_bytes.proofs.Pushes.{is_short, owner_handle}
-use Rattle.hip_bytes.proofs.Writes.{is_long}
+use Rattle.hip_bytes.proofs.Pushes.{is_long, is_short, owner_handle}
+use Rattle.hip_bytes.proofs.Slices.{length-part}
 
 abbrev pub Parts : Bool → Handle → Handle → ℕ → ℕ → ℕ → ℕ → Type 0
 Parts shares old new start end m m' = IsPart old new (slice_range old.items start end) × RisesAtMost m m' (cut_cost shares old.kind (end - start))
-
-part_long : (xs : List ℕ) (start end : ℕ) → start ≤ end → end ≤ length xs → length (slice_range xs start end) ≡ end - start
-part_long xs start end ordered within = length-take-le (end - start) (drop start xs) (omega (arith, length-drop start xs))
 
 module _ (shares : Bool) (old : Handle) (start end m m' : ℕ) (ordered : start ≤ end) (in_bounds : end ≤ length old.items) where
   pub in_handle : (xs new : List ℕ) → record { kind = Inline; items = xs; capacity = INLINE_CAPACITY } ≡ old → new ≡ slice_range xs start end
       → length new ≤ INLINE_CAPACITY → RisesAtMost m m' (end - start) → Parts shares old (record { kind = Inline; items = new; capacity = INLINE_CAPACITY }) start end m m'
   in_handle xs new view is short counted =
-      let long = part_long xs start end ordered (subst (λ h. end ≤ length h.items) (sym view) in_bounds) in
+      let long = length-part xs start end ordered (subst (λ h. end ≤ length h.items) (sym view) in_bounds) in
       subst (λ h. Parts shares h (record { kind = Inline; items = new; capacity = INLINE_CAPACITY }) start end m m') view (
         record { kind_is = refl; items_are = is; capacity = refl },
         record { never_falls = counted.never_falls; at_most = omega (arith, counted.at_most, ap length is, long) },
@@ -45,7 +42,7 @@ module _ (shares : Bool) (old : Handle) (start end m m' : ℕ) (ordered : start 
         → Parts shares old (record { kind = Inline; items = new; capacity = INLINE_CAPACITY }) start end m m'
     short_part new is short counted =
         let fits = le-leb (end - start) INLINE_CAPACITY short in
-        let long = part_long held.items start end ordered within in
+        let long = length-part held.items start end ordered within in
         let kind = is_short (length (slice_range held.items start end)) (omega (arith, long)) in
         subst (λ h. Parts shares h (record { kind = Inline; items = new; capacity = INLINE_CAPACITY }) start end m m') view (
           record { kind_is = sym kind; items_are = is; capacity = subst (λ k. HasCapacity k (length (slice_range held.items start end)) INLINE_CAPACITY) (sym kind) refl },
@@ -53,7 +50,7 @@ module _ (shares : Bool) (old : Handle) (start end m m' : ℕ) (ordered : start 
         )
 
     long_kind : INLINE_CAPACITY < end - start → by_length (length (slice_range held.items start end)) ≡ Allocated
-    long_kind long = is_long (length (slice_range held.items start end)) (omega (arith, part_long held.items start end ordered within, long))
+    long_kind long = is_long (length (slice_range held.items start end)) (omega (arith, length-part held.items start end ordered within, long))
 
     long_cost : INLINE_CAPACITY < end - start → RisesAtMost m m' (unless_shared shares (end - start)) → RisesAtMost m m' (cut_cost shares Allocated (end - start))
     long_cost long counted = subst (λ b. RisesAtMost m m' (if b then end - start else unless_shared shares (end - start))) (sym (lt-leb (end - start) INLINE_CAPACITY long)) counted
@@ -75,4 +72,4 @@ module _ (shares : Bool) (old : Handle) (start end m m' : ℕ) (ordered : start 
     refused (Ok copy) err long counted = absurd (cc)
     refused (Err error) err long counted =
         subst (λ h. CutNeedsMemory h.kind (length (slice_range h.items start end)) × RisesAtMost m m' (cut_cost shares h.kind (end - start))) view
-        ((refl, omega (arith, part_long held.items start end ordered within, long)), long_cost long counted)
+        ((refl, omega (arith, length-part held.items start end ordered within, long)), long_cost long counted)

@@ -14,6 +14,9 @@ use Rattle.hip_bytes.specs.declared.kind.TheConstants.{INLINE_CAPACITY}
 pub is_short : (len : ℕ) → len ≤ INLINE_CAPACITY → by_length len ≡ Inline
 is_short len short = ap (λ b. if b then Inline else Allocated) (le-leb len INLINE_CAPACITY short)
 
+pub is_long : (len : ℕ) → INLINE_CAPACITY < len → by_length len ≡ Allocated
+is_long len long = ap (λ b. if b then Inline else Allocated) (lt-leb len INLINE_CAPACITY long)
+
 abbrev pub Pushed : Bool → Handle → Handle → List ℕ → ℕ → ℕ → Type 0
 Pushed shares old new ys m m' =
     IsPushed shares old new ys × RisesAtMost m m' (push_cost shares (length old.items) (length ys)) × RisesAtLeast m m' (length ys) × PushIsPaid shares old new (length ys) m m'

@@ -4,7 +4,7 @@ use Rattle.std.proofs.Math.Nat.{add-mul, suc-mul, mul-le-mul_right}
 use Rattle.std.proofs.Math.Seq.{take-append_seam}
 use Rattle.std.proofs.lemmas.Bool.{eq-eqb, ne_eqb, or_from, or_left, or_right}
 use Rattle.std.specs.Prelude.{MatchBool, IsErrAnd}
-use Rattle.hip_raw.specs.Meter.{RisesAtLeast, RisesAtMost, times_copied, unless_shared}
+use Rattle.hip_raw.specs.Meter.{RisesAtLeast, RisesAtMost, times_copied}
 use Rattle.hip_bytes.specs.Cost.{clone_cost}
 use Rattle.hip_bytes.specs.declared.kind.Kind.{Kind}
 use Rattle.hip_bytes.specs.declared.kind.Kind.TheVariants.{Allocated}
@@ -137,16 +137,6 @@ module _ (shares : Bool) (source : Handle) (n m m' : ℕ) (some : length source.
         λ _. subst (RisesAtLeast m m') (sym (ap length items ∙ size)) copied,
         λ same. absurd (cc),
       )
-
-twice : (shares : Bool) (n : ℕ) → n + unless_shared shares n ≡ times_copied shares n
-twice true n = omega arith
-twice false n = refl
-
-pub counted_twice : (shares : Bool) (n m mid m' : ℕ) → RisesAtMost m mid n → RisesAtMost mid m' (unless_shared shares n) → RisesAtMost m m' (times_copied shares n)
-counted_twice shares n m mid m' first second = record { never_falls = omega (arith, first.never_falls, second.never_falls); at_most = omega (arith, first.at_most, second.at_most, twice shares n) }
-
-pub counted_once : (shares : Bool) (n m m' : ℕ) → RisesAtMost m m' n → RisesAtMost m m' (times_copied shares n)
-counted_once shares n m m' counted = record { never_falls = counted.never_falls; at_most = omega (arith, counted.at_most, twice shares n) }
 
 -- the list as often as was wanted
 module _ (made bytes : List ℕ) (done n len : ℕ) (whole : len ≡ n * length bytes) (all : done ≡ n) (so_far : made ≡ repeat done bytes) where

@@ -24,6 +24,9 @@ slice-of-slice xs start end from to ordered within =
     ∙ ap (take (to - from)) (drop-drop from start xs)
     ∙ ap (λ n. take n (drop (start + from) xs)) {x = to - from} {y = (start + to) - (start + from)} (omega arith)
 
+pub length-part : (xs : List ℕ) (start end : ℕ) → start ≤ end → end ≤ length xs → length (slice_range xs start end) ≡ end - start
+length-part xs start end ordered within = length-take-le (end - start) (drop start xs) (omega (arith, length-drop start xs))
+
 -- positions in order and within the length are a range
 pub range-fits : (start end len : ℕ) → start ≤ end → end ≤ len → range_fault start end len ≡ None
 range-fits start end len ordered within = rw (le-ltb len start (omega arith), le-ltb len end within, le-ltb end start ordered) refl
@@ -38,31 +41,34 @@ kind-of-part Inline most len within = refl
 kind-of-part Borrowed most len within = refl
 kind-of-part Allocated most len within = short-kind (nat_le most INLINE_CAPACITY) most len within refl
 
--- a range that was found in the bounds
+range-of : {K : Type 0} → Result (ℕ × ℕ) K → ℕ × ℕ
+range-of (Ok range) = range
+range-of (Err kind) = (0, 0)
+
+-- an answer that is a range has no fault, and the ends that were asked for
+pub found-ends : {K : Type 0} {start end a b : ℕ} (given : Result (ℕ × ℕ) K) (fault : Option K) → given ≡ Ok (start, end) → MatchOption fault (given ≡ Ok (a, b)) (λ kind. given ≡ Err kind)
+    → (fault ≡ None) × (start ≡ a) × (end ≡ b)
+unfolding range-of
+found-ends given None is found = let pair = sym is ∙ found in (refl, ap (λ r. (range-of r).0) pair, ap (λ r. (range-of r).1) pair)
+found-ends given (Some kind) is found = absurd (cc)
+
+-- the bounds in which a range was found
 abbrev pub Found : Bound ℕ → Bound ℕ → ℕ → ℕ → ℕ → Option SliceErrorKind → Type 0
 Found low high len start end fault =
     let range : Result (ℕ × ℕ) SliceErrorKind = Ok (start, end) in
     MatchOption fault (range ≡ Ok (start_index low, end_index high len)) (λ kind. range ≡ Err kind)
 
-ends-found : (low high : Bound ℕ) (len start end : ℕ) (fault : Option SliceErrorKind) → Found low high len start end fault
-    → (fault ≡ None) × (start ≡ start_index low) × (end ≡ end_index high len)
-ends-found low high len start end None found =
-    let same : (start, end) ≡ (start_index low, end_index high len) = cc in
-    (refl, ap (λ (p : ℕ × ℕ). p.0) same, ap (λ (p : ℕ × ℕ). p.1) same)
-ends-found low high len start end (Some kind) found = absurd (cc)
-
 module _ (source : Handle) (low high : Bound ℕ) (len start end : ℕ) (size : len ≡ length source.items) (found : Found low high len start end (slice_fault low high len)) where
   pub sound : slice_fault low high (length source.items) ≡ None
-  sound = subst (λ k. slice_fault low high k ≡ None) size (ends-found low high len start end (slice_fault low high len) found).0
+  sound = subst (λ k. slice_fault low high k ≡ None) size (found-ends _ (slice_fault low high len) refl found).0
 
   pub is_slice : slice_range source.items start end ≡ slice_of low high source.items
   is_slice =
-      let ends = ends-found low high len start end (slice_fault low high len) found in
+      let ends = found-ends _ (slice_fault low high len) refl found in
       ap₂ (slice_range source.items) ends.1 (ends.2 ∙ ap (end_index high) size)
 
   pub costs_slice : (shares : Bool) (m m' : ℕ) → start ≤ end → end ≤ len → RisesAtMost m m' (cut_cost shares source.kind (end - start)) → RisesAtMost m m' (slice_cost shares source low high)
   costs_slice shares m m' ordered within counted =
-      let long : end - start ≡ length (slice_of low high source.items) =
-      sym (length-take-le (end - start) (drop start source.items) (omega (arith, length-drop start source.items))) ∙ ap length is_slice in
+      let long = sym (length-part source.items start end ordered (omega arith)) ∙ ap length is_slice in
       subst (λ fault. RisesAtMost m m' (if is_none fault then cut_cost shares source.kind (length (slice_of low high source.items)) else 0)) (sym sound)
       (subst (λ k. RisesAtMost m m' (cut_cost shares source.kind k)) long counted)

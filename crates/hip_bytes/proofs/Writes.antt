@@ -1,6 +1,6 @@
 -- The answers of calls that write over the bytes, by where they lay.
-use Rattle.std.proofs.Common.{◌≡◌, ◌∙◌, ℕ, ◌<◌, ◌≤◌, Bool, true, false, if◌then◌else◌, List, length, drop, refl, sym, ap, subst, le_refl, take_all, arith, Option, Some, None, Result, Ok, Err}
-use Rattle.std.proofs.lemmas.Bool.{false≢true, lt-leb, true≢false}
+use Rattle.std.proofs.Common.{◌≡◌, ◌∙◌, ℕ, ◌<◌, ◌≤◌, Bool, true, false, List, length, drop, refl, sym, ap, subst, le_refl, take_all, arith, Option, Some, None, Result, Ok, Err}
+use Rattle.std.proofs.lemmas.Bool.{false≢true, true≢false}
 use Rattle.std.proofs.lemmas.List.{take-append-le}
 use Rattle.std.specs.Prelude.{IfNone, IfOk, IfSome, IsOk, IsSome, OnErr, OnSome}
 use Rattle.std.specs.Result.{result_ok}
@@ -9,14 +9,11 @@ use Rattle.hip_raw.specs.Held.{Held}
 use Rattle.hip_raw.specs.Meter.{RisesAtMost, times_copied}
 use Rattle.hip_bytes.specs.Cost.{write_cost, WriteNeedsMemory}
 use Rattle.hip_bytes.specs.Handle.{Handle}
-use Rattle.hip_bytes.specs.Kinds.{by_length, owned_kind, HasCapacity}
+use Rattle.hip_bytes.specs.Kinds.{owned_kind, HasCapacity}
 use Rattle.hip_bytes.specs.declared.kind.Kind.{Kind}
 use Rattle.hip_bytes.specs.declared.kind.Kind.TheVariants.{Inline, Borrowed, Allocated}
 use Rattle.hip_bytes.specs.declared.kind.TheConstants.{INLINE_CAPACITY}
-use Rattle.hip_bytes.proofs.Pushes.{all_copied, is_short, owner_handle}
-
-pub is_long : (len : ℕ) → INLINE_CAPACITY < len → by_length len ≡ Allocated
-is_long len long = ap (λ b. if b then Inline else Allocated) (lt-leb len INLINE_CAPACITY long)
+use Rattle.hip_bytes.proofs.Pushes.{all_copied, is_long, is_short, owner_handle}
 
 pub refill-whole : (xs ws : List ℕ) → length ws ≡ length xs → refill (length xs) xs ws ≡ ws
 refill-whole xs ws same = take-append-le (length xs) ws (drop (length ws) xs) (omega arith) ∙ take_all (length xs) ws (omega arith)
@@ -85,7 +82,7 @@ may_fail shares Allocated len apart long = apart
 pub refused : (shares : Bool) (kind : Kind) (len m m' : ℕ) → Apart shares kind → RisesAtMost m m' (times_copied shares len) → RisesAtMost m m' (write_cost shares kind len)
 refused shares kind len m m' apart counted = subst (RisesAtMost m m') (costs shares kind len apart) counted
 
--- what a call that lends the bytes leaves, where `P` holds of the bytes before it, its answer, and those after it
+-- a call that lends the bytes, where `P` holds of those before it, its answer, and those after it
 abbrev pub Lends : {R : Type 0} → (List ℕ → R → List ℕ → Type 0) → Bool → Handle → Handle → Option R → Type 0
 Lends P shares old new r =
     IfSome r (λ answer. P old.items answer new.items) × (length new.items ≡ length old.items) × (new.kind ≡ old.kind) × (new.capacity ≡ old.capacity)
