@@ -14,9 +14,6 @@ use Rattle.hip_match.specs.Joined.{parts_at}
 use Rattle.hip_match.specs.Pieces.{split}
 use Rattle.hip_fields.specs.Records.{AreFields, fields_cost, fields_of}
 
-pub length-part : (text : List ℕ) (start end : ℕ) → start ≤ end → end ≤ length text → length (slice_range text start end) ≡ end - start
-length-part text start end ordered within = grind (arith, common_steps)
-
 -- the fields at the pieces of a line
 pub fields-at : {E : Type 0} (source : Handle) (drawn : Result (Vec Handle Global) E) (separator : ℕ) (text line : List ℕ) (pieces : List (ℕ × ℕ))
     → text ≡ line → pieces ≡ split (char_ends (λ c. c == separator) text) (length text)

@@ -3,9 +3,7 @@ use Rattle.std.proofs.Common.{◌≡◌, ◌∙◌, ℕ, ◌+◌, ◌-◌, ◌<�
 use Rattle.std.proofs.lemmas.Bool.{cases_lt}
 use Rattle.std.proofs.lemmas.List.{get_or-drop, get_or-take, length-drop, length-take-le}
 use Rattle.std.specs.Str.{IsCharBoundary}
-
-pub length-part : (text : List ℕ) (start end : ℕ) → start ≤ end → end ≤ length text → length (slice_range text start end) ≡ end - start
-length-part text start end ordered within = length-take-le (end - start) (drop start text) (omega (arith, length-drop start text))
+use Rattle.hip_bytes.proofs.Slices.{length-part}
 
 index-part : (text : List ℕ) (start end i : ℕ) → i < end - start → slice_index (slice_range text start end) i ≡ slice_index text (start + i)
 index-part text start end i within = get_or-take (end - start) (drop start text) i 0 within ∙ get_or-drop start text i 0

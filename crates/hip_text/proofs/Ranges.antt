@@ -1,4 +1,4 @@
--- Two bounds that are a range of a text.
+-- Two bounds that are a range of a text, or none.
 use Rattle.std.proofs.Common.{◌≡◌, ◌∙◌, ℕ, ◌-◌, ◌≤◌, Bool, List, length, slice_range, Option, Some, None, Result, Ok, Err, ap, ap₂, refl, subst, sym, arith}
 use Rattle.std.specs.Option.{MatchOption}
 use Rattle.std.specs.Prelude.{is_none, if◌then◌else◌}
@@ -7,19 +7,9 @@ use Rattle.std.specs.declared.ops.Bound.{Bound}
 use Rattle.hip_bytes.specs.Cost.{cut_cost}
 use Rattle.hip_bytes.specs.Handle.{Handle}
 use Rattle.hip_bytes.specs.Range.{slice_of}
-use Rattle.hip_text.proofs.Boundaries.{length-part}
+use Rattle.hip_bytes.proofs.Slices.{found-ends, length-part}
 use Rattle.hip_text.specs.Slice.{text_slice_fault, slice_cost}
 use Rattle.hip_text.specs.declared.slice_error.SliceErrorKind.{SliceErrorKind}
-
-ended : {K : Type 0} → Result (ℕ × ℕ) K → ℕ × ℕ
-ended (Ok range) = range
-ended (Err kind) = (0, 0)
-
-answered : {K : Type 0} {start end a b : ℕ} (given : Result (ℕ × ℕ) K) (fault : Option K) → given ≡ Ok (start, end) → MatchOption fault (given ≡ Ok (a, b)) (λ kind. given ≡ Err kind)
-    → (fault ≡ None) × (start ≡ a) × (end ≡ b)
-unfolding ended
-answered given None is range = let pair = sym is ∙ range in (refl, ap (λ r. (ended r).0) pair, ap (λ r. (ended r).1) pair)
-answered given (Some kind) is range = absurd (cc)
 
 -- the bounds are the range from `start` up to `end`
 pub record IsRange (source : Handle) (low high : Bound ℕ) (start end : ℕ) : Type 0 where
@@ -31,7 +21,7 @@ pub is_range : (source : Handle) (low high : Bound ℕ) (text : List ℕ) (start
     → MatchOption (text_slice_fault low high text) (given ≡ Ok (start_index low, end_index high (length text))) (λ kind. given ≡ Err kind)
     → start ≤ end → end ≤ length text → IsRange source low high start end
 is_range source low high text start end given gave is range ordered within =
-    let found = answered given (text_slice_fault low high text) gave range in
+    let found = found-ends given (text_slice_fault low high text) gave range in
     let valid = subst (λ l. text_slice_fault low high l ≡ None) is found.0 in
     let same = ap₂ (slice_range source.items) found.1 (found.2 ∙ ap (λ l. end_index high (length l)) is) in
     record {

@@ -129,7 +129,7 @@ module _ (shares : Bool) {old new : List SlotState} {t : ℕ} {was slot : SlotSt
   pub lower-step : IsRewritten shares was.handle slot.handle (map to_ascii_lowercase was.handle.items) → slot.is_text ≡ was.is_text → Step shares old (Lower t) Done new
   lower-step done flag = performed shares old (Lower t) Done new (slot-there old t at.within) (rewritten (map to_ascii_lowercase) done flag)
 
-  -- what a call on the slot counted
+  -- the bytes that a call on the slot may copy
   there : (copies : SlotState → ℕ) → copies was ≡ unless (slot_fault old t) (copies (state_at old t))
   there copies = ap copies at.is_was ∙ ap (λ (fault : Option Reason). unless fault (copies (state_at old t))) (sym (slot-there old t at.within))
 

@@ -1,4 +1,4 @@
--- What a value costs whose items are lent and put back, longer or as they were.
+-- The cost of a value whose items are lent and put back, longer or as they were.
 use Rattle.std.proofs.Common.{◌≡◌, ◌∙◌, ℕ, ◌+◌, List, ◌++◌, length, max, ap, arith}
 use Rattle.std.proofs.lemmas.List.{length-append}
 use Rattle.hip_bytes.specs.Meter.{RisesAtMost}

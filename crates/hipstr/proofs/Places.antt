@@ -116,7 +116,7 @@ repeat-refused shares old new s t n was fault answer there_s there_t is same tol
       by-fault grow_memory at = performed shares old (Repeat s t n) (Refused Memory) new (repeat-fault old s t n None there_s there_t (short-enough _ at.1)) (at.0, same)
       by-fault grow_too_long at = faulted shares old new (Repeat s t n) TooLong (repeat-fault old s t n (Some TooLong) there_s there_t (too-long _ at)) same
 
--- what a repeat counted
+-- the cost of a repeat
 pub repeat-counted : (shares : Bool) (old : List SlotState) (s t n : ℕ) (was : SlotState) (result : Result Handle GrowFault) (before after : ℕ) → slot_fault old s ≡ None → slot_fault old t ≡ None → was ≡ state_at old s
     → RepeatAnswers was.handle n result → RisesAtMost before after (repeat_cost shares was.handle.kind (length was.handle.items) n) → (result ≡ Err grow_too_long → after ≡ before)
     → RisesAtMost before after (cost_of shares old (Repeat s t n))

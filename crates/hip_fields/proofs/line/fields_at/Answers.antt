@@ -2,7 +2,8 @@ use Rattle.std.proofs.Common.{◌≡◌, ◌+◌, ◌-◌, [], length, slice_ran
 use Rattle.std.proofs.lemmas.List.{append-nil}
 use Rattle.hip_text.specs.Handle.{Handle}
 use Rattle.hip_match.specs.Joined.{parts_at}
-use Rattle.hip_fields.proofs.Fields.{field-next, field-cost, length-part}
+use Rattle.hip_bytes.proofs.Slices.{length-part}
+use Rattle.hip_fields.proofs.Fields.{field-next, field-cost}
 use Rattle.hip_fields.proofs.line.fields_at.Goals as goal
 
 pub loop-from-preserved : goal.loop-from-preserved
