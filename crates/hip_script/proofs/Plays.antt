@@ -1,9 +1,10 @@
 -- The text that is written for the lines of a script, a run or a line at a time.
-use Rattle.std.proofs.Common.{◌≡◌, ℕ, ◌+◌, ◌<◌, ◌≤◌, Bool, List, [], ◌∷◌, ◌++◌, length, take, drop, get_or, map, Option, refl, sym, ap, ◌∙◌, subst, append_assoc, arith, ⊎_elim}
+use Rattle.std.proofs.Common.{◌≡◌, ℕ, ◌+◌, ◌<◌, ◌≤◌, ◌⊎◌, Bool, true, false, inl, inr, codes, ap₂, List, [], ◌∷◌, ◌++◌, length, take, drop, get_or, map, Option, refl, sym, ap, ◌∙◌, subst, append_assoc, arith, ⊎_elim}
+use Rattle.std.proofs.lemmas.Bool.{cases_lt, le-ltb, lt-ltb}
 use Rattle.std.proofs.lemmas.List.{append-nil, map-append, map_more, take_all, take-append-drop}
 use Rattle.std.specs.Io.KnownBytes.{Appends}
 use Rattle.hipstr.specs.Run.{Run}
-use Rattle.hipstr.specs.Slot.{SlotState}
+use Rattle.hipstr.specs.Slot.{SlotState, state_at}
 use Rattle.hipstr.specs.Step.{Costs, Step}
 use Rattle.hipstr.specs.declared.command.Answer.{Answer}
 use Rattle.hipstr.specs.declared.command.Command.{Command}
@@ -11,7 +12,7 @@ use Rattle.hipstr.specs.declared.command.Command.TheVariants.{New, Inline, Borro
 use Rattle.hip_script.proofs.Appended.{appends-none, appends-then}
 use Rattle.hip_script.specs.Performed.{AsideText, PerformsAt, Place, PlaysLine, Tells}
 use Rattle.hip_script.specs.Played.{Answers, FieldsText, IsPlayed, IsPlayedInPart, State, Writes, WritesAll, at_start, fields_cost, printed_show}
-use Rattle.hip_script.specs.Printed.{printed_answer, printed_answers}
+use Rattle.hip_script.specs.Printed.{printed_answer, printed_answers, printed_slot}
 use Rattle.hip_script.specs.Said.{Held, aside_says, line_says, says_in}
 use Rattle.hip_script.specs.Spoken.{Spoken}
 use Rattle.hip_script.specs.Told.{says}
@@ -301,9 +302,17 @@ played-nothing shares lines old = record {
   played = record { text = []; state = at_start; writes = (refl, refl); written = appends-none old };
 }
 
-pub plays-aside : (shares : Bool) (line : Line) (aside : Aside) (waiting passed left : List Command) (old ran new : Place) → line ≡ AsideLine aside → left ≡ []
-    → passed ≡ waiting → PerformsAt shares passed old ran → new.slots ≡ ran.slots
+pub plays-aside : (shares : Bool) (line : Line) (aside : Aside) (waiting left : List Command) (old ran new : Place) → line ≡ AsideLine aside → left ≡ [] → PerformsAt shares waiting old ran → new.slots ≡ ran.slots
     → Tells shares ran.slots aside ran.counted new.counted ran.written new.written → PlaysLine shares line waiting left old new
-plays-aside shares line aside waiting passed left old ran new is empty passes performs same tells =
-    let performed = rw passes at performs in
-    rw is (empty, ran, performed, same, tells)
+plays-aside shares line aside waiting left old ran new is empty performs same tells = rw is (empty, ran, performs, same, tells)
+
+-- a slot's line says what the slot is, and its bytes
+pub prints-slot : (slots : List SlotState) (s : ℕ) (state : SlotState) (is_text : Bool) (bytes : List ℕ) → s < length slots → state ≡ state_at slots s → is_text ≡ state.is_text → bytes ≡ state.handle.items
+    → printed_slot is_text bytes ≡ printed_show slots s
+prints-slot slots s state is_text bytes within is flag shown = rw (lt-ltb s (length slots) within) (ap₂ printed_slot (flag ∙ ap (λ (state : SlotState). state.is_text) is) (shown ∙ ap (λ (state : SlotState). state.handle.items) is))
+
+pub prints-no-slot : (slots : List SlotState) (s : ℕ) → (s < length slots → false ≡ true) → codes "refused NoSlot\n" ≡ printed_show slots s
+prints-no-slot slots s never = by-order (cases_lt s (length slots)) where
+  by-order : (s < length slots) ⊎ (length slots ≤ s) → codes "refused NoSlot\n" ≡ printed_show slots s
+  by-order (inl within) = let clash = never within in absurd (cc)
+  by-order (inr beyond) = rw (le-ltb s (length slots) beyond) refl

@@ -1,5 +1,5 @@
 //! Playing a script.
-ghost use Rattle.std.specs.Prelude.{◌≡◌, ◌<◌, ◌⊎◌, ℕ, List, map, Err, IfSome, IsErrOf, OnOk};
+ghost use Rattle.std.specs.Prelude.{◌≡◌, ◌<◌, ◌⊎◌, ℕ, List, [], map, Err, IfSome, IsErrOf, OnOk};
 ghost use Rattle.std.specs.Io.KnownBytes.{Appends};
 ghost use Rattle.std.specs.List.{AllByRecursion};
 ghost use Rattle.hip_script.specs.Grammar.{script_of};
@@ -144,16 +144,31 @@ fn play_line<'b, B: Backend, W: Write>(
             if commands.len() < AT_ONCE {
                 return Ok(());
             }
-            perform(alloc, pool, commands.as_slice(), meter, out)?;
-            commands.clear();
-            Ok(())
+            perform_waiting(alloc, pool, commands, meter, out)
         }
         Line::Aside(aside) => {
-            perform(alloc, pool, commands.as_slice(), meter, out)?;
-            commands.clear();
+            perform_waiting(alloc, pool, commands, meter, out)?;
             tell(alloc, pool, aside, meter, out)
         }
     }
+}
+
+/// Performs the commands that wait, of which none is left then.
+fn perform_waiting<'b, B: Backend, W: Write>(
+    alloc: Global,
+    pool: &mut Pool<'b, B>,
+    commands: &mut Vec<Command<'b>>,
+    meter: &mut Meter,
+    out: &mut W,
+) -> Result<(), Stop>
+    ensures ok { OnOk result (Performs B.SHARES pool.old commands.old.items pool.new meter.old meter.new
+        (W.contents out.old) (W.contents out.new)) }
+    ensures emptied { OnOk result (commands.new.items ≡ []) }
+    ensures memory { IsErrOf result Stop.Memory → W.contents out.new ≡ W.contents out.old }
+{
+    perform(alloc, pool, commands.as_slice(), meter, out)?;
+    commands.clear();
+    Ok(())
 }
 
 /// Performs commands, and prints their answers.
@@ -195,10 +210,10 @@ fn tell<B: Backend, W: Write>(
     ensures memory { IsErrOf result Stop.Memory → ⊥ }
 {
     match aside {
-        Aside::Show(slot) => show(pool, slot, out)?,
-        Aside::Copied => print_count(out, meter.copied())?,
-        Aside::Fields(slot, separator) => tell_fields(alloc, pool, slot, separator, meter, out)?,
-    }
+        Aside::Show(slot) => show(pool, slot, out),
+        Aside::Copied => print_count(out, meter.copied()),
+        Aside::Fields(slot, separator) => tell_fields(alloc, pool, slot, separator, meter, out),
+    }?;
     Ok(())
 }
 

@@ -122,10 +122,13 @@ const LITERAL: Word = Word::Quoted(Quote::Bytes);
 
 const SEPARATOR: Word = Word::Quoted(Quote::Char);
 
-/// All lines that there are, by the first letters of their names.
-static ROWS: [Row; 34] = [
+// All lines that there are, by the first letters of their names.
+const FROM_B: &[Row] = &[
     ("borrow", (Verb::Borrow, &[Target, LITERAL])),
     ("bytes", (Verb::Bytes, &[Target])),
+];
+
+const FROM_C: &[Row] = &[
     ("copy", (Verb::Copy, &[Target, LITERAL])),
     ("clone", (Verb::Clone, &[Source, Target])),
     ("clear", (Verb::Clear, &[Target])),
@@ -133,24 +136,45 @@ static ROWS: [Row; 34] = [
     ("comparepath", (Verb::ComparePath, &[Source, Number])),
     ("capacity", (Verb::Capacity, &[Source])),
     ("copied", (Verb::Copied, &[])),
-    ("fields", (Verb::Fields, &[Source, SEPARATOR])),
-    ("inline", (Verb::Inline, &[Target, LITERAL])),
-    ("join", (Verb::Join, &[Source, Number, LITERAL, Target])),
-    ("kind", (Verb::Kind, &[Source])),
+];
+
+const FROM_F: &[Row] = &[("fields", (Verb::Fields, &[Source, SEPARATOR]))];
+
+const FROM_I: &[Row] = &[("inline", (Verb::Inline, &[Target, LITERAL]))];
+
+const FROM_J: &[Row] = &[("join", (Verb::Join, &[Source, Number, LITERAL, Target]))];
+
+const FROM_K: &[Row] = &[("kind", (Verb::Kind, &[Source]))];
+
+const FROM_L: &[Row] = &[
     ("lower", (Verb::Lower, &[Target])),
     ("len", (Verb::Len, &[Source])),
-    ("mutate", (Verb::Mutate, &[Target, LITERAL])),
-    ("new", (Verb::New, &[Target])),
+];
+
+const FROM_M: &[Row] = &[("mutate", (Verb::Mutate, &[Target, LITERAL]))];
+
+const FROM_N: &[Row] = &[("new", (Verb::New, &[Target]))];
+
+const FROM_O: &[Row] = &[
     ("owned", (Verb::Owned, &[Target])),
     (
         "once",
         (Verb::Once, &[Source, Target, Number, Word::End, Pattern]),
     ),
+];
+
+const FROM_P: &[Row] = &[
     ("push", (Verb::Push, &[Target, LITERAL])),
     ("pop", (Verb::Pop, &[Target])),
     ("pieces", (Verb::Pieces, &[Source, Word::Way, Ends, Target])),
+];
+
+const FROM_R: &[Row] = &[
     ("room", (Verb::Room, &[Target, Number])),
     ("repeat", (Verb::Repeat, &[Source, Target, Number])),
+];
+
+const FROM_S: &[Row] = &[
     ("slice", (Verb::Slice, &[Source, Target, Range])),
     ("shrink", (Verb::Shrink, &[Target, Number])),
     ("set", (Verb::Set, &[Target, Number, Byte])),
@@ -159,6 +183,9 @@ static ROWS: [Row; 34] = [
         (Verb::Strip, &[Source, Target, Word::End, Pattern]),
     ),
     ("show", (Verb::Show, &[Source])),
+];
+
+const FROM_T: &[Row] = &[
     ("truncate", (Verb::Truncate, &[Target, Number])),
     ("text", (Verb::Text, &[Target])),
     ("trim", (Verb::Trim, &[Source, Target, Word::Side])),
@@ -166,29 +193,30 @@ static ROWS: [Row; 34] = [
         "trimm",
         (Verb::TrimMatches, &[Source, Target, Word::Side, Pattern]),
     ),
-    ("upper", (Verb::Upper, &[Target])),
 ];
+
+const FROM_U: &[Row] = &[("upper", (Verb::Upper, &[Target]))];
 
 /// The lines whose names begin with a letter.
 fn rows_from(letter: u8) -> &'static [Row]
     ensures { (word : List ℕ) → look_up (letter ∷ word) (map (λ e. (e.0.now, (e.1.0, e.1.1.now))) result.now) ≡ look_up (letter ∷ word) rows }
 {
     match letter {
-        b'b' => &ROWS[0..2],
-        b'c' => &ROWS[2..9],
-        b'f' => &ROWS[9..10],
-        b'i' => &ROWS[10..11],
-        b'j' => &ROWS[11..12],
-        b'k' => &ROWS[12..13],
-        b'l' => &ROWS[13..15],
-        b'm' => &ROWS[15..16],
-        b'n' => &ROWS[16..17],
-        b'o' => &ROWS[17..19],
-        b'p' => &ROWS[19..22],
-        b'r' => &ROWS[22..24],
-        b's' => &ROWS[24..29],
-        b't' => &ROWS[29..33],
-        b'u' => &ROWS[33..34],
+        b'b' => FROM_B,
+        b'c' => FROM_C,
+        b'f' => FROM_F,
+        b'i' => FROM_I,
+        b'j' => FROM_J,
+        b'k' => FROM_K,
+        b'l' => FROM_L,
+        b'm' => FROM_M,
+        b'n' => FROM_N,
+        b'o' => FROM_O,
+        b'p' => FROM_P,
+        b'r' => FROM_R,
+        b's' => FROM_S,
+        b't' => FROM_T,
+        b'u' => FROM_U,
         _ => &[],
     }
 }
