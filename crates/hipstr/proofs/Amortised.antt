@@ -1,5 +1,5 @@
 -- Lemmas on the amortised cost of runs.
-use Rattle.std.proofs.Common.{◌≡◌, ◌∙◌, ℕ, zero, suc, ◌+◌, ◌*◌, ◌<◌, ◌≤◌, Bool, false, List, [], ◌∷◌, ◌++◌, length, take, get_or, slice_set, Option, Some, None, MatchOption, refl, ap, subst, arith}
+use Rattle.std.proofs.Common.{◌≡◌, ◌∙◌, ℕ, zero, suc, ◌+◌, ◌*◌, ◌<◌, ◌≤◌, Bool, false, List, [], ◌∷◌, ◌++◌, length, take, get_or, slice_set, Option, Some, None, MatchOption, refl, ap, subst, sym, arith}
 use Rattle.std.proofs.lemmas.List.{take_more}
 use Rattle.hip_bytes.specs.Cost.{handle_pot, PushIsPaid}
 use Rattle.hip_bytes.specs.Meter.{RisesAtMost}
@@ -76,3 +76,21 @@ pub RunAmortised-take_more : (shares : Bool) (old mid new : List SlotState) (com
     → more ≡ answers ++ answer ∷ [] → RunAmortised shares old (take (i + 1) commands) more new (total + amortised)
 RunAmortised-take_more shares old mid new commands i default answers more total answer amortised within run step costs added =
     rw (take_more commands i default within, added) (RunAmortised-append shares old mid new (take i commands) answers total (get_or commands i default) answer amortised run step costs)
+
+-- ---- a command that is performed
+-- The step of a command, the bytes that it copies, and that a push is paid, where the meter goes from `before` to `after`.
+abbrev pub IsPerformed : Bool → List SlotState → Answer → List SlotState → ℕ → ℕ → Command → Type 0
+IsPerformed shares old answer new before after command = record {
+  step : Step shares old command answer new;
+  counted : (cost : ℕ) × Costs shares old command cost × RisesAtMost before after cost;
+  paid : PushesArePaid shares old command new before after;
+}
+
+-- the command that was given is performed as the one that it is
+pub performed-as : (shares : Bool) (old : List SlotState) (answer : Answer) (new : List SlotState) (before after : ℕ) (given command : Command) → given ≡ command
+    → IsPerformed shares old answer new before after command → IsPerformed shares old answer new before after given
+performed-as shares old answer new before after given command is = subst (λ (c : Command). IsPerformed shares old answer new before after c) (sym is)
+
+-- a meter that stands still rises by no more than any number
+pub still : (meter most : ℕ) → RisesAtMost meter meter most
+still meter most = record { never_falls = omega arith; at_most = omega arith }

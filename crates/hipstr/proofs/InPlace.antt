@@ -1,7 +1,5 @@
 -- Commands that are a call on one slot, which changes where it stands.
 use Rattle.std.proofs.Common.{◌≡◌, ◌∙◌, ℕ, ◌<◌, inl, inr, Bool, true, false, List, length, map, max, get_or, slice_set, Option, Some, None, Result, Ok, Err, MatchOption, ap, refl, subst, sym}
-use Rattle.std.proofs.Math.ListN.{get_or-map}
-use Rattle.std.proofs.lemmas.List.{get_or_default}
 use Rattle.std.specs.Borrow.{Bor}
 use Rattle.std.specs.Char.{to_ascii_lowercase, to_ascii_uppercase}
 use Rattle.std.specs.Option.{option_or}
@@ -10,10 +8,10 @@ use Rattle.hip_bytes.specs.Cost.{shortened_cost, shrink_cost, write_cost, CutNee
 use Rattle.hip_bytes.specs.Handle.{Handle}
 use Rattle.hip_bytes.specs.Made.{IsOwned}
 use Rattle.hip_bytes.specs.Meter.{RisesAtMost}
-use Rattle.hipstr.proofs.Places.{put-is}
+use Rattle.hipstr.proofs.Places.{put-is, state-there}
 use Rattle.hipstr.proofs.Steps.{as-it-was, faulted, neither, no-other, performed, replaced, slot-there}
 use Rattle.hipstr.specs.Reason.{answer_of}
-use Rattle.hipstr.specs.Slot.{Replaces, SlotState, empty_slot, slot_at, state_at, state_of, text_at}
+use Rattle.hipstr.specs.Slot.{Replaces, SlotState, slot_at, state_at, state_of, text_at}
 use Rattle.hipstr.specs.Step.{IsHalfMutated, Performs, SlotAnswers, SlotMutates, SlotPops, Step, addition_fault, cost_of, end_fault, fault_of, not_text_fault, set_fault, slot_fault, text_fault, unless}
 use Rattle.hipstr.specs.declared.command.Answer.{Answer}
 use Rattle.hipstr.specs.declared.command.Answer.TheVariants.{Byte, Char, Done, Nothing, Refused}
@@ -33,7 +31,7 @@ pub in-place : {B S P : Type 0} (items : List (Slot B S P)) (old : List SlotStat
     → InPlace old (map state_of (slice_set items t changed)) t (state_of now) (state_of changed)
 in-place items old t now changed view within is = record {
   within = within;
-  is_was = ap state_of is ∙ sym (get_or-map state_of items t now) ∙ ap (λ l. get_or l t (state_of now)) view ∙ get_or_default old t (state_of now) empty_slot within;
+  is_was = state-there items old t now view within is;
   put = put-is items old t changed view;
 }
 

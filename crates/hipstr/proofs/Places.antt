@@ -1,5 +1,5 @@
 -- Lemmas on the places of a pool, for the methods that put a slot into one.
-use Rattle.std.proofs.Common.{◌≡◌, ◌∙◌, ◌*◌, ◌^◌, ◌<◌, ◌≤◌, ◌↔◌, if◌then◌else◌, List, [], ℕ, Bool, false, true, length, map, slice_set, ap, refl, subst, sym, arith, rules, Option, Some, None, IfSome, IsSome, Result, Ok, Err, MatchOption}
+use Rattle.std.proofs.Common.{◌≡◌, ◌∙◌, ◌*◌, ◌^◌, ◌<◌, ◌≤◌, ◌↔◌, if◌then◌else◌, List, [], ℕ, Bool, false, true, length, map, get_or, slice_set, ap, refl, subst, sym, arith, rules, Option, Some, None, IfSome, IsSome, Result, Ok, Err, MatchOption}
 use Rattle.std.proofs.lemmas.Grind.{common_steps}
 use Rattle.std.proofs.lemmas.List.{get_or-map, length-map, length-set, map-set, set-get_or}
 use Rattle.hip_bytes.specs.Handle.{Handle}
@@ -37,6 +37,13 @@ pub ruleset in_place = (common_steps, texts, map-set, get_or-map, length-map, se
 pub put-is : {B S P : Type 0} (items : List (Slot B S P)) (slots : List SlotState) (t : ℕ) (slot : Slot B S P) → map state_of items ≡ slots
     → map state_of (slice_set items t slot) ≡ slice_set slots t (state_of slot)
 put-is items slots t slot is = map-set state_of items t slot ∙ ap (λ l. slice_set l t (state_of slot)) is
+
+-- the state of the slot that stands at a position
+pub state-there : {B S P : Type 0} (items : List (Slot B S P)) (slots : List SlotState) (i : ℕ) (slot : Slot B S P) → map state_of items ≡ slots → i < length slots → slot ≡ get_or items i slot
+    → state_of slot ≡ state_at slots i
+state-there items slots i slot view within is =
+    let inside : i < length items = omega (arith, within, length-map items state_of, ap length view) in
+    ap state_of is ∙ sym (get_or-map state_of items i slot empty_slot inside) ∙ ap (λ l. state_at l i) view
 
 -- a slot of an empty handle is empty
 pub empty_handle : (handle : Handle) → IsEmptyInline handle → (let slot : SlotState = record { is_text = false; handle = handle } in slot) ≡ empty_slot
@@ -85,8 +92,7 @@ pub slot-read : {B S P : Type 0} (items : List (Slot B S P)) (slots : List SlotS
     → IfSome result (λ slot. state_of slot.now ≡ state_at slots i)
 slot-read items slots i None view at = tt
 slot-read items slots i (Some slot) view at =
-    let within : i < length items = ltb-true _ _ (sym at.0) in
-    ap state_of at.1 ∙ sym (get_or-map state_of items i slot.now empty_slot within) ∙ ap (λ l. state_at l i) view
+    state-there items slots i slot.now view (omega (arith, ltb-true _ _ (sym at.0), length-map items state_of, ap length view)) at.1
 
 pub slot-found : {B S P : Type 0} (items : List (Slot B S P)) (slots : List SlotState) (i : ℕ) (result : Option (Bor (Slot B S P))) → map state_of items ≡ slots → IsItemAt items i result
     → IsSome result ↔ (i < length slots)

@@ -7,8 +7,9 @@ use Rattle.std.proofs.lemmas.List.{get_or-set_same, set-get_or}
 use Rattle.std.specs.Prelude.{◌&&◌, nat_lt}
 use Rattle.std.specs.Option.{option_or}
 use Rattle.hip_bytes.specs.Handle.{Handle}
+use Rattle.hip_bytes.specs.Meter.{RisesAtMost}
 use Rattle.hipstr.specs.Slot.{Replaces, SlotState, empty_slot, state_at}
-use Rattle.hipstr.specs.Step.{Performs, Step, fault_of, one_end_fault, overlap_fault, slot_fault}
+use Rattle.hipstr.specs.Step.{Performs, Step, copies_of, cost_of, fault_of, one_end_fault, overlap_fault, slot_fault, unless}
 use Rattle.hipstr.specs.declared.command.Command.{Command}
 use Rattle.hipstr.specs.declared.command.Answer.{Answer}
 use Rattle.hipstr.specs.declared.command.Answer.TheVariants.{Refused}
@@ -22,9 +23,21 @@ performed shares old command answer new none done =
     subst (λ (fault : Option Reason). MatchOption fault (Performs shares old command answer new) (λ reason. (answer ≡ Refused reason) × (new ≡ old)))
     (sym none) done
 
+-- a command without a fault costs the bytes that it copies
+pub counted-unrefused : (shares : Bool) (slots : List SlotState) (command : Command) (before after : ℕ)
+    → fault_of slots command ≡ None → RisesAtMost before after (copies_of shares slots command) → RisesAtMost before after (cost_of shares slots command)
+counted-unrefused shares slots command before after none = subst (λ (fault : Option Reason). RisesAtMost before after (unless fault (copies_of shares slots command))) (sym none)
+
 -- no first fault and no second
 pub neither : (first second : Option Reason) → first ≡ None → second ≡ None → option_or first second ≡ None
 neither first second none_first none_second = ap (λ (fault : Option Reason). option_or fault second) none_first ∙ none_second
+
+-- a fault that is told as the first, and one that is told where the first isn't there
+pub told-first : (first second : Option Reason) (reason : Reason) → first ≡ Some reason → option_or first second ≡ Some reason
+told-first first second reason is = ap (λ (fault : Option Reason). option_or fault second) is
+
+pub told-later : (first second : Option Reason) (reason : Reason) → first ≡ None → second ≡ Some reason → option_or first second ≡ Some reason
+told-later first second reason none is = ap (λ (fault : Option Reason). option_or fault second) none ∙ is
 
 -- no fault but the first
 pub no-other : (first : Option Reason) → first ≡ option_or first None

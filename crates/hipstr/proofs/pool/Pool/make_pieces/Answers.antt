@@ -1,5 +1,4 @@
-use Rattle.std.proofs.Common.{◌≡◌, ◌∙◌, ◌≤◌, ◌+◌, ◌++◌, List, length, map, drop, take, replicate, Some, None, if◌then◌else◌, ap, rules, subst, sym, arith}
-use Rattle.std.proofs.lemmas.Grind.{common_steps}
+use Rattle.std.proofs.Common.{◌≡◌, ◌∙◌, ◌≤◌, ◌+◌, ◌++◌, List, length, map, drop, take, replicate, Some, None, if◌then◌else◌, ap, refl, rules, subst, sym, arith}
 use Rattle.std.proofs.lemmas.List.{length-map, with_items_is}
 use Rattle.hip_bytes.specs.Handle.{Handle}
 use Rattle.hip_match.specs.Draw.{draw}
@@ -7,14 +6,14 @@ use Rattle.hipstr.specs.Cut.{pieces_of}
 use Rattle.hipstr.specs.Parts.{put_all}
 use Rattle.hipstr.specs.Reason.{answer_of}
 use Rattle.hipstr.specs.Slot.{SlotState, empty_slot, slot_at, state_at, state_of}
-use Rattle.hipstr.specs.Step.{Step, not_text_fault}
+use Rattle.hipstr.specs.Step.{Step, not_text_fault, one_end_fault}
 use Rattle.hipstr.specs.declared.command.Answer.{Answer}
 use Rattle.hipstr.specs.declared.command.Answer.TheVariants.{Number, Refused}
 use Rattle.hipstr.specs.declared.command.Command.TheVariants.{Pieces}
-use Rattle.hipstr.specs.declared.command.Reason.TheVariants.{Overlap, Memory}
-use Rattle.hipstr.proofs.Parts.{draw-within, empty-length, hold-within, pieces-need, pieces-put, spare-emptied}
-use Rattle.hipstr.proofs.Places.{in_place}
-use Rattle.hipstr.proofs.Steps.{none-of-five, one-end, performed}
+use Rattle.hipstr.specs.declared.command.Reason.TheVariants.{NoSlot, Overlap, NotText, OneEnd, Memory}
+use Rattle.hipstr.proofs.Parts.{draw-within, empty-length, hold-within, pieces-cost, pieces-need, pieces-put, spare-emptied}
+use Rattle.hipstr.proofs.Places.{state-there}
+use Rattle.hipstr.proofs.Steps.{counted-unrefused, faulted, no-slot, none-of-five, one-end, performed, told-first, told-later}
 use Rattle.hipstr.proofs.pool.Pool.make_pieces.Goals as goal
 
 pub make_parts-requires-clause-room : goal.make_parts-requires-clause-room
@@ -39,19 +38,61 @@ put_parts-requires-clause-room g c =
     let targets = c.in_ok-find_all.ensures.within in
     omega (arith, c.in_ok-count.ensures.made.0, draw-within (pieces_of c.args.how c.in_ok-text.text.now.items) c.args.script.now, same, targets, ap length c.deref_mut.ensures.value)
 
-pub returns-in_err-count-clause-step : goal.returns-in_err-count-clause-step
-returns-in_err-count-clause-step g c =
+pub returns-in_err-find-clause-step : goal.returns-in_err-find-clause-step
+returns-in_err-find-clause-step g c = no-slot g.B.Backend.SHARES c.args.self.now (Pieces c.args.s c.args.how c.args.script c.args.first) _ (search rules) (told-first _ _ NoSlot c.in_err-find.ensures.missing)
+
+pub returns-in_err-find_all-clause-step : goal.returns-in_err-find_all-clause-step
+returns-in_err-find_all-clause-step g c =
+    no-slot g.B.Backend.SHARES c.args.self.now (Pieces c.args.s c.args.how c.args.script c.args.first) _ (search rules)
+    (told-later _ _ NoSlot c.in_ok-find.ensures.found (told-first _ _ NoSlot c.in_err-find_all.ensures.missing))
+
+pub returns-then-is_among-clause-step : goal.returns-then-is_among-clause-step
+returns-then-is_among-clause-step g c =
+    faulted g.B.Backend.SHARES c.args.self.now c.args.self.now (Pieces c.args.s c.args.how c.args.script c.args.first) Overlap
+    (told-later _ _ Overlap c.in_ok-find.ensures.found (told-later _ _ Overlap c.in_ok-find_all.ensures.found
+    (told-first _ _ Overlap (ap (λ b. if b then Some Overlap else None) (sym c.if-is_among.ensures))))) refl
+
+pub returns-in_err-text-clause-step : goal.returns-in_err-text-clause-step
+returns-in_err-text-clause-step g c =
+    let slots = c.args.self.now in
+    let was : state_of {B = g.row.B.Denot} {S = g.row.B-Sole.Denot} {P = g.row.B-Extent.Denot} c.index.result.now ≡ state_at slots c.args.s = state-there c.self.inside.slots.items slots c.args.s c.index.result.now c.self.view_is c.in_ok-find.ensures.within c.index.ensures in
+    let told : answer_of c.from_residual-in_err-text.result ≡ Refused NotText = search rules in
+    subst (λ (answer : Answer). Step g.B.Backend.SHARES slots (Pieces c.args.s c.args.how c.args.script c.args.first) answer slots) (sym told)
+    (faulted g.B.Backend.SHARES slots slots (Pieces c.args.s c.args.how c.args.script c.args.first) NotText
+    (told-later _ _ NotText c.in_ok-find.ensures.found (told-later _ _ NotText c.in_ok-find_all.ensures.found
+    (told-later _ _ NotText (ap (λ b. if b then Some Overlap else None) (sym c.if-is_among.ensures))
+    (told-first _ _ NotText (ap not_text_fault (sym was) ∙ c.in_err-text.ensures.not_text))))) refl)
+
+pub returns-then-lacks_back-clause-step : goal.returns-then-lacks_back-clause-step
+returns-then-lacks_back-clause-step g c =
+    let slots = c.args.self.now in
+    let was : state_of {B = g.row.B.Denot} {S = g.row.B-Sole.Denot} {P = g.row.B-Extent.Denot} c.index.result.now ≡ state_at slots c.args.s = state-there c.self.inside.slots.items slots c.args.s c.index.result.now c.self.view_is c.in_ok-find.ensures.within c.index.ensures in
+    faulted g.B.Backend.SHARES slots slots (Pieces c.args.s c.args.how c.args.script c.args.first) OneEnd
+    (told-later _ _ OneEnd c.in_ok-find.ensures.found (told-later _ _ OneEnd c.in_ok-find_all.ensures.found
+    (told-later _ _ OneEnd (ap (λ b. if b then Some Overlap else None) (sym c.if-is_among.ensures))
+    (told-later _ _ OneEnd (ap not_text_fault (sym was) ∙ c.in_ok-text.ensures.found) (ap one_end_fault (sym c.if-lacks_back.ensures)))))) refl
+
+pub make_parts-requires-clause-ends : goal.make_parts-requires-clause-ends
+make_parts-requires-clause-ends g c = sym c.if-lacks_back.ensures
+
+pub returns-in_err-count : goal.returns-in_err-count
+returns-in_err-count g c =
     let state = state_of {B = g.row.B.Denot} {S = g.row.B-Sole.Denot} {P = g.row.B-Extent.Denot} in
     let slots = c.args.self.now in
-    let was : state c.index.result.now ≡ state_at slots c.args.s = grind (arith, in_place, c.index.ensures, c.self.view_is) in
+    let command = Pieces c.args.s c.args.how c.args.script c.args.first in
+    let was : state c.index.result.now ≡ state_at slots c.args.s = state-there c.self.inside.slots.items slots c.args.s c.index.result.now c.self.view_is c.in_ok-find.ensures.within c.index.ensures in
     let unrefused = none-of-five _ _ _ _ _ c.in_ok-find.ensures.found c.in_ok-find_all.ensures.found (ap (λ b. if b then Some Overlap else None) (sym c.if-is_among.ensures))
     (ap not_text_fault (sym was) ∙ c.in_ok-text.ensures.found) (one-end _ (sym c.if-lacks_back.ensures)) in
     let is : c.in_ok-text.text.now ≡ slot_at slots c.args.s = c.in_ok-text.ensures.text ∙ ap (λ (slot : SlotState). slot.handle) was in
     let ranges = λ (text : Handle). draw (pieces_of c.args.how text.items) c.args.script.now in
     let told : answer_of c.from_residual-in_err-count.result ≡ Refused Memory = search rules in
-    subst (λ (answer : Answer). Step g.B.Backend.SHARES slots (Pieces c.args.s c.args.how c.args.script c.args.first) answer (map state c.self.inside.slots.items)) (sym told)
-    (performed g.B.Backend.SHARES slots (Pieces c.args.s c.args.how c.args.script c.args.first) (Refused Memory) (map state c.self.inside.slots.items) unrefused
-    (pieces-need slots c.in_ok-text.text.now c.args.s ranges is c.in_err-count.ensures.made.0, c.self.view_is))
+    record {
+      step = subst (λ (answer : Answer). Step g.B.Backend.SHARES slots command answer (map state c.self.inside.slots.items)) (sym told)
+          (performed g.B.Backend.SHARES slots command (Refused Memory) (map state c.self.inside.slots.items) unrefused
+          (pieces-need slots c.in_ok-text.text.now c.args.s ranges is c.in_err-count.ensures.made.0, c.self.view_is));
+      counted = counted-unrefused g.B.Backend.SHARES slots command c.args.meter.now c.make_parts.new.meter unrefused
+          (pieces-cost g.B.Backend.SHARES slots c.in_ok-text.text.now c.args.s ranges c.args.meter.now c.make_parts.new.meter is c.in_err-count.ensures.counted);
+    }
 
 pub invariant_of-self-2 : goal.invariant_of-self-2
 invariant_of-self-2 g c =
@@ -67,11 +108,12 @@ invariant_of-self-2 g c =
     let slots_is = with_items_is c.self.inside.slots c.put_parts.new.slots (omega (arith, c.put_parts.auto.slots, ap length c.deref_mut.ensures.value, c.self.inside.slots.ok.0)) in
     ap (map state) spare_is ∙ emptied ∙ ap (λ n. replicate n empty_slot) (same ∙ sym (ap length slots_is))
 
-pub returns-clause-step : goal.returns-clause-step
-returns-clause-step g c =
+pub returns : goal.returns
+returns g c =
     let state = state_of {B = g.row.B.Denot} {S = g.row.B-Sole.Denot} {P = g.row.B-Extent.Denot} in
     let slots = c.args.self.now in
-    let was : state c.index.result.now ≡ state_at slots c.args.s = grind (arith, in_place, c.index.ensures, c.self.view_is) in
+    let command = Pieces c.args.s c.args.how c.args.script c.args.first in
+    let was : state c.index.result.now ≡ state_at slots c.args.s = state-there c.self.inside.slots.items slots c.args.s c.index.result.now c.self.view_is c.in_ok-find.ensures.within c.index.ensures in
     let unrefused = none-of-five _ _ _ _ _ c.in_ok-find.ensures.found c.in_ok-find_all.ensures.found (ap (λ b. if b then Some Overlap else None) (sym c.if-is_among.ensures))
     (ap not_text_fault (sym was) ∙ c.in_ok-text.ensures.found) (one-end _ (sym c.if-lacks_back.ensures)) in
     let is : c.in_ok-text.text.now ≡ slot_at slots c.args.s = c.in_ok-text.ensures.text ∙ ap (λ (slot : SlotState). slot.handle) was in
@@ -82,9 +124,16 @@ returns-clause-step g c =
     c.put_parts.ensures.put
     ∙ ap (λ (l : List SlotState). put_all l c.args.first (take c.in_ok-count.count (map state c.make_parts.new.spare))) (ap (map state) c.deref_mut.ensures.value ∙ c.self.view_is) in
     let slots_is = with_items_is c.self.inside.slots c.put_parts.new.slots (omega (arith, c.put_parts.auto.slots, ap length c.deref_mut.ensures.value, c.self.inside.slots.ok.0)) in
-    performed g.B.Backend.SHARES slots (Pieces c.args.s c.args.how c.args.script c.args.first) (Number c.in_ok-count.count) _ unrefused
-    (pieces-put slots (map state c.make_parts.new.spare) _ c.in_ok-text.text.now c.args.s c.args.first c.in_ok-count.count ranges is
-    c.in_ok-count.ensures.made.0 c.in_ok-count.ensures.made.1 room (ap (map state) slots_is ∙ put))
+    record {
+      step = performed g.B.Backend.SHARES slots command (Number c.in_ok-count.count) _ unrefused
+          (pieces-put slots (map state c.make_parts.new.spare) _ c.in_ok-text.text.now c.args.s c.args.first c.in_ok-count.count ranges is
+          c.in_ok-count.ensures.made.0 c.in_ok-count.ensures.made.1 room (ap (map state) slots_is ∙ put));
+      counted = counted-unrefused g.B.Backend.SHARES slots command c.args.meter.now c.make_parts.new.meter unrefused
+          (pieces-cost g.B.Backend.SHARES slots c.in_ok-text.text.now c.args.s ranges c.args.meter.now c.make_parts.new.meter is c.in_ok-count.ensures.counted);
+    }
 
 pub invariant_of-self : goal.invariant_of-self
-invariant_of-self g c = grind (arith, common_steps)
+invariant_of-self g c =
+    let state = state_of {B = g.row.B.Denot} {S = g.row.B-Sole.Denot} {P = g.row.B-Extent.Denot} in
+    let spare_is = with_items_is c.self.inside.spare c.make_parts.new.spare (omega (arith, c.make_parts.auto.spare, ap length c.deref_mut-spare.ensures.value, c.self.inside.spare.ok.0)) in
+    ap (map state) spare_is ∙ c.in_err-count.ensures.made.1 ∙ ap (map state) c.deref_mut-spare.ensures.value ∙ c.self.invariant
