@@ -13,7 +13,7 @@ use Rattle.hipstr.specs.declared.command.Command.{Command}
 use Rattle.hipstr.specs.declared.command.Answer.{Answer}
 use Rattle.hipstr.specs.declared.command.Answer.TheVariants.{Refused}
 use Rattle.hipstr.specs.declared.command.Reason.{Reason}
-use Rattle.hipstr.specs.declared.command.Reason.TheVariants.{NoSlot, Overlap}
+use Rattle.hipstr.specs.declared.command.Reason.TheVariants.{Memory, NoSlot, Overlap}
 
 -- a command without a fault is performed
 pub performed : (shares : Bool) (old : List SlotState) (command : Command) (answer : Answer) (new : List SlotState)
@@ -22,9 +22,16 @@ performed shares old command answer new none done =
     subst (λ (fault : Option Reason). MatchOption fault (Performs shares old command answer new) (λ reason. (answer ≡ Refused reason) × (new ≡ old)))
     (sym none) done
 
+-- the first fault, and the second where there is no first
+pub first-fault : (first second : Option Reason) (reason : Reason) → first ≡ Some reason → option_or first second ≡ Some reason
+first-fault first second reason is = ap (λ (fault : Option Reason). option_or fault second) is
+
+pub second-fault : (first second fault : Option Reason) → first ≡ None → second ≡ fault → option_or first second ≡ fault
+second-fault first second fault none is = ap (λ (fault : Option Reason). option_or fault second) none ∙ is
+
 -- no first fault and no second
 pub neither : (first second : Option Reason) → first ≡ None → second ≡ None → option_or first second ≡ None
-neither first second none_first none_second = ap (λ (fault : Option Reason). option_or fault second) none_first ∙ none_second
+neither first second = second-fault first second None
 
 -- no fault but the first
 pub no-other : (first : Option Reason) → first ≡ option_or first None
@@ -62,9 +69,14 @@ faulted shares old new command reason is same =
     subst (λ (fault : Option Reason). MatchOption fault (Performs shares old command (Refused reason) new) (λ first. (let answer : Answer = Refused reason in answer) ≡ Refused first × (new ≡ old)))
     (sym is) (refl, same)
 
--- a command whose slot isn't there
-pub no-slot : (shares : Bool) (slots : List SlotState) (command : Command) (answer : Answer) → answer ≡ Refused NoSlot → fault_of slots command ≡ Some NoSlot → Step shares slots command answer slots
-no-slot shares slots command answer told is = subst (λ (answer : Answer). Step shares slots command answer slots) (sym told) (faulted shares slots slots command NoSlot is refl)
+-- a command that answers its fault
+pub told-fault : (shares : Bool) (slots : List SlotState) (command : Command) (answer : Answer) (reason : Reason) → answer ≡ Refused reason → fault_of slots command ≡ Some reason → Step shares slots command answer slots
+told-fault shares slots command answer reason told is = subst (λ (answer : Answer). Step shares slots command answer slots) (sym told) (faulted shares slots slots command reason is refl)
+
+-- a command without a fault that was refused memory, and changed nothing
+pub told-memory : (shares : Bool) (slots : List SlotState) (command : Command) (answer : Answer) → answer ≡ Refused Memory → fault_of slots command ≡ None → Performs shares slots command (Refused Memory) slots
+    → Step shares slots command answer slots
+told-memory shares slots command answer told none done = subst (λ (answer : Answer). Step shares slots command answer slots) (sym told) (performed shares slots command (Refused Memory) slots none done)
 
 -- a slot that was put is replaced by one whose handle P holds of
 pub replaced : (old new : List SlotState) (t : ℕ) (slot : SlotState) (is_text : Bool) (P : Handle → Type 0)
