@@ -60,6 +60,14 @@ outside s first count never = ap (λ b. if b then Some Overlap else None) (by-or
 pub apart : (t u : ℕ) → ¬ (t ≡ u) → overlap_fault t u 1 ≡ None
 apart t u other = outside t u 1 (λ from before. other (omega (arith, from, before)))
 
+-- and two that are one
+pub overlaps : (t u : ℕ) → t ≡ u → overlap_fault t u 1 ≡ Some Overlap
+overlaps t u is = ap (λ b. if b then Some Overlap else None) (by-order (leb_tells u t) (leb_tells (suc t) (u + 1))) where
+  by-order : ((nat_le u t ≡ true) × (u ≤ t)) ⊎ ((nat_le u t ≡ false) × (t < u)) → ((nat_lt t (u + 1) ≡ true) × (t < u + 1)) ⊎ ((nat_lt t (u + 1) ≡ false) × (u + 1 < suc t)) → (nat_le u t && nat_lt t (u + 1)) ≡ true
+  by-order (inl from) (inl before) = ap (λ b. b && nat_lt t (u + 1)) from.0 ∙ before.0
+  by-order (inr above) before = absurd (omega (arith, is, above.1))
+  by-order (inl from) (inr past) = absurd (omega (arith, is, past.1))
+
 pub one-end : (is_asked : Bool) → is_asked ≡ false → one_end_fault is_asked ≡ None
 one-end is_asked not = ap one_end_fault not
 
