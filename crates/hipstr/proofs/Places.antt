@@ -1,5 +1,5 @@
 -- Lemmas on the places of a pool, for the methods that put a slot into one.
-use Rattle.std.proofs.Common.{◌≡◌, ◌∙◌, ◌*◌, ◌^◌, ◌<◌, ◌≤◌, ◌↔◌, if◌then◌else◌, List, [], ℕ, Bool, false, true, length, map, slice_set, ap, refl, subst, sym, arith, rules, Option, Some, None, IfSome, IsSome, Result, Ok, Err, MatchOption}
+use Rattle.std.proofs.Common.{◌≡◌, ◌∙◌, ◌*◌, ◌^◌, ◌<◌, ◌≤◌, ◌↔◌, if◌then◌else◌, List, [], ℕ, Bool, false, true, length, map, replicate, slice_set, ap, refl, subst, sym, arith, rules, Option, Some, None, IfSome, IsSome, Result, Ok, Err, MatchOption}
 use Rattle.std.proofs.lemmas.Grind.{common_steps}
 use Rattle.std.proofs.lemmas.List.{get_or-map, length-map, length-set, map-set, set-get_or}
 use Rattle.hip_bytes.specs.Handle.{Handle}
@@ -37,6 +37,11 @@ pub ruleset in_place = (common_steps, texts, map-set, get_or-map, length-map, se
 pub put-is : {B S P : Type 0} (items : List (Slot B S P)) (slots : List SlotState) (t : ℕ) (slot : Slot B S P) → map state_of items ≡ slots
     → map state_of (slice_set items t slot) ≡ slice_set slots t (state_of slot)
 put-is items slots t slot is = map-set state_of items t slot ∙ ap (λ l. slice_set l t (state_of slot)) is
+
+-- there are as many spare slots as places when one is changed where it stands
+pub spare-kept : {B S P : Type 0} (items spare : List (Slot B S P)) (t : ℕ) (slot : Slot B S P) → map state_of spare ≡ replicate (length items) empty_slot
+    → map state_of spare ≡ replicate (length (slice_set items t slot)) empty_slot
+spare-kept items spare t slot is = is ∙ ap (λ n. replicate n empty_slot) (sym (length-set items t slot))
 
 -- a slot of an empty handle is empty
 pub empty_handle : (handle : Handle) → IsEmptyInline handle → (let slot : SlotState = record { is_text = false; handle = handle } in slot) ≡ empty_slot

@@ -7,6 +7,7 @@ use Rattle.std.proofs.lemmas.List.{get_or-set_same, set-get_or}
 use Rattle.std.specs.Prelude.{◌&&◌, nat_lt}
 use Rattle.std.specs.Option.{option_or}
 use Rattle.hip_bytes.specs.Handle.{Handle}
+use Rattle.hip_bytes.specs.Meter.{RisesAtMost}
 use Rattle.hipstr.specs.Slot.{Replaces, SlotState, empty_slot, state_at}
 use Rattle.hipstr.specs.Step.{Performs, Step, fault_of, one_end_fault, overlap_fault, slot_fault}
 use Rattle.hipstr.specs.declared.command.Command.{Command}
@@ -100,3 +101,7 @@ replaced old new t slot is_text P within put flag p =
 -- one that was put as it is
 pub as-it-was : (old new : List SlotState) (t : ℕ) (slot : SlotState) → new ≡ slice_set old t slot → slot ≡ state_at old t → new ≡ old
 as-it-was old new t slot put same = put ∙ ap (λ s. slice_set old t s) same ∙ set-get_or old t empty_slot
+
+-- a meter that stayed where it was rose by no more than anything
+pub not-risen : (n cost : ℕ) → RisesAtMost n n cost
+not-risen n cost = record { never_falls = omega (arith); at_most = omega (arith) }

@@ -9,16 +9,13 @@ use Rattle.hip_cuts.specs.Cut.{PartIfAny, PartIfAnyCosts, PartsIfAny, PartsIfAny
 use Rattle.hip_cuts.specs.Piece.{IsPartAt, part_cost, parts_cost}
 use Rattle.hip_match.specs.Characters.{char_ends}
 use Rattle.hipstr.proofs.Places.{placed}
+use Rattle.hipstr.proofs.Steps.{not-risen}
 use Rattle.hipstr.specs.Cut.{Leaves, SomeNeedsMemory, occurrences}
 use Rattle.hipstr.specs.Slot.{Replaces, SlotState, slot_at}
 use Rattle.hipstr.specs.Step.{option_cost, unless}
 use Rattle.hipstr.specs.declared.command.Pat.{Pat}
 use Rattle.hipstr.specs.declared.command.Reason.{Reason}
 use Rattle.hipstr.specs.declared.command.Side.{Side}
-
--- a meter that stayed where it was rose by no more than anything
-pub not-risen : (n cost : ℕ) → RisesAtMost n n cost
-not-risen n cost = record { never_falls = omega (arith); at_most = omega (arith) }
 
 -- the ranges that a trim of a pattern may leave of a text
 abbrev pub Trimmed : Side → Pat → Handle → ℕ × ℕ → Type 0

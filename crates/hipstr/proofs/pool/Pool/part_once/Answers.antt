@@ -8,8 +8,8 @@ use Rattle.hipstr.specs.declared.command.Command.TheVariants.{Once}
 use Rattle.hipstr.specs.declared.command.Answer.TheVariants.{Done, Nothing, Refused}
 use Rattle.hipstr.specs.declared.command.Reason.TheVariants.{Memory, NoSlot, NotText, Overlap}
 use Rattle.hipstr.proofs.Places.{parted-put}
-use Rattle.hipstr.proofs.Steps.{apart, first-fault, overlaps, performed, neither, second-fault, told-fault, told-memory}
-use Rattle.hipstr.proofs.Trims.{not-risen, once-counted, once-needs, once-none}
+use Rattle.hipstr.proofs.Steps.{apart, first-fault, overlaps, performed, neither, not-risen, second-fault, told-fault, told-memory}
+use Rattle.hipstr.proofs.Trims.{once-counted, once-needs, once-none}
 use Rattle.hipstr.proofs.pool.Pool.part_once.Goals as goal
 
 pub returns-in_err-source : goal.returns-in_err-source
@@ -79,7 +79,7 @@ returns-in_default g c =
 
 pub returns : goal.returns
 returns g c =
-    let made : c.parted.result ≡ Ok (Some (c.in-Some.front, c.in-Some.back)) = search rules in
+    let made : c.parted.result ≡ Ok (Some (c.in-Some.front, c.in-Some.back)) = c.in_ok-front.was ∙ ap Ok c.in-Some.is in
     let slots = c.args.self.now in
     let command = Once c.args.s c.args.t c.args.u c.args.end c.args.pattern in
     let slot = c.in_ok-source.ensures.slot in

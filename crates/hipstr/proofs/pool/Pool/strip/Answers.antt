@@ -7,8 +7,8 @@ use Rattle.hipstr.specs.Step.{fault_of, not_text_fault, slot_fault}
 use Rattle.hipstr.specs.declared.command.Command.TheVariants.{Strip}
 use Rattle.hipstr.specs.declared.command.Answer.TheVariants.{Done, Nothing, Refused}
 use Rattle.hipstr.specs.declared.command.Reason.TheVariants.{Memory, NoSlot, NotText}
-use Rattle.hipstr.proofs.Steps.{first-fault, performed, neither, second-fault, told-fault, told-memory}
-use Rattle.hipstr.proofs.Trims.{not-risen, strip-counted, strip-needs, strip-none, strip-put}
+use Rattle.hipstr.proofs.Steps.{first-fault, performed, neither, not-risen, second-fault, told-fault, told-memory}
+use Rattle.hipstr.proofs.Trims.{strip-counted, strip-needs, strip-none, strip-put}
 use Rattle.hipstr.proofs.pool.Pool.strip.Goals as goal
 
 pub returns-in_err-source : goal.returns-in_err-source
