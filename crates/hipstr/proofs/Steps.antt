@@ -39,6 +39,12 @@ pub no-other : (first : Option Reason) → first ≡ option_or first None
 no-other None = refl
 no-other (Some reason) = refl
 
+-- a fault more, behind three
+pub more-faults : (first second third more : Option Reason) → option_or first (option_or second (option_or third more)) ≡ option_or (option_or first (option_or second third)) more
+more-faults None None third more = refl
+more-faults None (Some reason) third more = refl
+more-faults (Some reason) second third more = refl
+
 -- none of five faults
 pub none-of-five : (first second third fourth fifth : Option Reason) → first ≡ None → second ≡ None → third ≡ None → fourth ≡ None → fifth ≡ None
     → option_or first (option_or second (option_or third (option_or fourth fifth))) ≡ None

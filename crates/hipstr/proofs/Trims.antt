@@ -1,6 +1,8 @@
 -- Trims, strips and splits in two: the faults and needs of those that are refused, and the bytes that they copy. The part's `source` is the slot's handle, which is the `text` that was cut.
-use Rattle.std.proofs.Common.{◌≡◌, ◌-◌, ◌<◌, ◌⊎◌, inl, inr, ℕ, Bool, true, List, [], ◌∷◌, Option, Some, None, MatchOption, Result, Ok, Err, length, slice_set, arith, refl, rules, subst, sym}
+use Rattle.std.proofs.Common.{◌≡◌, ◌-◌, ◌<◌, inl, inr, ℕ, Bool, true, List, [], ◌∷◌, Option, Some, None, MatchOption, Result, Ok, Err, IfErr, IfOk, OnErr, OnOk, ◌∙◌, ap, length, slice_set, arith, refl, rules, subst, sym}
+use Rattle.std.specs.Borrow.{Bor}
 use Rattle.std.specs.Char.{is_whitespace}
+use Rattle.std.specs.Option.{option_or}
 use Rattle.std.specs.declared.alloc.AllocError.{AllocError}
 use Rattle.hip_bytes.specs.Cost.{CutNeedsMemory}
 use Rattle.hip_bytes.specs.Handle.{Handle}
@@ -9,13 +11,33 @@ use Rattle.hip_cuts.specs.Cut.{PartIfAny, PartIfAnyCosts, PartsIfAny, PartsIfAny
 use Rattle.hip_cuts.specs.Piece.{IsPartAt, part_cost, parts_cost}
 use Rattle.hip_match.specs.Characters.{char_ends}
 use Rattle.hipstr.proofs.Places.{placed}
-use Rattle.hipstr.proofs.Steps.{not-risen}
+use Rattle.hipstr.proofs.Steps.{neither, not-risen, second-fault}
 use Rattle.hipstr.specs.Cut.{Leaves, SomeNeedsMemory, occurrences}
-use Rattle.hipstr.specs.Slot.{Replaces, SlotState, slot_at}
-use Rattle.hipstr.specs.Step.{option_cost, unless}
+use Rattle.hipstr.specs.Slot.{Replaces, SlotState, slot_at, state_at}
+use Rattle.hipstr.specs.Step.{not_text_fault, option_cost, slot_fault, unless}
 use Rattle.hipstr.specs.declared.command.Pat.{Pat}
 use Rattle.hipstr.specs.declared.command.Reason.{Reason}
+use Rattle.hipstr.specs.declared.command.Reason.TheVariants.{NotText}
 use Rattle.hipstr.specs.declared.command.Side.{Side}
+
+-- the fault of a source or a target that isn't there, or of a source that is no text
+abbrev pub text_for_fault : List SlotState → ℕ → ℕ → Option Reason
+text_for_fault slots s t = option_or (slot_fault slots s) (option_or (slot_fault slots t) (not_text_fault (state_at slots s)))
+
+-- the reason that a text is refused for; one that there is has none
+abbrev refused_with : Result (Bor Handle) Reason → Reason
+refused_with (Ok text) = NotText
+refused_with (Err reason) = reason
+
+-- the text of a source that is there, or that it is none
+pub text-for : (slots : List SlotState) (s t : ℕ) (was : SlotState) (result : Result (Bor Handle) Reason) → was ≡ state_at slots s → slot_fault slots s ≡ None → slot_fault slots t ≡ None → t < length slots
+    → IfOk result (λ text. text.now ≡ was.handle) → OnOk result (not_text_fault was ≡ None) → OnErr result (not_text_fault was ≡ Some NotText) → OnErr result (result ≡ Err NotText)
+    → IfOk result (λ text. text.now ≡ slot_at slots s) × OnOk result (t < length slots) × OnOk result (text_for_fault slots s t ≡ None) × IfErr result (λ reason. text_for_fault slots s t ≡ Some reason)
+text-for slots s t was (Ok text) is there_s there_t within text_is found not_text reason_is =
+    (text_is ∙ ap (λ (slot : SlotState). slot.handle) is, within, neither _ _ there_s (neither _ _ there_t (ap not_text_fault (sym is) ∙ found)), tt)
+text-for slots s t was (Err reason) is there_s there_t within text_is found not_text reason_is =
+    (tt, tt, tt, second-fault (slot_fault slots s) _ _ there_s (second-fault (slot_fault slots t) _ _ there_t
+    (ap not_text_fault (sym is) ∙ not_text ∙ sym (ap (λ (r : Result (Bor Handle) Reason). Some (refused_with r)) reason_is))))
 
 -- the ranges that a trim of a pattern may leave of a text
 abbrev pub Trimmed : Side → Pat → Handle → ℕ × ℕ → Type 0
