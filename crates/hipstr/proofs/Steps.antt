@@ -108,6 +108,6 @@ replaced old new t slot is_text P within put flag p =
 pub as-it-was : (old new : List SlotState) (t : ℕ) (slot : SlotState) → new ≡ slice_set old t slot → slot ≡ state_at old t → new ≡ old
 as-it-was old new t slot put same = put ∙ ap (λ s. slice_set old t s) same ∙ set-get_or old t empty_slot
 
--- a meter that stayed where it was rose by no more than anything
+-- a meter that stayed where it was rose by no more than any cost
 pub not-risen : (n cost : ℕ) → RisesAtMost n n cost
 not-risen n cost = record { never_falls = omega (arith); at_most = omega (arith) }

@@ -24,7 +24,7 @@ use Rattle.hipstr.specs.declared.command.Side.{Side}
 abbrev pub text_for_fault : List SlotState → ℕ → ℕ → Option Reason
 text_for_fault slots s t = option_or (slot_fault slots s) (option_or (slot_fault slots t) (not_text_fault (state_at slots s)))
 
--- the reason that a text is refused for; one that there is has none
+-- the reason that a text is refused for, and that it is none where there is one
 abbrev refused_with : Result (Bor Handle) Reason → Reason
 refused_with (Ok text) = NotText
 refused_with (Err reason) = reason
@@ -35,9 +35,13 @@ pub text-for : (slots : List SlotState) (s t : ℕ) (was : SlotState) (result : 
     → IfOk result (λ text. text.now ≡ slot_at slots s) × OnOk result (t < length slots) × OnOk result (text_for_fault slots s t ≡ None) × IfErr result (λ reason. text_for_fault slots s t ≡ Some reason)
 text-for slots s t was (Ok text) is there_s there_t within text_is found not_text reason_is =
     (text_is ∙ ap (λ (slot : SlotState). slot.handle) is, within, neither _ _ there_s (neither _ _ there_t (ap not_text_fault (sym is) ∙ found)), tt)
-text-for slots s t was (Err reason) is there_s there_t within text_is found not_text reason_is =
-    (tt, tt, tt, second-fault (slot_fault slots s) _ _ there_s (second-fault (slot_fault slots t) _ _ there_t
-    (ap not_text_fault (sym is) ∙ not_text ∙ sym (ap (λ (r : Result (Bor Handle) Reason). Some (refused_with r)) reason_is))))
+text-for slots s t was (Err reason) is there_s there_t within text_is found not_text reason_is = (
+  tt,
+  tt,
+  tt,
+  second-fault (slot_fault slots s) _ _ there_s (second-fault (slot_fault slots t) _ _ there_t
+      (ap not_text_fault (sym is) ∙ not_text ∙ sym (ap (λ (r : Result (Bor Handle) Reason). Some (refused_with r)) reason_is))),
+)
 
 -- the ranges that a trim of a pattern may leave of a text
 abbrev pub Trimmed : Side → Pat → Handle → ℕ × ℕ → Type 0

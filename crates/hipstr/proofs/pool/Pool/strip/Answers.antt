@@ -15,7 +15,7 @@ pub returns-in_err-text : goal.returns-in_err-text
 returns-in_err-text g c =
     let told : answer_of c.from_residual.result ≡ Refused c.in_err-text.field-0.0 = search rules in
     let slots = c.args.self.now in
-    record { step = told-fault g.B.Backend.SHARES slots (Strip c.args.s c.args.t c.args.end c.args.pattern) _ c.in_err-text.field-0.0 told c.in_err-text.ensures.fault; counted = not-risen c.args.meter.now _; }
+    record { step = told-fault g.B.Backend.SHARES slots (Strip c.args.s c.args.t c.args.end c.args.pattern) _ c.in_err-text.field-0.0 told c.in_err-text.ensures.fault; counted = not-risen c.args.meter.now _ }
 
 pub returns-in_err-left : goal.returns-in_err-left
 returns-in_err-left g c =
