@@ -34,12 +34,6 @@ pushed-in_place shares {old} {new} {t} {was} {slot} at added before after paid u
       by-kind Borrowed is = tt
       by-kind Allocated is = omega (arith, paid unshared is, pots-set old t slot at.within, ap pots at.put, ap (λ (state : SlotState). handle_pot state.handle) at.is_was)
 
--- a command that changes nothing
-pub unchanged-paid : (pushed : Option ℕ) (old new : List SlotState) (before after : ℕ) → new ≡ old → after ≡ before
-    → MatchOption pushed (Unit {0}) (λ n. after + pots new ≤ before + pots old + 3 * n)
-unchanged-paid None old new before after same counted = tt
-unchanged-paid (Some n) old new before after same counted = omega (arith, ap pots same, counted)
-
 -- a step's addition to the amortised cost pays for the bytes that it copies and for the pots that it leaves
 pub step-paid : (shares : Bool) (old new : List SlotState) (command : Command) (before after cost : ℕ) → shares ≡ false
     → PushesArePaid shares old command new before after → Costs shares old command cost → RisesAtMost before after cost

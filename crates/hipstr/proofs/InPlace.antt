@@ -4,7 +4,7 @@ use Rattle.std.specs.Borrow.{Bor}
 use Rattle.std.specs.Char.{to_ascii_lowercase, to_ascii_uppercase}
 use Rattle.std.specs.Option.{option_or}
 use Rattle.hip_bytes.specs.Change.{IsPushed, IsRewritten, IsShortened, IsShrunk}
-use Rattle.hip_bytes.specs.Cost.{shortened_cost, shrink_cost, write_cost, CutNeedsMemory, OwnNeedsMemory, PushNeedsMemory, WriteNeedsMemory}
+use Rattle.hip_bytes.specs.Cost.{owned_cost, push_cost, shortened_cost, shrink_cost, write_cost, CutNeedsMemory, OwnNeedsMemory, PushNeedsMemory, WriteNeedsMemory}
 use Rattle.hip_bytes.specs.Handle.{Handle}
 use Rattle.hip_bytes.specs.Made.{IsOwned}
 use Rattle.hip_bytes.specs.Meter.{RisesAtMost}
@@ -12,7 +12,7 @@ use Rattle.hipstr.proofs.Places.{put-is, state-there}
 use Rattle.hipstr.proofs.Steps.{as-it-was, faulted, neither, no-other, performed, replaced, slot-there}
 use Rattle.hipstr.specs.Reason.{answer_of}
 use Rattle.hipstr.specs.Slot.{Replaces, SlotState, slot_at, state_at, state_of, text_at}
-use Rattle.hipstr.specs.Step.{IsHalfMutated, Performs, SlotAnswers, SlotMutates, SlotPops, Step, addition_fault, cost_of, end_fault, fault_of, not_text_fault, set_fault, slot_fault, text_fault, unless}
+use Rattle.hipstr.specs.Step.{IsHalfMutated, Performs, SlotAnswers, SlotMutates, SlotPops, Step, addition_fault, cost_of, end_fault, fault_of, mutate_cost, not_text_fault, set_fault, slot_fault, text_fault, unless}
 use Rattle.hipstr.specs.declared.command.Answer.{Answer}
 use Rattle.hipstr.specs.declared.command.Answer.TheVariants.{Byte, Char, Done, Nothing, Refused}
 use Rattle.hipstr.specs.declared.command.Command.{Command}
@@ -130,6 +130,29 @@ module _ (shares : Bool) {old new : List SlotState} {t : ℕ} {was slot : SlotSt
   -- the bytes that a call on the slot may copy
   there : (copies : SlotState → ℕ) → copies was ≡ unless (slot_fault old t) (copies (state_at old t))
   there copies = ap copies at.is_was ∙ ap (λ (fault : Option Reason). unless fault (copies (state_at old t))) (sym (slot-there old t at.within))
+
+  unfaulted : (fault : SlotState → Option Reason) (copies : SlotState → ℕ) → unless (fault was) (copies was) ≡ unless (option_or (slot_fault old t) (fault (state_at old t))) (copies (state_at old t))
+  unfaulted fault copies =
+      ap (λ (s : SlotState). unless (fault s) (copies s)) at.is_was
+      ∙ ap (λ (none : Option Reason). unless (option_or none (fault (state_at old t))) (copies (state_at old t))) (sym (slot-there old t at.within))
+
+  pub push-counted : (bytes : Bor (List ℕ)) (m n : ℕ) → RisesAtMost m n (unless (addition_fault was bytes.now) (push_cost shares (length was.handle.items) (length bytes.now))) → RisesAtMost m n (cost_of shares old (Push t bytes))
+  push-counted bytes m n = subst (RisesAtMost m n) (unfaulted (λ s. addition_fault s bytes.now) (λ s. push_cost shares (length s.handle.items) (length bytes.now)))
+
+  pub mutate-counted : (bytes : Bor (List ℕ)) (m n : ℕ) → RisesAtMost m n (unless (addition_fault was bytes.now) (mutate_cost shares (length was.handle.items) (length bytes.now))) → RisesAtMost m n (cost_of shares old (Mutate t bytes))
+  mutate-counted bytes m n = subst (RisesAtMost m n) (unfaulted (λ s. addition_fault s bytes.now) (λ s. mutate_cost shares (length s.handle.items) (length bytes.now)))
+
+  pub truncate-counted : (end m n : ℕ) → RisesAtMost m n (unless (end_fault was end) (shortened_cost was.handle.kind)) → RisesAtMost m n (cost_of shares old (Truncate t end))
+  truncate-counted end m n = subst (RisesAtMost m n) (unfaulted (λ s. end_fault s end) (λ s. shortened_cost s.handle.kind))
+
+  pub set-counted : (i byte m n : ℕ) → RisesAtMost m n (unless (set_fault was i) (write_cost shares was.handle.kind (length was.handle.items))) → RisesAtMost m n (cost_of shares old (Set t i byte))
+  set-counted i byte m n = subst (RisesAtMost m n) (unfaulted (λ s. set_fault s i) (λ s. write_cost shares s.handle.kind (length s.handle.items)))
+
+  pub owned-counted : (m n : ℕ) → RisesAtMost m n (owned_cost shares was.handle.kind (length was.handle.items)) → RisesAtMost m n (cost_of shares old (Owned t))
+  owned-counted m n = subst (RisesAtMost m n) (there (λ s. owned_cost shares s.handle.kind (length s.handle.items)))
+
+  pub pop-counted : (m n : ℕ) → RisesAtMost m n (shortened_cost was.handle.kind) → RisesAtMost m n (cost_of shares old (Pop t))
+  pop-counted m n = subst (RisesAtMost m n) (there (λ s. shortened_cost s.handle.kind))
 
   pub write-counted : (m n : ℕ) → RisesAtMost m n (write_cost shares was.handle.kind (length was.handle.items)) → RisesAtMost m n (cost_of shares old (Upper t))
   write-counted m n = subst (RisesAtMost m n) (there (λ s. write_cost shares s.handle.kind (length s.handle.items)))

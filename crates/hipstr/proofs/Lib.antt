@@ -8,4 +8,5 @@ pub mod Places
 pub mod Runs
 pub mod Slices
 pub mod Steps
+pub mod Trims
 pub mod Ways

@@ -1,5 +1,5 @@
 -- Lemmas on the places of a pool, for the methods that put a slot into one.
-use Rattle.std.proofs.Common.{◌≡◌, ◌∙◌, ◌*◌, ◌^◌, ◌<◌, ◌≤◌, ◌↔◌, if◌then◌else◌, List, [], ℕ, Bool, false, true, length, map, get_or, slice_set, ap, refl, subst, sym, arith, rules, Option, Some, None, IfSome, IsSome, Result, Ok, Err, MatchOption}
+use Rattle.std.proofs.Common.{◌≡◌, ◌∙◌, ◌*◌, ◌^◌, ◌<◌, ◌≤◌, ◌↔◌, if◌then◌else◌, List, [], ℕ, Bool, false, true, length, map, get_or, replicate, slice_set, ap, refl, subst, sym, arith, rules, Option, Some, None, IfSome, IsSome, Result, Ok, Err, MatchOption}
 use Rattle.std.proofs.lemmas.Grind.{common_steps}
 use Rattle.std.proofs.lemmas.List.{get_or-map, length-map, length-set, map-set, set-get_or}
 use Rattle.hip_bytes.specs.Handle.{Handle}
@@ -44,6 +44,11 @@ pub state-there : {B S P : Type 0} (items : List (Slot B S P)) (slots : List Slo
 state-there items slots i slot view within is =
     let inside : i < length items = omega (arith, within, length-map items state_of, ap length view) in
     ap state_of is ∙ sym (get_or-map state_of items i slot empty_slot inside) ∙ ap (λ l. state_at l i) view
+
+-- there are as many spare slots as places when one is changed where it stands
+pub spare-kept : {B S P : Type 0} (items spare : List (Slot B S P)) (t : ℕ) (slot : Slot B S P) → map state_of spare ≡ replicate (length items) empty_slot
+    → map state_of spare ≡ replicate (length (slice_set items t slot)) empty_slot
+spare-kept items spare t slot is = is ∙ ap (λ n. replicate n empty_slot) (sym (length-set items t slot))
 
 -- a slot of an empty handle is empty
 pub empty_handle : (handle : Handle) → IsEmptyInline handle → (let slot : SlotState = record { is_text = false; handle = handle } in slot) ≡ empty_slot

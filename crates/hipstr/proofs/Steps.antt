@@ -14,7 +14,7 @@ use Rattle.hipstr.specs.declared.command.Command.{Command}
 use Rattle.hipstr.specs.declared.command.Answer.{Answer}
 use Rattle.hipstr.specs.declared.command.Answer.TheVariants.{Refused}
 use Rattle.hipstr.specs.declared.command.Reason.{Reason}
-use Rattle.hipstr.specs.declared.command.Reason.TheVariants.{NoSlot, Overlap}
+use Rattle.hipstr.specs.declared.command.Reason.TheVariants.{Memory, NoSlot, Overlap}
 
 -- a command without a fault is performed
 pub performed : (shares : Bool) (old : List SlotState) (command : Command) (answer : Answer) (new : List SlotState)
@@ -28,21 +28,27 @@ pub counted-unrefused : (shares : Bool) (slots : List SlotState) (command : Comm
     → fault_of slots command ≡ None → RisesAtMost before after (copies_of shares slots command) → RisesAtMost before after (cost_of shares slots command)
 counted-unrefused shares slots command before after none = subst (λ (fault : Option Reason). RisesAtMost before after (unless fault (copies_of shares slots command))) (sym none)
 
+-- the first fault, and the second where there is no first
+pub first-fault : (first second : Option Reason) (reason : Reason) → first ≡ Some reason → option_or first second ≡ Some reason
+first-fault first second reason is = ap (λ (fault : Option Reason). option_or fault second) is
+
+pub second-fault : (first second fault : Option Reason) → first ≡ None → second ≡ fault → option_or first second ≡ fault
+second-fault first second fault none is = ap (λ (fault : Option Reason). option_or fault second) none ∙ is
+
 -- no first fault and no second
 pub neither : (first second : Option Reason) → first ≡ None → second ≡ None → option_or first second ≡ None
-neither first second none_first none_second = ap (λ (fault : Option Reason). option_or fault second) none_first ∙ none_second
-
--- a fault that is told as the first, and one that is told where the first isn't there
-pub told-first : (first second : Option Reason) (reason : Reason) → first ≡ Some reason → option_or first second ≡ Some reason
-told-first first second reason is = ap (λ (fault : Option Reason). option_or fault second) is
-
-pub told-later : (first second : Option Reason) (reason : Reason) → first ≡ None → second ≡ Some reason → option_or first second ≡ Some reason
-told-later first second reason none is = ap (λ (fault : Option Reason). option_or fault second) none ∙ is
+neither first second = second-fault first second None
 
 -- no fault but the first
 pub no-other : (first : Option Reason) → first ≡ option_or first None
 no-other None = refl
 no-other (Some reason) = refl
+
+-- a fault more, behind three
+pub more-faults : (first second third more : Option Reason) → option_or first (option_or second (option_or third more)) ≡ option_or (option_or first (option_or second third)) more
+more-faults None None third more = refl
+more-faults None (Some reason) third more = refl
+more-faults (Some reason) second third more = refl
 
 -- none of five faults
 pub none-of-five : (first second third fourth fifth : Option Reason) → first ≡ None → second ≡ None → third ≡ None → fourth ≡ None → fifth ≡ None
@@ -66,6 +72,14 @@ outside s first count never = ap (λ b. if b then Some Overlap else None) (by-or
 pub apart : (t u : ℕ) → ¬ (t ≡ u) → overlap_fault t u 1 ≡ None
 apart t u other = outside t u 1 (λ from before. other (omega (arith, from, before)))
 
+-- and two that are one
+pub overlaps : (t u : ℕ) → t ≡ u → overlap_fault t u 1 ≡ Some Overlap
+overlaps t u is = ap (λ b. if b then Some Overlap else None) (by-order (leb_tells u t) (leb_tells (suc t) (u + 1))) where
+  by-order : ((nat_le u t ≡ true) × (u ≤ t)) ⊎ ((nat_le u t ≡ false) × (t < u)) → ((nat_lt t (u + 1) ≡ true) × (t < u + 1)) ⊎ ((nat_lt t (u + 1) ≡ false) × (u + 1 < suc t)) → (nat_le u t && nat_lt t (u + 1)) ≡ true
+  by-order (inl from) (inl before) = ap (λ b. b && nat_lt t (u + 1)) from.0 ∙ before.0
+  by-order (inr above) before = absurd (omega (arith, is, above.1))
+  by-order (inl from) (inr past) = absurd (omega (arith, is, past.1))
+
 pub one-end : (is_asked : Bool) → is_asked ≡ false → one_end_fault is_asked ≡ None
 one-end is_asked not = ap one_end_fault not
 
@@ -75,9 +89,14 @@ faulted shares old new command reason is same =
     subst (λ (fault : Option Reason). MatchOption fault (Performs shares old command (Refused reason) new) (λ first. (let answer : Answer = Refused reason in answer) ≡ Refused first × (new ≡ old)))
     (sym is) (refl, same)
 
--- a command whose slot isn't there
-pub no-slot : (shares : Bool) (slots : List SlotState) (command : Command) (answer : Answer) → answer ≡ Refused NoSlot → fault_of slots command ≡ Some NoSlot → Step shares slots command answer slots
-no-slot shares slots command answer told is = subst (λ (answer : Answer). Step shares slots command answer slots) (sym told) (faulted shares slots slots command NoSlot is refl)
+-- a command that answers its fault
+pub told-fault : (shares : Bool) (slots : List SlotState) (command : Command) (answer : Answer) (reason : Reason) → answer ≡ Refused reason → fault_of slots command ≡ Some reason → Step shares slots command answer slots
+told-fault shares slots command answer reason told is = subst (λ (answer : Answer). Step shares slots command answer slots) (sym told) (faulted shares slots slots command reason is refl)
+
+-- a command without a fault that was refused memory, and changed nothing
+pub told-memory : (shares : Bool) (slots : List SlotState) (command : Command) (answer : Answer) → answer ≡ Refused Memory → fault_of slots command ≡ None → Performs shares slots command (Refused Memory) slots
+    → Step shares slots command answer slots
+told-memory shares slots command answer told none done = subst (λ (answer : Answer). Step shares slots command answer slots) (sym told) (performed shares slots command (Refused Memory) slots none done)
 
 -- a slot that was put is replaced by one whose handle P holds of
 pub replaced : (old new : List SlotState) (t : ℕ) (slot : SlotState) (is_text : Bool) (P : Handle → Type 0)
@@ -93,3 +112,7 @@ replaced old new t slot is_text P within put flag p =
 -- one that was put as it is
 pub as-it-was : (old new : List SlotState) (t : ℕ) (slot : SlotState) → new ≡ slice_set old t slot → slot ≡ state_at old t → new ≡ old
 as-it-was old new t slot put same = put ∙ ap (λ s. slice_set old t s) same ∙ set-get_or old t empty_slot
+
+-- a meter that stayed where it was rose by no more than any cost
+pub not-risen : (n cost : ℕ) → RisesAtMost n n cost
+not-risen n cost = record { never_falls = omega (arith); at_most = omega (arith) }

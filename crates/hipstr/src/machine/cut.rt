@@ -1,11 +1,13 @@
 //! Commands that cut a text once, or in two.
-ghost use Rattle.std.specs.Prelude.{◌≡◌, ℕ, false, length};
+ghost use Rattle.std.specs.Prelude.{◌≡◌, ◌<◌, ℕ, false, length, None, Some, IfErr, IfOk, OnOk};
+ghost use Rattle.std.specs.Option.{option_or};
 ghost use Rattle.hip_bytes.specs.Meter.{RisesAtMost};
 ghost use Rattle.hip_cuts.specs.Cut.{TrimAnswers, TrimCosts, StripAnswers, StripCosts, OnceAnswers, OnceCosts, space_ends};
 ghost use Rattle.hipstr.specs.declared.command.Command.{Command};
 ghost use Rattle.hipstr.specs.Cut.{Leaves, occurrences, stripped, parted, trims_one_end};
 ghost use Rattle.hipstr.specs.Reason.{answer_of};
-ghost use Rattle.hipstr.specs.Step.{Step, Costs, cost_of};
+ghost use Rattle.hipstr.specs.Slot.{slot_at, state_at};
+ghost use Rattle.hipstr.specs.Step.{Step, Costs, cost_of, not_text_fault, slot_fault};
 
 use crate::command::{Answer, Pat, Reason, Side};
 use crate::pool::{Pool, Slot};
@@ -17,6 +19,22 @@ use hip_text::HipStr;
 use std::alloc::{AllocError, Global};
 
 impl<'b, B: Backend> Pool<'b, B> {
+    /// The text of a source, where the target is there too.
+    #[inline]
+    fn text_for(&self, s: usize, t: usize) -> Result<&HipStr<'b, B>, Reason>
+        ensures text { IfOk result (λ text. text.now ≡ slot_at self.now s) }
+        ensures within { OnOk result (t < length self.now) }
+        ensures found { OnOk result (option_or (slot_fault self.now s)
+            (option_or (slot_fault self.now t) (not_text_fault (state_at self.now s))) ≡ None) }
+        ensures fault { IfErr result (λ reason. option_or (slot_fault self.now s)
+            (option_or (slot_fault self.now t) (not_text_fault (state_at self.now s)))
+            ≡ Some reason) }
+    {
+        let source = self.find(s)?;
+        self.find(t)?;
+        source.text()
+    }
+
     pub(super) fn trim(
         &mut self,
         alloc: Global,
@@ -29,9 +47,7 @@ impl<'b, B: Backend> Pool<'b, B> {
         ensures counted { (cost : ℕ) × Costs B.SHARES self.old (Command.Trim s t side) cost
             × RisesAtMost meter.old meter.new cost }
     {
-        let source = self.find(s)?;
-        self.find(t)?;
-        let text = source.text()?;
+        let text = self.text_for(s, t)?;
         let left = trimmed(alloc, text, side, meter)?;
         self.put(t, Slot::Text(left));
         Ok(Answer::Done)
@@ -52,9 +68,7 @@ impl<'b, B: Backend> Pool<'b, B> {
             × Costs B.SHARES self.old (Command.TrimMatches s t side pattern.entry) cost
             × RisesAtMost meter.old meter.new cost }
     {
-        let source = self.find(s)?;
-        self.find(t)?;
-        let text = source.text()?;
+        let text = self.text_for(s, t)?;
         if trims_one_end(side, pattern) {
             return Err(Reason::OneEnd);
         }
@@ -77,9 +91,7 @@ impl<'b, B: Backend> Pool<'b, B> {
         ensures counted { RisesAtMost meter.old meter.new
             (cost_of B.SHARES self.old (Command.Strip s t end pattern.entry)) }
     {
-        let source = self.find(s)?;
-        self.find(t)?;
-        let text = source.text()?;
+        let text = self.text_for(s, t)?;
         let Some(left) = stripped(alloc, text, end, pattern, meter)? else {
             return Ok(Answer::Nothing);
         };

@@ -179,26 +179,30 @@ impl<'b, B: Backend> Slot<'b, B> {
             (owned_cost B.SHARES (state_of self.old).handle.kind
             (length (state_of self.old).handle.items)) }
     {
-        match mem::replace(self, Slot::empty()) {
+        let (slot, answer) = mem::replace(self, Slot::empty()).into_owned(alloc, meter);
+        *self = slot;
+        answer
+    }
+
+    /// The slot with bytes of its own, or as it was where memory is refused.
+    #[inline]
+    fn into_owned(self, alloc: Global, meter: &mut Meter) -> (Self, Result<Answer, Reason>)
+        ensures owned { let old = state_of self.entry in
+            SlotAnswers None (OwnNeedsMemory old.handle.kind (length old.handle.items))
+            old.is_text (IsOwned old.handle)
+            old result.1 (state_of result.0) }
+        ensures counted { RisesAtMost meter.old meter.new
+            (owned_cost B.SHARES (state_of self.entry).handle.kind
+            (length (state_of self.entry).handle.items)) }
+    {
+        match self {
             Slot::Bytes(bytes) => match bytes.into_owned_metered(alloc, meter) {
-                Ok(owned) => {
-                    *self = Slot::Bytes(owned);
-                    Ok(Answer::Done)
-                }
-                Err(back) => {
-                    *self = Slot::Bytes(back);
-                    Err(Reason::Memory)
-                }
+                Ok(owned) => (Slot::Bytes(owned), Ok(Answer::Done)),
+                Err(back) => (Slot::Bytes(back), Err(Reason::Memory)),
             },
             Slot::Text(text) => match text.into_owned_metered(alloc, meter) {
-                Ok(owned) => {
-                    *self = Slot::Text(owned);
-                    Ok(Answer::Done)
-                }
-                Err(back) => {
-                    *self = Slot::Text(back);
-                    Err(Reason::Memory)
-                }
+                Ok(owned) => (Slot::Text(owned), Ok(Answer::Done)),
+                Err(back) => (Slot::Text(back), Err(Reason::Memory)),
             },
         }
     }
@@ -234,15 +238,22 @@ impl<'b, B: Backend> Slot<'b, B> {
             false (λ new. new ≡ old.handle)
             old result (state_of self.new) }
     {
-        match mem::replace(self, Slot::empty()) {
-            Slot::Text(text) => {
-                *self = Slot::Bytes(text.into_bytes());
-                Ok(Answer::Done)
-            }
-            bytes => {
-                *self = bytes;
-                Err(Reason::NotText)
-            }
+        let (slot, answer) = mem::replace(self, Slot::empty()).into_bytes();
+        *self = slot;
+        answer
+    }
+
+    /// The slot as bytes, or as it was where it is no text.
+    #[inline]
+    fn into_bytes(self) -> (Self, Result<Answer, Reason>)
+        ensures bytes { let old = state_of self.entry in
+            SlotAnswers (not_text_fault old) ⊥
+            false (λ new. new ≡ old.handle)
+            old result.1 (state_of result.0) }
+    {
+        match self {
+            Slot::Text(text) => (Slot::Bytes(text.into_bytes()), Ok(Answer::Done)),
+            bytes => (bytes, Err(Reason::NotText)),
         }
     }
 

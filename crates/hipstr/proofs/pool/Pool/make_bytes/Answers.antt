@@ -1,5 +1,27 @@
-use Rattle.hipstr.proofs.InPlace.{bytes-step, in-place}
+use Rattle.std.proofs.Common.{◌≡◌, Option, ap, rules}
+use Rattle.std.specs.Option.{option_or}
+use Rattle.hipstr.proofs.InPlace.{in-place, bytes-step}
+use Rattle.hipstr.proofs.Places.{spare-kept}
+use Rattle.hipstr.proofs.Steps.{told-fault}
+use Rattle.hipstr.specs.Reason.{answer_of}
+use Rattle.hipstr.specs.Slot.{state_at}
+use Rattle.hipstr.specs.Step.{not_text_fault}
+use Rattle.hipstr.specs.declared.command.Answer.TheVariants.{Refused}
+use Rattle.hipstr.specs.declared.command.Command.TheVariants.{Bytes}
+use Rattle.hipstr.specs.declared.command.Reason.{Reason}
+use Rattle.hipstr.specs.declared.command.Reason.TheVariants.{NoSlot}
 use Rattle.hipstr.proofs.pool.Pool.make_bytes.Goals as goal
+
+pub returns-in_err-find : goal.returns-in_err-find
+returns-in_err-find g c =
+    let told : answer_of c.from_residual.result ≡ Refused NoSlot = search rules in
+    record {
+      step = told-fault g.B.Backend.SHARES c.args.self.now (Bytes c.args.t) _ NoSlot told
+          (ap (λ (none : Option Reason). option_or none (not_text_fault (state_at c.args.self.now c.args.t))) c.in_err-find.ensures.missing);
+    }
 
 pub returns : goal.returns
 returns g c = record { step = bytes-step g.B.Backend.SHARES (in-place c.self.inside.slots.items c.args.self.now c.args.t c.index_mut.result.now c.make_bytes.new.self c.self.view_is c.in_ok-find.ensures.within c.index_mut.ensures.value) c.make_bytes.result c.make_bytes.ensures.bytes }
+
+pub invariant_of-self : goal.invariant_of-self
+invariant_of-self g c = spare-kept c.self.inside.slots.items c.self.inside.spare.items c.args.t c.make_bytes.new.self c.self.invariant

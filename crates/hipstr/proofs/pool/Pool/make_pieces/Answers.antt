@@ -13,7 +13,7 @@ use Rattle.hipstr.specs.declared.command.Command.TheVariants.{Pieces}
 use Rattle.hipstr.specs.declared.command.Reason.TheVariants.{NoSlot, Overlap, NotText, OneEnd, Memory}
 use Rattle.hipstr.proofs.Parts.{draw-within, empty-length, hold-within, pieces-cost, pieces-need, pieces-put, spare-emptied}
 use Rattle.hipstr.proofs.Places.{state-there}
-use Rattle.hipstr.proofs.Steps.{counted-unrefused, faulted, no-slot, none-of-five, one-end, performed, told-first, told-later}
+use Rattle.hipstr.proofs.Steps.{counted-unrefused, faulted, first-fault, none-of-five, one-end, performed, second-fault, told-fault}
 use Rattle.hipstr.proofs.pool.Pool.make_pieces.Goals as goal
 
 pub make_parts-requires-clause-room : goal.make_parts-requires-clause-room
@@ -39,18 +39,18 @@ put_parts-requires-clause-room g c =
     omega (arith, c.in_ok-count.ensures.made.0, draw-within (pieces_of c.args.how c.in_ok-text.text.now.items) c.args.script.now, same, targets, ap length c.deref_mut.ensures.value)
 
 pub returns-in_err-find-clause-step : goal.returns-in_err-find-clause-step
-returns-in_err-find-clause-step g c = no-slot g.B.Backend.SHARES c.args.self.now (Pieces c.args.s c.args.how c.args.script c.args.first) _ (search rules) (told-first _ _ NoSlot c.in_err-find.ensures.missing)
+returns-in_err-find-clause-step g c = told-fault g.B.Backend.SHARES c.args.self.now (Pieces c.args.s c.args.how c.args.script c.args.first) _ NoSlot (search rules) (first-fault _ _ NoSlot c.in_err-find.ensures.missing)
 
 pub returns-in_err-find_all-clause-step : goal.returns-in_err-find_all-clause-step
 returns-in_err-find_all-clause-step g c =
-    no-slot g.B.Backend.SHARES c.args.self.now (Pieces c.args.s c.args.how c.args.script c.args.first) _ (search rules)
-    (told-later _ _ NoSlot c.in_ok-find.ensures.found (told-first _ _ NoSlot c.in_err-find_all.ensures.missing))
+    told-fault g.B.Backend.SHARES c.args.self.now (Pieces c.args.s c.args.how c.args.script c.args.first) _ NoSlot (search rules)
+    (second-fault _ _ (Some NoSlot) c.in_ok-find.ensures.found (first-fault _ _ NoSlot c.in_err-find_all.ensures.missing))
 
 pub returns-then-is_among-clause-step : goal.returns-then-is_among-clause-step
 returns-then-is_among-clause-step g c =
     faulted g.B.Backend.SHARES c.args.self.now c.args.self.now (Pieces c.args.s c.args.how c.args.script c.args.first) Overlap
-    (told-later _ _ Overlap c.in_ok-find.ensures.found (told-later _ _ Overlap c.in_ok-find_all.ensures.found
-    (told-first _ _ Overlap (ap (λ b. if b then Some Overlap else None) (sym c.if-is_among.ensures))))) refl
+    (second-fault _ _ (Some Overlap) c.in_ok-find.ensures.found (second-fault _ _ (Some Overlap) c.in_ok-find_all.ensures.found
+    (first-fault _ _ Overlap (ap (λ b. if b then Some Overlap else None) (sym c.if-is_among.ensures))))) refl
 
 pub returns-in_err-text-clause-step : goal.returns-in_err-text-clause-step
 returns-in_err-text-clause-step g c =
@@ -59,18 +59,18 @@ returns-in_err-text-clause-step g c =
     let told : answer_of c.from_residual-in_err-text.result ≡ Refused NotText = search rules in
     subst (λ (answer : Answer). Step g.B.Backend.SHARES slots (Pieces c.args.s c.args.how c.args.script c.args.first) answer slots) (sym told)
     (faulted g.B.Backend.SHARES slots slots (Pieces c.args.s c.args.how c.args.script c.args.first) NotText
-    (told-later _ _ NotText c.in_ok-find.ensures.found (told-later _ _ NotText c.in_ok-find_all.ensures.found
-    (told-later _ _ NotText (ap (λ b. if b then Some Overlap else None) (sym c.if-is_among.ensures))
-    (told-first _ _ NotText (ap not_text_fault (sym was) ∙ c.in_err-text.ensures.not_text))))) refl)
+    (second-fault _ _ (Some NotText) c.in_ok-find.ensures.found (second-fault _ _ (Some NotText) c.in_ok-find_all.ensures.found
+    (second-fault _ _ (Some NotText) (ap (λ b. if b then Some Overlap else None) (sym c.if-is_among.ensures))
+    (first-fault _ _ NotText (ap not_text_fault (sym was) ∙ c.in_err-text.ensures.not_text))))) refl)
 
 pub returns-then-lacks_back-clause-step : goal.returns-then-lacks_back-clause-step
 returns-then-lacks_back-clause-step g c =
     let slots = c.args.self.now in
     let was : state_of {B = g.row.B.Denot} {S = g.row.B-Sole.Denot} {P = g.row.B-Extent.Denot} c.index.result.now ≡ state_at slots c.args.s = state-there c.self.inside.slots.items slots c.args.s c.index.result.now c.self.view_is c.in_ok-find.ensures.within c.index.ensures in
     faulted g.B.Backend.SHARES slots slots (Pieces c.args.s c.args.how c.args.script c.args.first) OneEnd
-    (told-later _ _ OneEnd c.in_ok-find.ensures.found (told-later _ _ OneEnd c.in_ok-find_all.ensures.found
-    (told-later _ _ OneEnd (ap (λ b. if b then Some Overlap else None) (sym c.if-is_among.ensures))
-    (told-later _ _ OneEnd (ap not_text_fault (sym was) ∙ c.in_ok-text.ensures.found) (ap one_end_fault (sym c.if-lacks_back.ensures)))))) refl
+    (second-fault _ _ (Some OneEnd) c.in_ok-find.ensures.found (second-fault _ _ (Some OneEnd) c.in_ok-find_all.ensures.found
+    (second-fault _ _ (Some OneEnd) (ap (λ b. if b then Some Overlap else None) (sym c.if-is_among.ensures))
+    (second-fault _ _ (Some OneEnd) (ap not_text_fault (sym was) ∙ c.in_ok-text.ensures.found) (ap one_end_fault (sym c.if-lacks_back.ensures)))))) refl
 
 pub make_parts-requires-clause-ends : goal.make_parts-requires-clause-ends
 make_parts-requires-clause-ends g c = sym c.if-lacks_back.ensures

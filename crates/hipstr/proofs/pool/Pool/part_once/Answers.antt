@@ -1,21 +1,95 @@
-use Rattle.std.proofs.Common.{◌∙◌, length, ap, sym, rules}
+use Rattle.std.proofs.Common.{◌≡◌, ◌∙◌, Ok, Some, length, ap, refl, rules, sym}
 use Rattle.hip_bytes.specs.Handle.{Handle}
 use Rattle.hipstr.specs.Cut.{occurrences, parted}
+use Rattle.hipstr.specs.Reason.{answer_of}
 use Rattle.hipstr.specs.Slot.{SlotState, slot_at}
-use Rattle.hipstr.specs.Step.{not_text_fault}
+use Rattle.hipstr.specs.Step.{fault_of, not_text_fault, overlap_fault, slot_fault}
 use Rattle.hipstr.specs.declared.command.Command.TheVariants.{Once}
-use Rattle.hipstr.specs.declared.command.Answer.TheVariants.{Done}
+use Rattle.hipstr.specs.declared.command.Answer.TheVariants.{Done, Nothing, Refused}
+use Rattle.hipstr.specs.declared.command.Reason.TheVariants.{Memory, NoSlot, NotText, Overlap}
 use Rattle.hipstr.proofs.Places.{parted-put}
-use Rattle.hipstr.proofs.Steps.{performed, neither, apart}
+use Rattle.hipstr.proofs.Steps.{apart, first-fault, overlaps, performed, neither, not-risen, second-fault, told-fault, told-memory}
+use Rattle.hipstr.proofs.Trims.{once-counted, once-needs, once-none}
 use Rattle.hipstr.proofs.pool.Pool.part_once.Goals as goal
 
-pub returns-clause-step : goal.returns-clause-step
-returns-clause-step g c =
+pub returns-in_err-source : goal.returns-in_err-source
+returns-in_err-source g c =
+    let told : answer_of c.from_residual.result ≡ Refused NoSlot = search rules in
     let slots = c.args.self.now in
-    let is = c.in_ok-source.ensures.slot in
-    let unrefused = neither _ _ c.in_ok-source.ensures.found (neither _ _ c.in_ok-find.ensures.found (neither _ _ c.in_ok-find-2.ensures.found
-    (neither _ _ (apart c.args.t c.args.u c.if-t-u.false) (ap not_text_fault (sym is) ∙ c.in_ok-text.ensures.found)))) in
-    let parts = λ (text : Handle). parted c.args.end (occurrences c.args.pattern text.items) (length text.items) in
-    performed g.B.Backend.SHARES slots (Once c.args.s c.args.t c.args.u c.args.end c.args.pattern) Done c.put-2.new.self unrefused
-    (parted-put slots c.put.new.self c.put-2.new.self c.args.t c.args.u c.in_ok-text.text.now (slot_at slots c.args.s) c.in-Some.front c.in-Some.back parts c.parted.result
-    c.in_ok-find.ensures.within c.in_ok-find-2.ensures.within (c.in_ok-text.ensures.text ∙ ap (λ (state : SlotState). state.handle) is) (search rules) c.parted.ensures.parts c.put.ensures c.put-2.ensures)
+    let is = first-fault (slot_fault slots c.args.s) _ NoSlot c.in_err-source.ensures.missing in
+    record { step = told-fault g.B.Backend.SHARES slots (Once c.args.s c.args.t c.args.u c.args.end c.args.pattern) _ NoSlot told is; counted = not-risen c.args.meter.now _ }
+
+pub returns-in_err-find : goal.returns-in_err-find
+returns-in_err-find g c =
+    let told : answer_of c.from_residual-in_err-find.result ≡ Refused NoSlot = search rules in
+    let slots = c.args.self.now in
+    let is = second-fault (slot_fault slots c.args.s) _ _ c.in_ok-source.ensures.found (first-fault (slot_fault slots c.args.t) _ NoSlot c.in_err-find.ensures.missing) in
+    record { step = told-fault g.B.Backend.SHARES slots (Once c.args.s c.args.t c.args.u c.args.end c.args.pattern) _ NoSlot told is; counted = not-risen c.args.meter.now _ }
+
+pub returns-in_err-find-2 : goal.returns-in_err-find-2
+returns-in_err-find-2 g c =
+    let told : answer_of c.from_residual-in_err-find-2.result ≡ Refused NoSlot = search rules in
+    let slots = c.args.self.now in
+    let is = second-fault (slot_fault slots c.args.s) _ _ c.in_ok-source.ensures.found (second-fault (slot_fault slots c.args.t) _ _ c.in_ok-find.ensures.found (first-fault (slot_fault slots c.args.u) _ NoSlot c.in_err-find-2.ensures.missing)) in
+    record { step = told-fault g.B.Backend.SHARES slots (Once c.args.s c.args.t c.args.u c.args.end c.args.pattern) _ NoSlot told is; counted = not-risen c.args.meter.now _ }
+
+pub returns-then-t-u : goal.returns-then-t-u
+returns-then-t-u g c =
+    let slots = c.args.self.now in
+    let is = second-fault (slot_fault slots c.args.s) _ _ c.in_ok-source.ensures.found (second-fault (slot_fault slots c.args.t) _ _ c.in_ok-find.ensures.found (second-fault (slot_fault slots c.args.u) _ _ c.in_ok-find-2.ensures.found
+    (first-fault (overlap_fault c.args.t c.args.u 1) _ Overlap (overlaps c.args.t c.args.u c.if-t-u.true)))) in
+    record { step = told-fault g.B.Backend.SHARES slots (Once c.args.s c.args.t c.args.u c.args.end c.args.pattern) (Refused Overlap) Overlap refl is; counted = not-risen c.args.meter.now _ }
+
+pub returns-in_err-text : goal.returns-in_err-text
+returns-in_err-text g c =
+    let told : answer_of c.from_residual-in_err-text.result ≡ Refused NotText = search rules in
+    let slots = c.args.self.now in
+    let is = second-fault (slot_fault slots c.args.s) _ _ c.in_ok-source.ensures.found (second-fault (slot_fault slots c.args.t) _ _ c.in_ok-find.ensures.found (second-fault (slot_fault slots c.args.u) _ _ c.in_ok-find-2.ensures.found
+    (second-fault (overlap_fault c.args.t c.args.u 1) _ _ (apart c.args.t c.args.u c.if-t-u.false) (ap not_text_fault (sym c.in_ok-source.ensures.slot) ∙ c.in_err-text.ensures.not_text)))) in
+    record { step = told-fault g.B.Backend.SHARES slots (Once c.args.s c.args.t c.args.u c.args.end c.args.pattern) _ NotText told is; counted = not-risen c.args.meter.now _ }
+
+pub returns-in_err-front : goal.returns-in_err-front
+returns-in_err-front g c =
+    let told : answer_of c.from_residual-in_err-front.result ≡ Refused Memory = search rules in
+    let slots = c.args.self.now in
+    let command = Once c.args.s c.args.t c.args.u c.args.end c.args.pattern in
+    let slot = c.in_ok-source.ensures.slot in
+    let none = neither _ _ c.in_ok-source.ensures.found (neither _ _ c.in_ok-find.ensures.found (neither _ _ c.in_ok-find-2.ensures.found
+    (neither _ _ (apart c.args.t c.args.u c.if-t-u.false) (ap not_text_fault (sym slot) ∙ c.in_ok-text.ensures.found)))) in
+    let is = c.in_ok-text.ensures.text ∙ ap (λ (state : SlotState). state.handle) slot in
+    let ranges_of = λ (text : Handle). parted c.args.end (occurrences c.args.pattern text.items) (length text.items) in
+    record {
+      step = told-memory g.B.Backend.SHARES slots command _ told none (once-needs ranges_of c.in_ok-text.text.now (slot_at slots c.args.s) is c.in_err-front.field-0.0 c.in_err-front.ensures.parts, refl);
+      counted = once-counted g.B.Backend.SHARES ranges_of c.in_ok-text.text.now (slot_at slots c.args.s) (fault_of slots command) _ _ is none c.in_err-front.ensures.counted;
+    }
+
+pub returns-in_default : goal.returns-in_default
+returns-in_default g c =
+    let slots = c.args.self.now in
+    let command = Once c.args.s c.args.t c.args.u c.args.end c.args.pattern in
+    let slot = c.in_ok-source.ensures.slot in
+    let none = neither _ _ c.in_ok-source.ensures.found (neither _ _ c.in_ok-find.ensures.found (neither _ _ c.in_ok-find-2.ensures.found
+    (neither _ _ (apart c.args.t c.args.u c.if-t-u.false) (ap not_text_fault (sym slot) ∙ c.in_ok-text.ensures.found)))) in
+    let is = c.in_ok-text.ensures.text ∙ ap (λ (state : SlotState). state.handle) slot in
+    let ranges_of = λ (text : Handle). parted c.args.end (occurrences c.args.pattern text.items) (length text.items) in
+    record {
+      step = performed g.B.Backend.SHARES slots command Nothing slots none (once-none ranges_of c.in_ok-text.text.now (slot_at slots c.args.s) is c.in_ok-front.field-0 c.in_default.is c.in_ok-front.ensures.parts, refl);
+      counted = once-counted g.B.Backend.SHARES ranges_of c.in_ok-text.text.now (slot_at slots c.args.s) (fault_of slots command) _ _ is none c.in_ok-front.ensures.counted;
+    }
+
+pub returns : goal.returns
+returns g c =
+    let made : c.parted.result ≡ Ok (Some (c.in-Some.front, c.in-Some.back)) = c.in_ok-front.was ∙ ap Ok c.in-Some.is in
+    let slots = c.args.self.now in
+    let command = Once c.args.s c.args.t c.args.u c.args.end c.args.pattern in
+    let slot = c.in_ok-source.ensures.slot in
+    let none = neither _ _ c.in_ok-source.ensures.found (neither _ _ c.in_ok-find.ensures.found (neither _ _ c.in_ok-find-2.ensures.found
+    (neither _ _ (apart c.args.t c.args.u c.if-t-u.false) (ap not_text_fault (sym slot) ∙ c.in_ok-text.ensures.found)))) in
+    let is = c.in_ok-text.ensures.text ∙ ap (λ (state : SlotState). state.handle) slot in
+    let ranges_of = λ (text : Handle). parted c.args.end (occurrences c.args.pattern text.items) (length text.items) in
+    record {
+      step = performed g.B.Backend.SHARES slots command Done c.put-2.new.self none
+          (parted-put slots c.put.new.self c.put-2.new.self c.args.t c.args.u c.in_ok-text.text.now (slot_at slots c.args.s) c.in-Some.front c.in-Some.back ranges_of c.parted.result
+          c.in_ok-find.ensures.within c.in_ok-find-2.ensures.within is made c.parted.ensures.parts c.put.ensures c.put-2.ensures);
+      counted = once-counted g.B.Backend.SHARES ranges_of c.in_ok-text.text.now (slot_at slots c.args.s) (fault_of slots command) _ _ is none c.parted.ensures.counted;
+    }

@@ -1,5 +1,26 @@
-use Rattle.hipstr.proofs.InPlace.{in-place, pop-step}
+use Rattle.std.proofs.Common.{◌≡◌, rules}
+use Rattle.hipstr.proofs.InPlace.{in-place, pop-step, pop-counted}
+use Rattle.hipstr.proofs.Places.{spare-kept}
+use Rattle.hipstr.proofs.Steps.{not-risen, told-fault}
+use Rattle.hipstr.specs.Reason.{answer_of}
+use Rattle.hipstr.specs.declared.command.Answer.TheVariants.{Refused}
+use Rattle.hipstr.specs.declared.command.Command.TheVariants.{Pop}
+use Rattle.hipstr.specs.declared.command.Reason.TheVariants.{NoSlot}
 use Rattle.hipstr.proofs.pool.Pool.pop.Goals as goal
 
 pub returns-clause-step : goal.returns-clause-step
 returns-clause-step g c = pop-step g.B.Backend.SHARES (in-place c.self.inside.slots.items c.args.self.now c.args.t c.index_mut.result.now c.pop.new.self c.self.view_is c.in_ok-find.ensures.within c.index_mut.ensures.value) c.pop.result c.pop.ensures.pop
+
+pub returns-clause-counted : goal.returns-clause-counted
+returns-clause-counted g c = pop-counted g.B.Backend.SHARES (in-place c.self.inside.slots.items c.args.self.now c.args.t c.index_mut.result.now c.pop.new.self c.self.view_is c.in_ok-find.ensures.within c.index_mut.ensures.value) c.args.meter.now c.pop.new.meter c.pop.ensures.counted
+
+pub returns-in_err-find-clause-step : goal.returns-in_err-find-clause-step
+returns-in_err-find-clause-step g c =
+    let told : answer_of c.from_residual.result ≡ Refused NoSlot = search rules in
+    told-fault g.B.Backend.SHARES c.args.self.now (Pop c.args.t) _ NoSlot told c.in_err-find.ensures.missing
+
+pub returns-in_err-find-clause-counted : goal.returns-in_err-find-clause-counted
+returns-in_err-find-clause-counted g c = not-risen c.args.meter.now _
+
+pub invariant_of-self : goal.invariant_of-self
+invariant_of-self g c = spare-kept c.self.inside.slots.items c.self.inside.spare.items c.args.t c.pop.new.self c.self.invariant

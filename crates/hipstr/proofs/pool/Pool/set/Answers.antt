@@ -1,5 +1,28 @@
-use Rattle.hipstr.proofs.InPlace.{in-place, set-step}
+use Rattle.std.proofs.Common.{◌≡◌, rules}
+use Rattle.hipstr.proofs.InPlace.{in-place, set-step, set-counted}
+use Rattle.hipstr.proofs.Places.{spare-kept}
+use Rattle.hipstr.proofs.Steps.{first-fault, not-risen, told-fault}
+use Rattle.hipstr.specs.Reason.{answer_of}
+use Rattle.hipstr.specs.Slot.{state_at}
+use Rattle.hipstr.specs.Step.{set_fault, slot_fault}
+use Rattle.hipstr.specs.declared.command.Answer.TheVariants.{Refused}
+use Rattle.hipstr.specs.declared.command.Command.TheVariants.{Set}
+use Rattle.hipstr.specs.declared.command.Reason.TheVariants.{NoSlot}
 use Rattle.hipstr.proofs.pool.Pool.set.Goals as goal
 
 pub returns-clause-step : goal.returns-clause-step
 returns-clause-step g c = set-step g.B.Backend.SHARES (in-place c.self.inside.slots.items c.args.self.now c.args.t c.index_mut.result.now c.set.new.self c.self.view_is c.in_ok-find.ensures.within c.index_mut.ensures.value) c.args.i c.args.byte c.set.result c.set.ensures.set
+
+pub returns-clause-counted : goal.returns-clause-counted
+returns-clause-counted g c = set-counted g.B.Backend.SHARES (in-place c.self.inside.slots.items c.args.self.now c.args.t c.index_mut.result.now c.set.new.self c.self.view_is c.in_ok-find.ensures.within c.index_mut.ensures.value) c.args.i c.args.byte c.args.meter.now c.set.new.meter c.set.ensures.counted
+
+pub returns-in_err-find-clause-step : goal.returns-in_err-find-clause-step
+returns-in_err-find-clause-step g c =
+    let told : answer_of c.from_residual.result ≡ Refused NoSlot = search rules in
+    told-fault g.B.Backend.SHARES c.args.self.now (Set c.args.t c.args.i c.args.byte) _ NoSlot told (first-fault (slot_fault c.args.self.now c.args.t) (set_fault (state_at c.args.self.now c.args.t) c.args.i) NoSlot c.in_err-find.ensures.missing)
+
+pub returns-in_err-find-clause-counted : goal.returns-in_err-find-clause-counted
+returns-in_err-find-clause-counted g c = not-risen c.args.meter.now _
+
+pub invariant_of-self : goal.invariant_of-self
+invariant_of-self g c = spare-kept c.self.inside.slots.items c.self.inside.spare.items c.args.t c.set.new.self c.self.invariant

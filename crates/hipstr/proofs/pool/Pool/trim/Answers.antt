@@ -1,21 +1,48 @@
-use Rattle.std.proofs.Common.{◌∙◌, ℕ, length, ap, sym}
-use Rattle.std.specs.Char.{is_whitespace}
+use Rattle.std.proofs.Common.{◌≡◌, ◌-◌, ℕ, refl, rules, subst}
 use Rattle.hip_bytes.specs.Handle.{Handle}
-use Rattle.hip_match.specs.Characters.{char_ends}
-use Rattle.hipstr.specs.Cut.{Leaves}
-use Rattle.hipstr.specs.Slot.{SlotState, slot_at}
-use Rattle.hipstr.specs.Step.{not_text_fault}
+use Rattle.hip_bytes.specs.Cost.{CutNeedsMemory}
+use Rattle.hipstr.specs.Reason.{answer_of}
+use Rattle.hipstr.specs.Slot.{slot_at}
+use Rattle.hipstr.specs.Step.{fault_of}
 use Rattle.hipstr.specs.declared.command.Command.TheVariants.{Trim}
-use Rattle.hipstr.specs.declared.command.Answer.TheVariants.{Done}
+use Rattle.hipstr.specs.declared.command.Answer.TheVariants.{Done, Refused}
+use Rattle.hipstr.specs.declared.command.Reason.TheVariants.{Memory}
 use Rattle.hipstr.proofs.Places.{trimmed-put}
-use Rattle.hipstr.proofs.Steps.{performed, neither}
+use Rattle.hipstr.proofs.Steps.{performed, told-fault, told-memory}
+use Rattle.hipstr.proofs.Trims.{Spaces, fault-costs, trim-costs}
 use Rattle.hipstr.proofs.pool.Pool.trim.Goals as goal
 
-pub returns-clause-step : goal.returns-clause-step
-returns-clause-step g c =
+pub returns-in_err-text : goal.returns-in_err-text
+returns-in_err-text g c =
+    let told : answer_of c.from_residual.result ≡ Refused c.in_err-text.field-0.0 = search rules in
     let slots = c.args.self.now in
-    let is = c.in_ok-source.ensures.slot in
-    let unrefused = neither _ _ c.in_ok-source.ensures.found (neither _ _ c.in_ok-find.ensures.found (ap not_text_fault (sym is) ∙ c.in_ok-text.ensures.found)) in
-    let leaves = λ (text : Handle) (range : ℕ × ℕ). Leaves c.args.side (char_ends is_whitespace text.items) (length text.items) range in
-    performed g.B.Backend.SHARES slots (Trim c.args.s c.args.t c.args.side) Done c.put.new.self unrefused
-    (trimmed-put slots c.put.new.self c.args.t c.in_ok-text.text.now (slot_at slots c.args.s) c.in_ok-left.left leaves c.in_ok-find.ensures.within (c.in_ok-text.ensures.text ∙ ap (λ (state : SlotState). state.handle) is) c.in_ok-left.ensures.trimmed c.put.ensures)
+    let command = Trim c.args.s c.args.t c.args.side in
+    record {
+      step = told-fault g.B.Backend.SHARES slots command _ c.in_err-text.field-0.0 told c.in_err-text.ensures.fault;
+      counted = fault-costs g.B.Backend.SHARES slots c.args.s (Spaces c.args.side) (fault_of slots command) c.in_err-text.field-0.0 c.args.meter.now c.in_err-text.ensures.fault;
+    }
+
+pub returns-in_err-left : goal.returns-in_err-left
+returns-in_err-left g c =
+    let told : answer_of c.from_residual-in_err-left.result ≡ Refused Memory = search rules in
+    let slots = c.args.self.now in
+    let command = Trim c.args.s c.args.t c.args.side in
+    let none = c.in_ok-text.ensures.found in
+    let is = c.in_ok-text.ensures.text in
+    record {
+      step = told-memory g.B.Backend.SHARES slots command _ told none
+          (subst (λ (text : Handle). (range : ℕ × ℕ) × Spaces c.args.side text range × CutNeedsMemory text.kind (range.1 - range.0)) is c.in_err-left.ensures.trimmed, refl);
+      counted = trim-costs g.B.Backend.SHARES slots c.args.s (Spaces c.args.side) (fault_of slots command) c.in_ok-text.text.now _ _ none is c.in_err-left.ensures.counted;
+    }
+
+pub returns : goal.returns
+returns g c =
+    let slots = c.args.self.now in
+    let command = Trim c.args.s c.args.t c.args.side in
+    let none = c.in_ok-text.ensures.found in
+    let is = c.in_ok-text.ensures.text in
+    record {
+      step = performed g.B.Backend.SHARES slots command Done c.put.new.self none
+          (trimmed-put slots c.put.new.self c.args.t c.in_ok-text.text.now (slot_at slots c.args.s) c.in_ok-left.left (Spaces c.args.side) c.in_ok-text.ensures.within is c.in_ok-left.ensures.trimmed c.put.ensures);
+      counted = trim-costs g.B.Backend.SHARES slots c.args.s (Spaces c.args.side) (fault_of slots command) c.in_ok-text.text.now _ _ none is c.in_ok-left.ensures.counted;
+    }
