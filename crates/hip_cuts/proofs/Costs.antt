@@ -1,13 +1,22 @@
 -- The cost of parts.
-use Rattle.std.proofs.Common.{◌≡◌, ℕ, ◌+◌, ◌-◌, ◌*◌, ◌≤◌, Bool, true, false, List, [], ◌∷◌, length, ap, refl, arith}
+use Rattle.std.proofs.Common.{◌≡◌, ◌∙◌, ℕ, ◌+◌, ◌-◌, ◌*◌, ◌≤◌, Bool, true, false, List, [], ◌∷◌, length, ap, refl, sym, arith}
 use Rattle.hip_bytes.proofs.Costs.{shared_part_is_little}
 use Rattle.hip_bytes.specs.Cost.{cut_cost}
 use Rattle.hip_bytes.specs.Handle.{Handle}
+use Rattle.hip_bytes.specs.Meter.{RisesAtMost}
 use Rattle.hip_bytes.specs.declared.kind.Kind.{Kind}
 use Rattle.hip_bytes.specs.declared.kind.Kind.TheVariants.{Inline, Borrowed, Allocated}
 use Rattle.hip_bytes.specs.declared.kind.TheConstants.{INLINE_CAPACITY}
-use Rattle.hip_cuts.specs.Piece.{IsLittle, parts_cost}
+use Rattle.hip_cuts.specs.Piece.{IsLittle, Left, part_cost, parts_cost}
 use Rattle.hip_match.specs.Pieces.{InOrder}
+
+-- a meter that has risen by no more than the parts cost that were drawn, after one draw more
+pub drawn-cost : (shares : Bool) (old new : Left) (source : Handle) (range : ℕ × ℕ) (start before after most : ℕ) → old.source ≡ source → old.rest ≡ range ∷ new.rest → RisesAtMost before after (part_cost shares old.source range)
+    → start ≤ before → before + parts_cost shares source old.rest ≤ most → (start ≤ after) × (after + parts_cost shares source new.rest ≤ most)
+drawn-cost shares old new source range start before after most same split rises never_falls at_most =
+    let cost : parts_cost shares source old.rest ≡ part_cost shares old.source range + parts_cost shares source new.rest =
+    ap (parts_cost shares source) split ∙ ap (λ (s : Handle). part_cost shares s range + parts_cost shares source new.rest) (sym same) in
+    (omega (arith, never_falls, rises.never_falls), omega (arith, rises.at_most, at_most, cost))
 
 -- ---- where owners are shared
 pub part-little : (source : Handle) (len : ℕ) → IsLittle source 1 (cut_cost true source.kind len)
