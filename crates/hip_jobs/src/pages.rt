@@ -141,6 +141,32 @@ fn page<'s, B: Backend>(
     Some(page)
 }
 
+/// A template's number of holes, which are close together or apart, and the number of pages that are made of it.
+#[derive(Clone, Copy)]
+struct Form {
+    holes: usize,
+    apart: bool,
+    pages: usize,
+}
+
+/// Adds the pages of a template.
+fn push_pages<'s, B: Backend>(
+    alloc: Global,
+    numbers: &mut Numbers,
+    stocks: &'s Stocks,
+    form: Form,
+    pages: &mut Vec<HipStr<'s, B>>,
+    digest: &mut Digest,
+) -> Option<()> {
+    let text = template(alloc, numbers, stocks, form.holes, form.apart).ok()?;
+    let parsed = parse(alloc, &HipStr::from_string(alloc, text).ok()?).ok()?;
+    for _ in 0..form.pages {
+        let page = page(alloc, numbers, stocks, &parsed, digest)?;
+        pages.push(page).ok()?;
+    }
+    Some(())
+}
+
 /// Many pages of a template, and one of a long one, on either backend.
 fn pages<'s, B: Backend>(
     alloc: Global,
@@ -149,18 +175,19 @@ fn pages<'s, B: Backend>(
     digest: &mut Digest,
 ) -> Option<Vec<HipStr<'s, B>>> {
     let holes = 10 + numbers.below(91);
-    let text = template(alloc, numbers, stocks, holes, true).ok()?;
-    let parsed = parse(alloc, &HipStr::from_string(alloc, text).ok()?).ok()?;
+    let short = Form {
+        holes,
+        apart: true,
+        pages: PAGES,
+    };
+    let long = Form {
+        holes: HOLES,
+        apart: false,
+        pages: 1,
+    };
     let mut pages = Vec::new(alloc);
-    for _ in 0..PAGES {
-        let page = page(alloc, numbers, stocks, &parsed, digest)?;
-        pages.push(page).ok()?;
-    }
-    let text = template(alloc, numbers, stocks, HOLES, false).ok()?;
-    let parsed = parse(alloc, &HipStr::from_string(alloc, text).ok()?).ok()?;
-    pages
-        .push(page(alloc, numbers, stocks, &parsed, digest)?)
-        .ok()?;
+    push_pages(alloc, numbers, stocks, short, &mut pages, digest)?;
+    push_pages(alloc, numbers, stocks, long, &mut pages, digest)?;
     Some(pages)
 }
 
