@@ -84,7 +84,3 @@ IsPerformed shares old answer new before after command = record {
 pub performed-as : (shares : Bool) (old : List SlotState) (answer : Answer) (new : List SlotState) (before after : ℕ) (given command : Command) → given ≡ command
     → IsPerformed shares old answer new before after command → IsPerformed shares old answer new before after given
 performed-as shares old answer new before after given command is = subst (λ (c : Command). IsPerformed shares old answer new before after c) (sym is)
-
--- a meter that stands still rises by no more than any number
-pub still : (meter most : ℕ) → RisesAtMost meter meter most
-still meter most = record { never_falls = omega arith; at_most = omega arith }

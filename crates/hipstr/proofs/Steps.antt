@@ -9,7 +9,7 @@ use Rattle.std.specs.Option.{option_or}
 use Rattle.hip_bytes.specs.Handle.{Handle}
 use Rattle.hip_bytes.specs.Meter.{RisesAtMost}
 use Rattle.hipstr.specs.Slot.{Replaces, SlotState, empty_slot, state_at}
-use Rattle.hipstr.specs.Step.{Performs, Step, copies_of, cost_of, fault_of, one_end_fault, overlap_fault, slot_fault, unless}
+use Rattle.hipstr.specs.Step.{Performs, Step, fault_of, one_end_fault, overlap_fault, slot_fault, unless}
 use Rattle.hipstr.specs.declared.command.Command.{Command}
 use Rattle.hipstr.specs.declared.command.Answer.{Answer}
 use Rattle.hipstr.specs.declared.command.Answer.TheVariants.{Refused}
@@ -23,10 +23,9 @@ performed shares old command answer new none done =
     subst (λ (fault : Option Reason). MatchOption fault (Performs shares old command answer new) (λ reason. (answer ≡ Refused reason) × (new ≡ old)))
     (sym none) done
 
--- a command without a fault costs the bytes that it copies
-pub counted-unrefused : (shares : Bool) (slots : List SlotState) (command : Command) (before after : ℕ)
-    → fault_of slots command ≡ None → RisesAtMost before after (copies_of shares slots command) → RisesAtMost before after (cost_of shares slots command)
-counted-unrefused shares slots command before after none = subst (λ (fault : Option Reason). RisesAtMost before after (unless fault (copies_of shares slots command))) (sym none)
+-- the cost of a command without a fault
+pub unfaulted : (fault : Option Reason) (m n cost : ℕ) → fault ≡ None → RisesAtMost m n cost → RisesAtMost m n (unless fault cost)
+unfaulted fault m n cost none = subst (λ (fault : Option Reason). RisesAtMost m n (unless fault cost)) (sym none)
 
 -- the first fault, and the second where there is no first
 pub first-fault : (first second : Option Reason) (reason : Reason) → first ≡ Some reason → option_or first second ≡ Some reason
@@ -72,7 +71,7 @@ outside s first count never = ap (λ b. if b then Some Overlap else None) (by-or
 pub apart : (t u : ℕ) → ¬ (t ≡ u) → overlap_fault t u 1 ≡ None
 apart t u other = outside t u 1 (λ from before. other (omega (arith, from, before)))
 
--- and two that are one
+-- two slots that are one overlap
 pub overlaps : (t u : ℕ) → t ≡ u → overlap_fault t u 1 ≡ Some Overlap
 overlaps t u is = ap (λ b. if b then Some Overlap else None) (by-order (leb_tells u t) (leb_tells (suc t) (u + 1))) where
   by-order : ((nat_le u t ≡ true) × (u ≤ t)) ⊎ ((nat_le u t ≡ false) × (t < u)) → ((nat_lt t (u + 1) ≡ true) × (t < u + 1)) ⊎ ((nat_lt t (u + 1) ≡ false) × (u + 1 < suc t)) → (nat_le u t && nat_lt t (u + 1)) ≡ true
@@ -112,7 +111,3 @@ replaced old new t slot is_text P within put flag p =
 -- one that was put as it is
 pub as-it-was : (old new : List SlotState) (t : ℕ) (slot : SlotState) → new ≡ slice_set old t slot → slot ≡ state_at old t → new ≡ old
 as-it-was old new t slot put same = put ∙ ap (λ s. slice_set old t s) same ∙ set-get_or old t empty_slot
-
--- a meter that stayed where it was rose by no more than any cost
-pub not-risen : (n cost : ℕ) → RisesAtMost n n cost
-not-risen n cost = record { never_falls = omega (arith); at_most = omega (arith) }

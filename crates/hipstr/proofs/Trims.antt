@@ -4,6 +4,7 @@ use Rattle.std.specs.Borrow.{Bor}
 use Rattle.std.specs.Char.{is_whitespace}
 use Rattle.std.specs.Option.{option_or}
 use Rattle.std.specs.declared.alloc.AllocError.{AllocError}
+use Rattle.hip_bytes.proofs.Costs.{nothing_copied}
 use Rattle.hip_bytes.specs.Cost.{CutNeedsMemory}
 use Rattle.hip_bytes.specs.Handle.{Handle}
 use Rattle.hip_bytes.specs.Meter.{RisesAtMost}
@@ -11,7 +12,7 @@ use Rattle.hip_cuts.specs.Cut.{PartIfAny, PartIfAnyCosts, PartsIfAny, PartsIfAny
 use Rattle.hip_cuts.specs.Piece.{IsPartAt, part_cost, parts_cost}
 use Rattle.hip_match.specs.Characters.{char_ends}
 use Rattle.hipstr.proofs.Places.{placed}
-use Rattle.hipstr.proofs.Steps.{neither, not-risen, second-fault}
+use Rattle.hipstr.proofs.Steps.{neither, second-fault, unfaulted}
 use Rattle.hipstr.specs.Cut.{Leaves, SomeNeedsMemory, occurrences}
 use Rattle.hipstr.specs.Slot.{Replaces, SlotState, slot_at, state_at}
 use Rattle.hipstr.specs.Step.{not_text_fault, option_cost, slot_fault, unless}
@@ -24,12 +25,12 @@ use Rattle.hipstr.specs.declared.command.Side.{Side}
 abbrev pub text_for_fault : List SlotState → ℕ → ℕ → Option Reason
 text_for_fault slots s t = option_or (slot_fault slots s) (option_or (slot_fault slots t) (not_text_fault (state_at slots s)))
 
--- the reason that a text is refused for, and that it is none where there is one
+-- the reason for which a text is refused; one that is given has `NotText` here
 abbrev refused_with : Result (Bor Handle) Reason → Reason
 refused_with (Ok text) = NotText
 refused_with (Err reason) = reason
 
--- the text of a source that is there, or that it is none
+-- the text of a source that is there, or the fault that it is no text
 pub text-for : (slots : List SlotState) (s t : ℕ) (was : SlotState) (result : Result (Bor Handle) Reason) → was ≡ state_at slots s → slot_fault slots s ≡ None → slot_fault slots t ≡ None → t < length slots
     → IfOk result (λ text. text.now ≡ was.handle) → OnOk result (not_text_fault was ≡ None) → OnErr result (not_text_fault was ≡ Some NotText) → OnErr result (result ≡ Err NotText)
     → IfOk result (λ text. text.now ≡ slot_at slots s) × OnOk result (t < length slots) × OnOk result (text_for_fault slots s t ≡ None) × IfErr result (λ reason. text_for_fault slots s t ≡ Some reason)
@@ -58,17 +59,13 @@ module _ (shares : Bool) (slots : List SlotState) (s : ℕ) (Range : Handle → 
 
   pub fault-costs : (reason : Reason) (n : ℕ) → fault ≡ Some reason → (cost : ℕ) × TrimCosts cost × RisesAtMost n n cost
   fault-costs reason n is =
-      (0, subst (λ (first : Option Reason). MatchOption first ((range : ℕ × ℕ) × Range (slot_at slots s) range × (0 ≡ part_cost shares (slot_at slots s) range)) (λ reason. (let zero : ℕ = 0 in zero) ≡ 0)) (sym is) refl, not-risen n 0)
+      (0, subst (λ (first : Option Reason). MatchOption first ((range : ℕ × ℕ) × Range (slot_at slots s) range × (0 ≡ part_cost shares (slot_at slots s) range)) (λ reason. (let zero : ℕ = 0 in zero) ≡ 0)) (sym is) refl, nothing_copied n 0)
 
   pub trim-costs : (text : Handle) (m n : ℕ) → fault ≡ None → text ≡ slot_at slots s → (range : ℕ × ℕ) × Range text range × RisesAtMost m n (part_cost shares text range) → (cost : ℕ) × TrimCosts cost × RisesAtMost m n cost
   trim-costs text m n none is costs =
       let at = subst (λ (text : Handle). (range : ℕ × ℕ) × Range text range × RisesAtMost m n (part_cost shares text range)) is costs in
       let cost = part_cost shares (slot_at slots s) at.0 in
       (cost, subst (λ (first : Option Reason). MatchOption first ((range : ℕ × ℕ) × Range (slot_at slots s) range × (cost ≡ part_cost shares (slot_at slots s) range)) (λ reason. cost ≡ 0)) (sym none) (at.0, at.1, refl), at.2)
-
--- the cost of a command without a fault
-unfaulted : (fault : Option Reason) (m n cost : ℕ) → fault ≡ None → RisesAtMost m n cost → RisesAtMost m n (unless fault cost)
-unfaulted fault m n cost none = subst (λ (fault : Option Reason). RisesAtMost m n (unless fault cost)) (sym none)
 
 -- a strip: the range that it leaves of a text, if any
 module _ (range_of : Handle → Option (ℕ × ℕ)) (text source : Handle) (is : text ≡ source) where

@@ -1,7 +1,8 @@
 use Rattle.std.proofs.Common.{◌≡◌, rules}
+use Rattle.hip_bytes.proofs.Costs.{nothing_copied}
 use Rattle.hipstr.proofs.InPlace.{in-place, owned-step, owned-counted}
 use Rattle.hipstr.proofs.Places.{spare-kept}
-use Rattle.hipstr.proofs.Steps.{not-risen, told-fault}
+use Rattle.hipstr.proofs.Steps.{told-fault}
 use Rattle.hipstr.specs.Reason.{answer_of}
 use Rattle.hipstr.specs.declared.command.Answer.TheVariants.{Refused}
 use Rattle.hipstr.specs.declared.command.Command.TheVariants.{Owned}
@@ -20,7 +21,7 @@ returns-in_err-find-clause-step g c =
     told-fault g.B.Backend.SHARES c.args.self.now (Owned c.args.t) _ NoSlot told c.in_err-find.ensures.missing
 
 pub returns-in_err-find-clause-counted : goal.returns-in_err-find-clause-counted
-returns-in_err-find-clause-counted g c = not-risen c.args.meter.now _
+returns-in_err-find-clause-counted g c = nothing_copied c.args.meter.now _
 
 pub invariant_of-self : goal.invariant_of-self
 invariant_of-self g c = spare-kept c.self.inside.slots.items c.self.inside.spare.items c.args.t c.make_owned.new.self c.self.invariant

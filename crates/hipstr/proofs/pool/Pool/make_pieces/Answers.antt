@@ -6,14 +6,14 @@ use Rattle.hipstr.specs.Cut.{pieces_of}
 use Rattle.hipstr.specs.Parts.{put_all}
 use Rattle.hipstr.specs.Reason.{answer_of}
 use Rattle.hipstr.specs.Slot.{SlotState, empty_slot, slot_at, state_at, state_of}
-use Rattle.hipstr.specs.Step.{Step, not_text_fault, one_end_fault}
+use Rattle.hipstr.specs.Step.{copies_of, fault_of, Step, not_text_fault, one_end_fault}
 use Rattle.hipstr.specs.declared.command.Answer.{Answer}
 use Rattle.hipstr.specs.declared.command.Answer.TheVariants.{Number, Refused}
 use Rattle.hipstr.specs.declared.command.Command.TheVariants.{Pieces}
 use Rattle.hipstr.specs.declared.command.Reason.TheVariants.{NoSlot, Overlap, NotText, OneEnd, Memory}
 use Rattle.hipstr.proofs.Parts.{draw-within, empty-length, hold-within, pieces-cost, pieces-need, pieces-put, spare-emptied}
 use Rattle.hipstr.proofs.Places.{state-there}
-use Rattle.hipstr.proofs.Steps.{counted-unrefused, faulted, first-fault, none-of-five, one-end, performed, second-fault, told-fault}
+use Rattle.hipstr.proofs.Steps.{faulted, first-fault, none-of-five, one-end, performed, second-fault, told-fault, unfaulted}
 use Rattle.hipstr.proofs.pool.Pool.make_pieces.Goals as goal
 
 pub make_parts-requires-clause-room : goal.make_parts-requires-clause-room
@@ -90,7 +90,7 @@ returns-in_err-count g c =
       step = subst (λ (answer : Answer). Step g.B.Backend.SHARES slots command answer (map state c.self.inside.slots.items)) (sym told)
           (performed g.B.Backend.SHARES slots command (Refused Memory) (map state c.self.inside.slots.items) unrefused
           (pieces-need slots c.in_ok-text.text.now c.args.s ranges is c.in_err-count.ensures.made.0, c.self.view_is));
-      counted = counted-unrefused g.B.Backend.SHARES slots command c.args.meter.now c.make_parts.new.meter unrefused
+      counted = unfaulted (fault_of slots command) c.args.meter.now c.make_parts.new.meter (copies_of g.B.Backend.SHARES slots command) unrefused
           (pieces-cost g.B.Backend.SHARES slots c.in_ok-text.text.now c.args.s ranges c.args.meter.now c.make_parts.new.meter is c.in_err-count.ensures.counted);
     }
 
@@ -128,7 +128,7 @@ returns g c =
       step = performed g.B.Backend.SHARES slots command (Number c.in_ok-count.count) _ unrefused
           (pieces-put slots (map state c.make_parts.new.spare) _ c.in_ok-text.text.now c.args.s c.args.first c.in_ok-count.count ranges is
           c.in_ok-count.ensures.made.0 c.in_ok-count.ensures.made.1 room (ap (map state) slots_is ∙ put));
-      counted = counted-unrefused g.B.Backend.SHARES slots command c.args.meter.now c.make_parts.new.meter unrefused
+      counted = unfaulted (fault_of slots command) c.args.meter.now c.make_parts.new.meter (copies_of g.B.Backend.SHARES slots command) unrefused
           (pieces-cost g.B.Backend.SHARES slots c.in_ok-text.text.now c.args.s ranges c.args.meter.now c.make_parts.new.meter is c.in_ok-count.ensures.counted);
     }
 

@@ -1,4 +1,5 @@
 use Rattle.std.proofs.Common.{◌≡◌, ◌∙◌, Ok, Some, length, ap, refl, rules, sym}
+use Rattle.hip_bytes.proofs.Costs.{nothing_copied}
 use Rattle.hip_bytes.specs.Handle.{Handle}
 use Rattle.hipstr.specs.Cut.{occurrences, parted}
 use Rattle.hipstr.specs.Reason.{answer_of}
@@ -8,7 +9,7 @@ use Rattle.hipstr.specs.declared.command.Command.TheVariants.{Once}
 use Rattle.hipstr.specs.declared.command.Answer.TheVariants.{Done, Nothing, Refused}
 use Rattle.hipstr.specs.declared.command.Reason.TheVariants.{Memory, NoSlot, NotText, Overlap}
 use Rattle.hipstr.proofs.Places.{parted-put}
-use Rattle.hipstr.proofs.Steps.{apart, first-fault, overlaps, performed, neither, not-risen, second-fault, told-fault, told-memory}
+use Rattle.hipstr.proofs.Steps.{apart, first-fault, overlaps, performed, neither, second-fault, told-fault, told-memory}
 use Rattle.hipstr.proofs.Trims.{once-counted, once-needs, once-none}
 use Rattle.hipstr.proofs.pool.Pool.part_once.Goals as goal
 
@@ -17,28 +18,28 @@ returns-in_err-source g c =
     let told : answer_of c.from_residual.result ≡ Refused NoSlot = search rules in
     let slots = c.args.self.now in
     let is = first-fault (slot_fault slots c.args.s) _ NoSlot c.in_err-source.ensures.missing in
-    record { step = told-fault g.B.Backend.SHARES slots (Once c.args.s c.args.t c.args.u c.args.end c.args.pattern) _ NoSlot told is; counted = not-risen c.args.meter.now _ }
+    record { step = told-fault g.B.Backend.SHARES slots (Once c.args.s c.args.t c.args.u c.args.end c.args.pattern) _ NoSlot told is; counted = nothing_copied c.args.meter.now _ }
 
 pub returns-in_err-find : goal.returns-in_err-find
 returns-in_err-find g c =
     let told : answer_of c.from_residual-in_err-find.result ≡ Refused NoSlot = search rules in
     let slots = c.args.self.now in
     let is = second-fault (slot_fault slots c.args.s) _ _ c.in_ok-source.ensures.found (first-fault (slot_fault slots c.args.t) _ NoSlot c.in_err-find.ensures.missing) in
-    record { step = told-fault g.B.Backend.SHARES slots (Once c.args.s c.args.t c.args.u c.args.end c.args.pattern) _ NoSlot told is; counted = not-risen c.args.meter.now _ }
+    record { step = told-fault g.B.Backend.SHARES slots (Once c.args.s c.args.t c.args.u c.args.end c.args.pattern) _ NoSlot told is; counted = nothing_copied c.args.meter.now _ }
 
 pub returns-in_err-find-2 : goal.returns-in_err-find-2
 returns-in_err-find-2 g c =
     let told : answer_of c.from_residual-in_err-find-2.result ≡ Refused NoSlot = search rules in
     let slots = c.args.self.now in
     let is = second-fault (slot_fault slots c.args.s) _ _ c.in_ok-source.ensures.found (second-fault (slot_fault slots c.args.t) _ _ c.in_ok-find.ensures.found (first-fault (slot_fault slots c.args.u) _ NoSlot c.in_err-find-2.ensures.missing)) in
-    record { step = told-fault g.B.Backend.SHARES slots (Once c.args.s c.args.t c.args.u c.args.end c.args.pattern) _ NoSlot told is; counted = not-risen c.args.meter.now _ }
+    record { step = told-fault g.B.Backend.SHARES slots (Once c.args.s c.args.t c.args.u c.args.end c.args.pattern) _ NoSlot told is; counted = nothing_copied c.args.meter.now _ }
 
 pub returns-then-t-u : goal.returns-then-t-u
 returns-then-t-u g c =
     let slots = c.args.self.now in
     let is = second-fault (slot_fault slots c.args.s) _ _ c.in_ok-source.ensures.found (second-fault (slot_fault slots c.args.t) _ _ c.in_ok-find.ensures.found (second-fault (slot_fault slots c.args.u) _ _ c.in_ok-find-2.ensures.found
     (first-fault (overlap_fault c.args.t c.args.u 1) _ Overlap (overlaps c.args.t c.args.u c.if-t-u.true)))) in
-    record { step = told-fault g.B.Backend.SHARES slots (Once c.args.s c.args.t c.args.u c.args.end c.args.pattern) (Refused Overlap) Overlap refl is; counted = not-risen c.args.meter.now _ }
+    record { step = told-fault g.B.Backend.SHARES slots (Once c.args.s c.args.t c.args.u c.args.end c.args.pattern) (Refused Overlap) Overlap refl is; counted = nothing_copied c.args.meter.now _ }
 
 pub returns-in_err-text : goal.returns-in_err-text
 returns-in_err-text g c =
@@ -46,7 +47,7 @@ returns-in_err-text g c =
     let slots = c.args.self.now in
     let is = second-fault (slot_fault slots c.args.s) _ _ c.in_ok-source.ensures.found (second-fault (slot_fault slots c.args.t) _ _ c.in_ok-find.ensures.found (second-fault (slot_fault slots c.args.u) _ _ c.in_ok-find-2.ensures.found
     (second-fault (overlap_fault c.args.t c.args.u 1) _ _ (apart c.args.t c.args.u c.if-t-u.false) (ap not_text_fault (sym c.in_ok-source.ensures.slot) ∙ c.in_err-text.ensures.not_text)))) in
-    record { step = told-fault g.B.Backend.SHARES slots (Once c.args.s c.args.t c.args.u c.args.end c.args.pattern) _ NotText told is; counted = not-risen c.args.meter.now _ }
+    record { step = told-fault g.B.Backend.SHARES slots (Once c.args.s c.args.t c.args.u c.args.end c.args.pattern) _ NotText told is; counted = nothing_copied c.args.meter.now _ }
 
 pub returns-in_err-front : goal.returns-in_err-front
 returns-in_err-front g c =

@@ -1,12 +1,13 @@
 use Rattle.std.proofs.Common.{refl}
+use Rattle.hip_bytes.proofs.Costs.{nothing_copied}
 use Rattle.hipstr.specs.Reason.{answer_of}
-use Rattle.hipstr.proofs.Amortised.{performed-as, still}
+use Rattle.hipstr.proofs.Amortised.{performed-as}
 use Rattle.hipstr.proofs.pool.Pool.perform.Goals as goal
 
 pub returns-in-New : goal.returns-in-New
 returns-in-New g c =
     performed-as g.B.Backend.SHARES c.args.self.now (answer_of c.make_new.result) c.make_new.new.self c.args.meter.now c.args.meter.now c.args.command.now _ c.in-New.is
-    (record { step = c.make_new.ensures.step; counted = (_, refl, still _ _); paid = λ unshared. tt })
+    (record { step = c.make_new.ensures.step; counted = (_, refl, nothing_copied _ _); paid = λ unshared. tt })
 
 pub returns-in-Inline : goal.returns-in-Inline
 returns-in-Inline g c =
@@ -16,7 +17,7 @@ returns-in-Inline g c =
 pub returns-in-Borrow : goal.returns-in-Borrow
 returns-in-Borrow g c =
     performed-as g.B.Backend.SHARES c.args.self.now (answer_of c.make_borrowed.result) c.make_borrowed.new.self c.args.meter.now c.args.meter.now c.args.command.now _ c.in-Borrow.is
-    (record { step = c.make_borrowed.ensures.step; counted = (_, refl, still _ _); paid = λ unshared. tt })
+    (record { step = c.make_borrowed.ensures.step; counted = (_, refl, nothing_copied _ _); paid = λ unshared. tt })
 
 pub returns-in-Copy : goal.returns-in-Copy
 returns-in-Copy g c =
@@ -26,7 +27,7 @@ returns-in-Copy g c =
 pub returns-in-Room : goal.returns-in-Room
 returns-in-Room g c =
     performed-as g.B.Backend.SHARES c.args.self.now (answer_of c.make_room.result) c.make_room.new.self c.args.meter.now c.args.meter.now c.args.command.now _ c.in-Room.is
-    (record { step = c.make_room.ensures.step; counted = (_, refl, still _ _); paid = λ unshared. tt })
+    (record { step = c.make_room.ensures.step; counted = (_, refl, nothing_copied _ _); paid = λ unshared. tt })
 
 pub returns-in-Clone : goal.returns-in-Clone
 returns-in-Clone g c =
@@ -101,12 +102,12 @@ returns-in-Owned g c =
 pub returns-in-Text : goal.returns-in-Text
 returns-in-Text g c =
     performed-as g.B.Backend.SHARES c.args.self.now (answer_of c.make_text.result) c.make_text.new.self c.args.meter.now c.args.meter.now c.args.command.now _ c.in-Text.is
-    (record { step = c.make_text.ensures.step; counted = (_, refl, still _ _); paid = λ unshared. tt })
+    (record { step = c.make_text.ensures.step; counted = (_, refl, nothing_copied _ _); paid = λ unshared. tt })
 
 pub returns-in-Bytes : goal.returns-in-Bytes
 returns-in-Bytes g c =
     performed-as g.B.Backend.SHARES c.args.self.now (answer_of c.make_bytes.result) c.make_bytes.new.self c.args.meter.now c.args.meter.now c.args.command.now _ c.in-Bytes.is
-    (record { step = c.make_bytes.ensures.step; counted = (_, refl, still _ _); paid = λ unshared. tt })
+    (record { step = c.make_bytes.ensures.step; counted = (_, refl, nothing_copied _ _); paid = λ unshared. tt })
 
 pub returns-in-Trim : goal.returns-in-Trim
 returns-in-Trim g c =
@@ -136,24 +137,24 @@ returns-in-Once g c =
 pub returns-in-Compare : goal.returns-in-Compare
 returns-in-Compare g c =
     performed-as g.B.Backend.SHARES c.args.self.now (answer_of c.compare.result) c.args.self.now c.args.meter.now c.args.meter.now c.args.command.now _ c.in-Compare.is
-    (record { step = c.compare.ensures.step; counted = (_, refl, still _ _); paid = λ unshared. tt })
+    (record { step = c.compare.ensures.step; counted = (_, refl, nothing_copied _ _); paid = λ unshared. tt })
 
 pub returns-in-ComparePath : goal.returns-in-ComparePath
 returns-in-ComparePath g c =
     performed-as g.B.Backend.SHARES c.args.self.now (answer_of c.compare_path.result) c.args.self.now c.args.meter.now c.args.meter.now c.args.command.now _ c.in-ComparePath.is
-    (record { step = c.compare_path.ensures.step; counted = (_, refl, still _ _); paid = λ unshared. tt })
+    (record { step = c.compare_path.ensures.step; counted = (_, refl, nothing_copied _ _); paid = λ unshared. tt })
 
 pub returns-in-Len : goal.returns-in-Len
 returns-in-Len g c =
     performed-as g.B.Backend.SHARES c.args.self.now (answer_of c.tell_len.result) c.args.self.now c.args.meter.now c.args.meter.now c.args.command.now _ c.in-Len.is
-    (record { step = c.tell_len.ensures.step; counted = (_, refl, still _ _); paid = λ unshared. tt })
+    (record { step = c.tell_len.ensures.step; counted = (_, refl, nothing_copied _ _); paid = λ unshared. tt })
 
 pub returns-in-Kind : goal.returns-in-Kind
 returns-in-Kind g c =
     performed-as g.B.Backend.SHARES c.args.self.now (answer_of c.tell_kind.result) c.args.self.now c.args.meter.now c.args.meter.now c.args.command.now _ c.in-Kind.is
-    (record { step = c.tell_kind.ensures.step; counted = (_, refl, still _ _); paid = λ unshared. tt })
+    (record { step = c.tell_kind.ensures.step; counted = (_, refl, nothing_copied _ _); paid = λ unshared. tt })
 
 pub returns-in-Capacity : goal.returns-in-Capacity
 returns-in-Capacity g c =
     performed-as g.B.Backend.SHARES c.args.self.now (answer_of c.tell_capacity.result) c.args.self.now c.args.meter.now c.args.meter.now c.args.command.now _ c.in-Capacity.is
-    (record { step = c.tell_capacity.ensures.step; counted = (_, refl, still _ _); paid = λ unshared. tt })
+    (record { step = c.tell_capacity.ensures.step; counted = (_, refl, nothing_copied _ _); paid = λ unshared. tt })

@@ -1,8 +1,9 @@
 use Rattle.std.proofs.Common.{◌≡◌, length, rules}
+use Rattle.hip_bytes.proofs.Costs.{nothing_copied}
 use Rattle.hipstr.proofs.Amortised.{pushed-in_place}
 use Rattle.hipstr.proofs.InPlace.{in-place, push-step, push-counted}
 use Rattle.hipstr.proofs.Places.{spare-kept}
-use Rattle.hipstr.proofs.Steps.{first-fault, not-risen, told-fault}
+use Rattle.hipstr.proofs.Steps.{first-fault, told-fault}
 use Rattle.hipstr.specs.Reason.{answer_of}
 use Rattle.hipstr.specs.Slot.{state_at}
 use Rattle.hipstr.specs.Step.{addition_fault, slot_fault}
@@ -26,7 +27,7 @@ returns-in_err-find-clause-step g c =
     told-fault g.B.Backend.SHARES c.args.self.now (Push c.args.t c.args.addition) _ NoSlot told (first-fault (slot_fault c.args.self.now c.args.t) (addition_fault (state_at c.args.self.now c.args.t) c.args.addition.now) NoSlot c.in_err-find.ensures.missing)
 
 pub returns-in_err-find-clause-counted : goal.returns-in_err-find-clause-counted
-returns-in_err-find-clause-counted g c = not-risen c.args.meter.now _
+returns-in_err-find-clause-counted g c = nothing_copied c.args.meter.now _
 
 pub invariant_of-self : goal.invariant_of-self
 invariant_of-self g c = spare-kept c.self.inside.slots.items c.self.inside.spare.items c.args.t c.push.new.self c.self.invariant

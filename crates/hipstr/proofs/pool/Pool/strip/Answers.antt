@@ -1,4 +1,5 @@
 use Rattle.std.proofs.Common.{◌≡◌, length, refl, rules}
+use Rattle.hip_bytes.proofs.Costs.{nothing_copied}
 use Rattle.hip_bytes.specs.Handle.{Handle}
 use Rattle.hipstr.specs.Cut.{occurrences, stripped}
 use Rattle.hipstr.specs.Reason.{answer_of}
@@ -7,7 +8,7 @@ use Rattle.hipstr.specs.Step.{fault_of}
 use Rattle.hipstr.specs.declared.command.Command.TheVariants.{Strip}
 use Rattle.hipstr.specs.declared.command.Answer.TheVariants.{Done, Nothing, Refused}
 use Rattle.hipstr.specs.declared.command.Reason.TheVariants.{Memory}
-use Rattle.hipstr.proofs.Steps.{performed, not-risen, told-fault, told-memory}
+use Rattle.hipstr.proofs.Steps.{performed, told-fault, told-memory}
 use Rattle.hipstr.proofs.Trims.{strip-counted, strip-needs, strip-none, strip-put}
 use Rattle.hipstr.proofs.pool.Pool.strip.Goals as goal
 
@@ -15,7 +16,7 @@ pub returns-in_err-text : goal.returns-in_err-text
 returns-in_err-text g c =
     let told : answer_of c.from_residual.result ≡ Refused c.in_err-text.field-0.0 = search rules in
     let slots = c.args.self.now in
-    record { step = told-fault g.B.Backend.SHARES slots (Strip c.args.s c.args.t c.args.end c.args.pattern) _ c.in_err-text.field-0.0 told c.in_err-text.ensures.fault; counted = not-risen c.args.meter.now _ }
+    record { step = told-fault g.B.Backend.SHARES slots (Strip c.args.s c.args.t c.args.end c.args.pattern) _ c.in_err-text.field-0.0 told c.in_err-text.ensures.fault; counted = nothing_copied c.args.meter.now _ }
 
 pub returns-in_err-left : goal.returns-in_err-left
 returns-in_err-left g c =
