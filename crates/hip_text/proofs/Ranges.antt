@@ -1,5 +1,5 @@
 -- Two bounds that are a range of a text, or none.
-use Rattle.std.proofs.Common.{◌≡◌, ◌∙◌, ℕ, ◌-◌, ◌≤◌, Bool, List, length, slice_range, Option, Some, None, Result, Ok, Err, ap, ap₂, refl, subst, sym, arith}
+use Rattle.std.proofs.Common.{◌≡◌, ◌∙◌, ℕ, ◌-◌, ◌≤◌, Bool, List, length, slice_range, Option, Some, None, Result, Ok, Err, ap, ap₂, subst, sym, arith}
 use Rattle.std.specs.Option.{MatchOption}
 use Rattle.std.specs.Prelude.{is_none, if◌then◌else◌}
 use Rattle.std.specs.Range.Bound.{start_index, end_index}
