@@ -36,7 +36,7 @@ pub struct Span {
     len: usize,
 }
 
-// The clones are written out: over a derived one, the proof of every call that takes a backend repeats the backend's laws and
+// The clones are written out: a derived one makes the proof of each call over `Rc` or `Unique` repeat that backend's laws and
 // methods.
 impl Clone for Span {
     ghost is_clone = { λ span copy. copy ≡ span };
