@@ -79,6 +79,11 @@ walks:
 	@cd crates/hip_match_bench && rt lib
 	@bench/walks.sh
 
+# Proves functions of a user's own over handles and over `String`, and prints the processor seconds of each.
+.PHONY: callers
+callers: crates/hipstr/out/proved
+	@bench/callers.sh
+
 # Runs the program over a random script under valgrind, on both backends, and the tests that `rt test` has built.
 .PHONY: leaks
 leaks:

@@ -36,9 +36,16 @@ struct Bare<'b, B: Backend> {
 ///
 /// Up to [`INLINE_CAPACITY`] bytes lie in the handle itself, a borrowed value lends its bytes, and longer ones lie with an owner,
 /// which on [`Rc`](hip_raw::Rc) many handles share.
-#[derive(Drop)]
 pub struct HipByt<'b, B: Backend> {
     bare: Bare<'b, B>,
+}
+
+// Written out, so that a proof of a caller sees a call, and not what lies in the handle.
+impl<'b, B: Backend> Drop for HipByt<'b, B> {
+    #[inline]
+    fn drop(self) {
+        let HipByt { bare: _ } = self;
+    }
 }
 
 impl<'b, B: Backend> Model for HipByt<'b, B> {
@@ -62,6 +69,14 @@ impl<'b, B: Backend> HipByt<'b, B> {
         HipByt {
             bare: Bare { repr },
         }
+    }
+
+    #[inline]
+    fn into_repr(self) -> Repr<'b, B>
+        ensures { handle_of result ≡ self.entry }
+    {
+        let HipByt { bare } = self;
+        bare.repr
     }
 
     #[inline]

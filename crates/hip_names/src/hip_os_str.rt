@@ -11,9 +11,15 @@ mod mutate;
 mod views;
 
 /// An OS string that is cheap to clone: a [`HipByt`] of any bytes.
-#[derive(Drop)]
 pub struct HipOsStr<'b, B: Backend> {
     bytes: HipByt<'b, B>,
+}
+
+impl<'b, B: Backend> Drop for HipOsStr<'b, B> {
+    #[inline]
+    fn drop(self) {
+        let HipOsStr { bytes: _ } = self;
+    }
 }
 
 impl<'b, B: Backend> Model for HipOsStr<'b, B> {

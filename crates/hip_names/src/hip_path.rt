@@ -12,9 +12,15 @@ mod mutate;
 mod views;
 
 /// A path that is cheap to clone: a [`HipOsStr`] that is compared by its components.
-#[derive(Drop)]
 pub struct HipPath<'b, B: Backend> {
     name: HipOsStr<'b, B>,
+}
+
+impl<'b, B: Backend> Drop for HipPath<'b, B> {
+    #[inline]
+    fn drop(self) {
+        let HipPath { name: _ } = self;
+    }
 }
 
 impl<'b, B: Backend> Model for HipPath<'b, B> {

@@ -17,9 +17,15 @@ mod views;
 mod write;
 
 /// A text that is cheap to clone and to cut: a [`HipByt`] that is UTF-8.
-#[derive(Drop)]
 pub struct HipStr<'b, B: Backend> {
     bytes: HipByt<'b, B>,
+}
+
+impl<'b, B: Backend> Drop for HipStr<'b, B> {
+    #[inline]
+    fn drop(self) {
+        let HipStr { bytes: _ } = self;
+    }
 }
 
 impl<'b, B: Backend> Model for HipStr<'b, B> {
@@ -52,6 +58,7 @@ impl<'b, B: Backend> HipStr<'b, B> {
         ensures bytes { result ≡ self.entry }
         ensures utf8 { IsUtf8 result.items }
     {
-        self.bytes
+        let HipStr { bytes } = self;
+        bytes
     }
 }

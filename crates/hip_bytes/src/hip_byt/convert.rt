@@ -33,7 +33,7 @@ impl<'b, B: Backend> HipByt<'b, B> {
             (owned_cost B.SHARES self.entry.kind (length self.entry.items)) }
     {
         let _capacity = self.capacity();
-        match self.bare.repr {
+        match self.into_repr() {
             Repr::Inline(inline) => Ok(HipByt::of(Repr::Inline(inline))),
             Repr::Allocated(allocated) => Ok(HipByt::of(Repr::Allocated(allocated))),
             Repr::Borrowed(borrowed) => {
@@ -53,7 +53,7 @@ impl<'b, B: Backend> HipByt<'b, B> {
         ensures kind { OnOk result (self.entry.kind ≡ Kind.Allocated) }
         ensures handed_back { IfErr result (λ back. back ≡ self.entry) }
     {
-        match self.bare.repr {
+        match self.into_repr() {
             Repr::Allocated(allocated) => match allocated.try_into_vec(alloc) {
                 Ok(vec) => Ok(vec),
                 Err(allocated) => Err(HipByt::of(Repr::Allocated(allocated))),
@@ -81,7 +81,7 @@ impl<'b, B: Backend> HipByt<'b, B> {
         ensures counted { RisesAtMost meter.old meter.new (length self.entry.items) }
         ensures handed_back { IfErr result (λ back. back ≡ self.entry) }
     {
-        let handle = match self.bare.repr {
+        let handle = match self.into_repr() {
             Repr::Allocated(allocated) => match allocated.try_into_vec_metered(alloc, meter) {
                 Ok(vec) => return Ok(vec),
                 Err(allocated) => HipByt::of(Repr::Allocated(allocated)),

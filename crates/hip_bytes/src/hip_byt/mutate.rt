@@ -35,7 +35,7 @@ impl<'b, B: Backend> Source for HipByt<'b, B> {
         alloc: Global,
         meter: &mut Meter,
     ) -> Result<(Vec<u8>, Block), AllocError> {
-        match mem::take(self).bare.repr {
+        match mem::take(self).into_repr() {
             Repr::Allocated(allocated) => match allocated.try_take_vec_metered(alloc, meter) {
                 Ok(lent) => return Ok(lent),
                 Err(allocated) => *self = HipByt::of(Repr::Allocated(allocated)),

@@ -18,7 +18,8 @@ impl<'b, B: Backend> HipOsStr<'b, B> {
     pub fn into_bytes(self) -> HipByt<'b, B>
         ensures { result ≡ self.entry }
     {
-        self.bytes
+        let HipOsStr { bytes } = self;
+        bytes
     }
 
     /// The bytes in a vector, where that takes no copy: they lie with an owner that no other handle shares. Any other value is handed back.
@@ -28,7 +29,7 @@ impl<'b, B: Backend> HipOsStr<'b, B> {
         ensures kind { OnOk result (self.entry.kind ≡ Kind.Allocated) }
         ensures handed_back { IfErr result (λ back. back ≡ self.entry) }
     {
-        match self.bytes.into_vec(alloc) {
+        match self.into_bytes().into_vec(alloc) {
             Ok(vec) => Ok(vec),
             Err(bytes) => Err(HipOsStr { bytes }),
         }
@@ -39,7 +40,7 @@ impl<'b, B: Backend> HipOsStr<'b, B> {
     pub fn into_str(self) -> Result<HipStr<'b, B>, Self>
         ensures utf8 { IntoStrAnswers self.entry result }
     {
-        match HipStr::from_utf8(self.bytes) {
+        match HipStr::from_utf8(self.into_bytes()) {
             Ok(text) => Ok(text),
             Err(error) => Err(HipOsStr {
                 bytes: error.into_bytes(),

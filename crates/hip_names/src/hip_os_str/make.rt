@@ -86,7 +86,7 @@ impl<'b, B: Backend> HipOsStr<'b, B> {
     pub fn into_owned(self, alloc: Global) -> Result<HipOsStr<'static, B>, Self>
         ensures owned { OwnedAnswers self.entry result }
     {
-        match self.bytes.into_owned(alloc) {
+        match self.into_bytes().into_owned(alloc) {
             Ok(bytes) => Ok(HipOsStr { bytes }),
             Err(bytes) => Err(HipOsStr { bytes }),
         }

@@ -88,7 +88,7 @@ impl<'b, B: Backend> HipOsStr<'b, B> {
         ensures items { IfOk result (λ bytes. bytes.now ≡ self.entry.items) }
         ensures handed_back { IfErr result (λ back. back ≡ self.entry) }
     {
-        match self.bytes.into_borrowed() {
+        match self.into_bytes().into_borrowed() {
             Ok(bytes) => Ok(bytes),
             Err(bytes) => Err(HipOsStr { bytes }),
         }

@@ -14,7 +14,8 @@ impl<'b, B: Backend> HipPath<'b, B> {
     pub fn into_os_str(self) -> HipOsStr<'b, B>
         ensures { result ≡ self.entry }
     {
-        self.name
+        let HipPath { name } = self;
+        name
     }
 
     /// The bytes in a vector, where that takes no copy: they lie with an owner that no other handle shares. Any other value is handed back.
@@ -24,7 +25,7 @@ impl<'b, B: Backend> HipPath<'b, B> {
         ensures kind { OnOk result (self.entry.kind ≡ Kind.Allocated) }
         ensures handed_back { IfErr result (λ back. back ≡ self.entry) }
     {
-        match self.name.into_os_string(alloc) {
+        match self.into_os_str().into_os_string(alloc) {
             Ok(vec) => Ok(vec),
             Err(name) => Err(HipPath { name }),
         }
@@ -45,7 +46,7 @@ impl<'b, B: Backend> HipPath<'b, B> {
     pub fn into_str(self) -> Result<HipStr<'b, B>, Self>
         ensures utf8 { IntoStrAnswers self.entry result }
     {
-        match self.name.into_str() {
+        match self.into_os_str().into_str() {
             Ok(text) => Ok(text),
             Err(name) => Err(HipPath { name }),
         }

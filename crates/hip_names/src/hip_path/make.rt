@@ -75,7 +75,7 @@ impl<'b, B: Backend> HipPath<'b, B> {
     pub fn into_owned(self, alloc: Global) -> Result<HipPath<'static, B>, Self>
         ensures owned { OwnedAnswers self.entry result }
     {
-        match self.name.into_owned(alloc) {
+        match self.into_os_str().into_owned(alloc) {
             Ok(name) => Ok(HipPath { name }),
             Err(name) => Err(HipPath { name }),
         }

@@ -90,7 +90,7 @@ impl<'b, B: Backend> HipPath<'b, B> {
         ensures items { IfOk result (λ bytes. bytes.now ≡ self.entry.items) }
         ensures handed_back { IfErr result (λ back. back ≡ self.entry) }
     {
-        match self.name.into_borrowed() {
+        match self.into_os_str().into_borrowed() {
             Ok(bytes) => Ok(bytes),
             Err(name) => Err(HipPath { name }),
         }

@@ -34,7 +34,7 @@ impl<'b, B: Backend> HipStr<'b, B> {
         ensures counted { RisesAtMost meter.old meter.new
             (owned_cost B.SHARES self.entry.kind (length self.entry.items)) }
     {
-        match self.bytes.into_owned_metered(alloc, meter) {
+        match self.into_bytes().into_owned_metered(alloc, meter) {
             Ok(bytes) => Ok(HipStr { bytes }),
             Err(bytes) => Err(HipStr { bytes }),
         }
@@ -77,7 +77,7 @@ impl<'b, B: Backend> HipStr<'b, B> {
         ensures kind { OnOk result (self.entry.kind ≡ Kind.Allocated) }
         ensures handed_back { IfErr result (λ back. back ≡ self.entry) }
     {
-        match self.bytes.into_vec(alloc) {
+        match self.into_bytes().into_vec(alloc) {
             Ok(vec) => Ok(unsafe { String::from_utf8_unchecked(vec) }),
             Err(bytes) => Err(HipStr { bytes }),
         }
@@ -89,7 +89,7 @@ impl<'b, B: Backend> HipStr<'b, B> {
         ensures items { IfOk result (λ string. string_bytes string ≡ self.entry.items) }
         ensures handed_back { IfErr result (λ back. back ≡ self.entry) }
     {
-        match self.bytes.into_vec_copied(alloc) {
+        match self.into_bytes().into_vec_copied(alloc) {
             Ok(vec) => Ok(unsafe { String::from_utf8_unchecked(vec) }),
             Err(bytes) => Err(HipStr { bytes }),
         }
