@@ -1,6 +1,6 @@
 -- The lanes of two loads that were compared, and the bytes of these.
-use Rattle.std.proofs.Common.{◌≡◌, ◌≢◌, ℕ, ◌+◌, ◌-◌, ◌*◌, ◌%◌, ◌^◌, ◌<◌, ◌≤◌, eqb, Bool, true, false, not, cond, ◌&&◌, ◌↔◌, true≢false, List, [], ◌∷◌, map, length, get_or, IsTrue, refl, sym, ap, ap₂, ◌∙◌, subst, arith, inl, inr, w8}
-use Rattle.std.proofs.lemmas.Bool.{cases_eq, cases_lt, eq-eqb, ne_eqb, eqb-true, not-true, not-false}
+use Rattle.std.proofs.Common.{◌≡◌, ◌≢◌, ℕ, ◌+◌, ◌-◌, ◌*◌, ◌%◌, ◌^◌, ◌<◌, ◌≤◌, eqb, Bool, true, false, not, cond, ◌↔◌, true≢false, List, [], ◌∷◌, map, length, get_or, IsTrue, refl, sym, ap, ap₂, ◌∙◌, subst, arith, inl, inr, w8}
+use Rattle.std.proofs.lemmas.Bool.{cases_eq, eq-eqb, ne_eqb, eqb-true, not-true, not-false}
 use Rattle.std.proofs.lemmas.List.{ext_get_or}
 use Rattle.std.proofs.lemmas.Simd.{length-chunk, get_or-chunk, get_or-zip2, length-zip2, tops_compared, mask_l-mod, leading_from_mask_l, trailing_mask_l}
 use lib.Count.{count_trailing_zeros}
@@ -99,13 +99,3 @@ module _ (xs ys : List ℕ) (i n : ℕ) (in_xs : i + n ≤ length xs) (in_ys : i
   run_from_some few some =
       let at_least : 0 < mask_l (map (λ b. b) marks) = omega (arith, marks_is few) in
       alike_run _ (ap (count_trailing_zeros 64) (marks_is few) ∙ trailing_mask_l (λ b. b) 64 marks (omega (arith, many)) at_least)
-
--- two runs that cover all
-pub by_ends : (xs ys : List ℕ) (n : ℕ) (x y : Bool) → length xs ≡ length ys → n ≤ length xs → length xs ≤ 2 * n
-    → (IsTrue x ↔ Alike xs ys 0 (0 + n)) → (IsTrue y ↔ Alike xs ys (length xs - n) (length xs - n + n)) → IsTrue (x && y) ↔ (xs ≡ ys)
-by_ends xs ys n true true level low high front back = (
-  λ _. ext_get_or 0 xs ys level (λ k l. elim (cases_lt k n) [ inl near ↦ front.0 refl k (omega arith) (omega arith) | inr far ↦ back.0 refl k (omega arith) (omega arith) ]),
-  λ _. refl,
-)
-by_ends xs ys n true false level low high front back = (λ t. cc, λ e. back.1 (λ k _ _. ap (λ l. get_or l k 0) e))
-by_ends xs ys n false y level low high front back = (λ t. cc, λ e. absurd (true≢false (sym (front.1 (λ k _ _. ap (λ l. get_or l k 0) e)))))

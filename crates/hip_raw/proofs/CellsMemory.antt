@@ -9,22 +9,14 @@ use base.Logic.{SProp, ent, sep, guard}
 use base.Fraction.{full_share}
 use base.Fml.{Fml, ftrue, fsep, feq}
 use prog.Memory.{align, up}
-use types.Logic.{Logic, sem}
-use types.SemTy.{cells}
+use types.{Logic.Logic, Logic.sem, SemTy.cells}
 use types.Kit.{‵, ◌⊛◌, raw, ◌$◌, ◌∵◌, !, qed, move, drop, split, fsplit, fjoin, use1, use2, done, rewrite, feq_l, feq_i, check}
-use denote.Array.{Array}
-use denote.ArrayMemory.{Array-apart, Array-whole}
+use denote.{Array.Array, ArrayMemory.Array-apart, ArrayMemory.Array-whole, Memory.mem, Memory.part_at, RattleType.RattleType, Steps.nothing, Struct.Declared.shape}
+use denote.{Struct.Members.Member, Struct.Members.raw_tys, Struct.Recorded.Recorded-part, Struct.Struct.Struct}
 use denote.Index.{row, whole_in, whole_out}
-use denote.Memory.{mem, part_at}
 use denote.Param.{param, number, layout, layouts, ArrayAt}
 use denote.Param.Laws.{Laws, param_laws, number_array_laws}
-use denote.RattleType.{RattleType}
-use denote.Steps.{nothing}
-use denote.Struct.Declared.{shape}
-use denote.Struct.Members.{Member, raw_tys}
 use denote.Struct.Parts.{shape_of, Struct-left, left_Struct}
-use denote.Struct.Recorded.{Recorded-part}
-use denote.Struct.Struct.{Struct}
 use Rattle.hip_raw.specs.contracts.inline.cells.Cells.{the_row, the_type}
 
 module _ (X : RattleType) (n : ℕ) where

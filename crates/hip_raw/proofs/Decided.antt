@@ -1,18 +1,12 @@
 -- The order of two lists, by the first bytes that differ or by the lengths.
 use Rattle.std.proofs.Common.{◌≡◌, ◌≢◌, ℕ, zero, suc, ◌+◌, ◌*◌, ◌^◌, ◌<◌, ◌≤◌, not, List, [], ◌∷◌, ◌++◌, drop, length, get_or, Fits, w8, refl, sym, ap, ◌∙◌, arith}
-use Rattle.std.proofs.Math.Nat.{pow-suc, pow-le-pow_right}
-use Rattle.std.proofs.Math.Seq.{take-suc}
+use Rattle.std.proofs.{Math.Nat.pow-suc, Math.Nat.pow-le-pow_right, Math.Seq.take-suc, lemmas.List.length-drop}
 use Rattle.std.proofs.lemmas.Bool.{eq-eqb, eqb-true, not-false}
-use Rattle.std.proofs.lemmas.List.{length-drop}
 use Rattle.core.proofs.cmp.Settled.{word}
-use Rattle.std.specs.Simd.Lanes.{chunk}
-use Rattle.std.specs.Slice.Scan.{big_endian}
+use Rattle.std.specs.{Simd.Lanes.chunk, Slice.Scan.big_endian, declared.cmp.Ordering.Ordering, Cmp.ranks, Cmp.nat_cmp_is, Cmp.Lexicographic.slice_cmp}
 use lib.Seq.{get_or-drop}
-use Rattle.std.specs.declared.cmp.Ordering.{Ordering}
 use Rattle.std.specs.declared.cmp.Ordering.TheVariants.{Less, Equal, Greater}
 use Rattle.std.specs.Ordering.{nat_cmp, ordering_then, MatchOrdering}
-use Rattle.std.specs.Cmp.{ranks, nat_cmp_is}
-use Rattle.std.specs.Cmp.Lexicographic.{slice_cmp}
 use Rattle.hip_raw.specs.Alike.{Alike}
 
 first_decides : (x y : ℕ) (r o : Ordering) → MatchOrdering r (x < y) (x ≡ y) (y < x) → x ≢ y → r ≡ ordering_then r o

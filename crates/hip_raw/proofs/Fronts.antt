@@ -64,3 +64,5 @@ pub zeros_behind : (n keep count : ℕ) (cs ds : List (Option ℕ)) → keep ≤
     → take (keep + count) cs ≡ map Some (take keep (front n ds) ++ replicate count 0)
 zeros_behind n keep count cs ds le filled e =
     e ∙ ap₂ (λ xs ys. xs ++ ys) (cut n ds keep le filled) (map-replicate count 0) ∙ sym (map-append Some (take keep (front n ds)) (replicate count 0))
+
+pub ruleset fronts = (cut, filled_is, front_is, front_long, lent, lent_places, zeros_behind)

@@ -5,8 +5,7 @@
 --     of_room, to_room      room for an array is a row of empty places
 use mathlib.Core.Path.{◌≡◌, refl, sym, ap, subst, ◌∙◌}
 use Prim.Native.Nat.{ℕ, zero, suc, ◌+◌, ◌*◌, ◌<◌, ◌≤◌}
-use native.Mathlib.Omega.{arith}
-use native.Mathlib.Nat.{zero-mul, suc-mul}
+use native.{Mathlib.Omega.arith, Mathlib.Nat.zero-mul, Mathlib.Nat.suc-mul}
 use mathlib.Core.List.{List, [], ◌∷◌, ◌++◌, map}
 use lib.ListN.{length, take, drop, set, get_or, replicate, take-append-drop, length-take, length-drop}
 use lib.Seq.{drop-cons, drop-drop, set_split}
@@ -16,28 +15,19 @@ use mir.Syntax.{Ty, ty_array}
 use mir.Val.{Val, vstruct, vcons, vnil, of_list}
 use base.Logic.{ent, sep, emp, ex, guard, via, snd∗, id⊢, mono_r, mono∗}
 use base.Fml.{Fml, Lft, ftrue, fsep, fat, froom}
-use types.Logic.{Logic, sem}
-use types.SemTy.{cells}
+use types.{Logic.Logic, Logic.sem, SemTy.cells}
 use types.Kit.{Item, Goal, Seq, Step, step, ‵, given, learn, some, ◌⊛◌, ◌$◌, ◌∵◌, !, qed, by, move, keep, drop as skip, use1, use2, pick, split, check, show, frame, fsplit, fjoin, fpick, fpack, feq_i, feq_l, rewrite, done}
-use denote.RattleType.{RattleType, Valss}
+use denote.{RattleType.RattleType, RattleType.Valss, Param.param, Param.layout, Param.Laws.Laws, Param.Laws.param_laws, Memory.part_at, Memory.mem, Shadow.makes_shadow, Slice.elements_shared}
+use denote.{Steps.nothing, Steps.peeks, Struct.Owning.shape, Struct.Tuple.Tuple, Struct.Tuple.tuple_type}
 use denote.Laws.{Typed, Is, shows}
-use denote.Param.{param, layout}
-use denote.Param.Laws.{Laws, param_laws}
-use denote.Memory.{part_at, mem}
 use denote.RawPtr.{Ptr, RawPtr, ptr_val}
-use denote.Shadow.{makes_shadow}
-use denote.Slice.{elements_shared}
-use denote.Steps.{nothing, peeks}
 use denote.Struct.Struct.{Shape, Struct, within}
-use denote.Struct.Owning.{shape}
 use denote.Struct.Declared as Declared
-use denote.Struct.Tuple.{Tuple, tuple_type}
 use borrow.Table.OneValue.{part_in, part_out}
 use Rattle.std.specs.Prelude.{Option, Some, None}
 use Rattle.std.specs.Mem.{type_size}
 use Rattle.core.proofs.mem.Param.{El, R, el_x, elτ}
-use Rattle.std_alloc.proofs.RcSteps.{Good, word}
-use Rattle.std_alloc.proofs.RawLayout.{as_raw}
+use Rattle.std_alloc.proofs.{RcSteps.Good, RcSteps.word, RawLayout.as_raw}
 use Rattle.hip_raw.specs.Ownership.{slot, slots, slot_lent, slots_lent}
 use Rattle.hip_raw.specs.contracts.buffer.cells.Cells as C-type
 use Rattle.hip_raw.specs.contracts.buffer.cells.Base as B-type

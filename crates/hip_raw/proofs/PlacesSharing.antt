@@ -5,12 +5,9 @@ use Rattle.std.specs.Mem.{type_size}
 use seplogic.Ra.Ura.{Ura}
 use base.Fml.{Lft, Incl, ftrue, ffalse}
 use types.Logic.{Logic}
-use denote.RattleType.{RattleType, RowLaws}
-use denote.Param.Laws.{Laws}
+use denote.{RattleType.RattleType, RattleType.RowLaws, Param.Laws.Laws, Sharing.ShrLaws, Sharing.said, Shares.Shares-less}
 use denote.RawPtr.{Ptr, block_ptr, null_ptr}
-use denote.Sharing.{ShrLaws, said}
 use denote.SharingLaws.{beside_shr_laws, nothing_shr_laws, said_shr_laws}
-use denote.Shares.{Shares-less}
 use denote.Struct.Lending.{Lends, Lends-both, Lends-nothing, Lends-said, Lends-false}
 use Rattle.hip_raw.specs.Ownership.{slot, slots, slot_lent, slots_lent, fit, cells_own, cells_lent}
 

@@ -53,6 +53,7 @@ fn fill_zeros(cells: &mut Cells<u8>, base: Base<u8>, from: usize, count: usize)
 
 // Like [`fill_zeros`], by two stores of `width` places, which may overlap.
 #[inline(always)]
+#[tactic(auto, using(crate::proofs::Fronts::zeros_joined))]
 fn fill_ends(cells: &mut Cells<u8>, base: Base<u8>, from: usize, count: usize, width: usize)
     requires base { base.ptr ≡ cells.old.at }
     requires within { from + count ≤ length cells.old.slots }
@@ -138,6 +139,7 @@ impl Buffer {
 
     /// The bytes.
     #[inline]
+    #[tactic(auto, using(crate::proofs::Fronts::fronts))]
     pub(crate) fn as_slice(&self) -> &[u8]
         ensures items { result.now ≡ self.now.items }
         ensures fits { length self.now.items ≤ self.now.capacity }
@@ -148,6 +150,7 @@ impl Buffer {
 
     /// The bytes, for writing.
     #[inline]
+    #[tactic(auto, using(crate::proofs::Fronts::fronts))]
     pub(crate) fn as_mut_slice(&mut self) -> &mut [u8]
         ensures* writes_back { sem 𝓛 (LendsBuffer self.entry result) }
         ensures items { result.now ≡ self.old.items }
@@ -171,6 +174,7 @@ impl Buffer {
 
     // Cuts to `keep` bytes and adds `count` zeros.
     #[inline(always)]
+    #[tactic(auto, using(crate::proofs::Fronts::fronts))]
     fn add_zeros(&mut self, keep: usize, count: usize)
         requires there { keep ≤ length self.old.items }
         requires fits { keep + count ≤ self.old.capacity }

@@ -194,6 +194,7 @@ fn common_bytes(a: &[u8], b: &[u8], n: usize) -> usize
 
 // The order of the bytes, where the first `both` of the shorter one's were compared and `at` of them are the same.
 #[inline(always)]
+#[tactic(auto, using(crate::proofs::Decided::by_byte))]
 fn order_at(a: &[u8], b: &[u8], both: usize, at: usize) -> Ordering
     requires shorter { both ≡ min (length a.now) (length b.now) }
     requires run { IsAlikeRun a.now b.now 0 both at }
@@ -244,6 +245,7 @@ fn number_at<const N: usize>(bytes: &[u8], i: usize) -> u64
 
 // The order by N bytes from `i` on that aren't all the same, where those before them are.
 #[inline(always)]
+#[tactic(auto, using(crate::proofs::Decided::by_number))]
 fn order_apart<const N: usize>(a: &[u8], b: &[u8], i: usize) -> Ordering
     requires digits { N ≤ 8 }
     requires within { (i + N ≤ length a.now) × (i + N ≤ length b.now) }

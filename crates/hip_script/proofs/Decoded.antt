@@ -1,12 +1,10 @@
 -- Literals, a byte or an escape at a time.
 use Rattle.std.proofs.Common.{◌≡◌, ℕ, ◌+◌, ◌*◌, ◌<◌, add-one, true, ◌==◌, ◌||◌, List, [], ◌∷◌, ◌++◌, suc, zero, take, drop, get_or, length, Option, Some, None, arith, refl, sym, ap, ◌∙◌, append_assoc}
 use Rattle.memchr.specs.Find.{IsFirstByte, is_byte2}
-use Rattle.std.proofs.lemmas.List.{append-nil}
-use Rattle.std.specs.Char.{is_ascii_hexdigit, digit_value}
-use Rattle.std.specs.Option.{option_map}
+use Rattle.std.proofs.{lemmas.List.append-nil, lemmas.Option.none-some, lemmas.Option.some_pair_parts}
+use Rattle.std.specs.{Char.is_ascii_hexdigit, Char.digit_value, Option.option_map}
 use Rattle.std.proofs.lemmas.Bool.{eq-eqb, ne_eqb, false_from_ne_true, or_left, or_right}
-use Rattle.std.proofs.lemmas.Option.{none-some, some_pair_parts}
-use Rattle.hip_script.specs.Words.{decoded, before}
+use Rattle.hip_script.specs.Words.{decoded, before, Place}
 use Rattle.hip_script.specs.Words.Place.{Plain, Escape, High, Low}
 
 -- these bytes before those that were found
@@ -17,10 +15,11 @@ pub behind-before : (bytes : List ℕ) (b : ℕ) (found : Option (List ℕ × Li
 behind-before bytes b None = refl
 behind-before bytes b (Some f) = ap (λ t. Some (t, f.1)) (append_assoc bytes (b ∷ []) f.0)
 
-pub plain-none : (text : List ℕ) → length text ≡ 0 → decoded Plain text ≡ None
+pub decoded-none : (place : Place) (text : List ℕ) → length text ≡ 0 → decoded place text ≡ None
 unfolding decoded
-plain-none [] h = refl
-plain-none (b ∷ bs) h = absurd (omega arith)
+decoded-none Plain [] none = refl
+decoded-none place [] none = refl
+decoded-none place (b ∷ bs) none = absurd (omega arith)
 
 pub plain-end : (b : ℕ) (rest : List ℕ) → b ≡ 34 → decoded Plain (b ∷ rest) ≡ Some ([], rest)
 unfolding decoded
@@ -33,21 +32,6 @@ plain-escape b rest is = rw is refl
 pub plain-byte : (b : ℕ) (rest : List ℕ) → (b ≡ 34 → ⊥) → (b ≡ 92 → ⊥) → decoded Plain (b ∷ rest) ≡ before b (decoded Plain rest)
 unfolding decoded
 plain-byte b rest no_end no_escape = rw (ne_eqb b 34 no_end, ne_eqb b 92 no_escape) refl
-
-pub escape-none : (text : List ℕ) → length text ≡ 0 → decoded Escape text ≡ None
-unfolding decoded
-escape-none [] h = refl
-escape-none (b ∷ bs) h = absurd (omega arith)
-
-pub high-none : (text : List ℕ) → length text ≡ 0 → decoded High text ≡ None
-unfolding decoded
-high-none [] h = refl
-high-none (b ∷ bs) h = absurd (omega arith)
-
-low-none : (high : ℕ) (text : List ℕ) → length text ≡ 0 → decoded (Low high) text ≡ None
-unfolding decoded
-low-none high [] h = refl
-low-none high (b ∷ bs) h = absurd (omega arith)
 
 pub escape-sign : (b : ℕ) (text rest : List ℕ) → text ≡ b ∷ rest → (b == 34 || b == 92) ≡ true → decoded Escape text ≡ before b (decoded Plain rest)
 unfolding decoded
@@ -78,7 +62,7 @@ unfolding decoded
 low-digit high d text rest is hex = rw (is, hex) refl
 
 pub hex-short : (h : ℕ) (text rest : List ℕ) → text ≡ h ∷ rest → is_ascii_hexdigit h ≡ true → length rest ≡ 0 → decoded High text ≡ None
-hex-short h text rest is hex none = high-digit h text rest is hex ∙ low-none _ rest none
+hex-short h text rest is hex none = high-digit h text rest is hex ∙ decoded-none (Low _) rest none
 
 pub hex-other : (h l : ℕ) (text rest after : List ℕ) → text ≡ h ∷ rest → is_ascii_hexdigit h ≡ true → rest ≡ l ∷ after → (is_ascii_hexdigit l ≡ true → ⊥) → decoded High text ≡ None
 hex-other h l text rest after is hex then other = high-digit h text rest is hex ∙ low-other _ l rest after then other
@@ -128,7 +112,7 @@ literal-byte new more rest after b whole so_far is no_end no_escape added =
     literal-goes_on new more rest after b whole so_far (ap (decoded Plain) is ∙ plain-byte b after no_end no_escape) added
 
 pub no_sign-fails : (text : List ℕ) → ((j : ℕ) → j < length text → (get_or text j 0 ≡ 34 → ⊥) × (get_or text j 0 ≡ 92 → ⊥)) → decoded Plain text ≡ None
-no_sign-fails [] plain = plain-none [] refl
+no_sign-fails [] plain = decoded-none Plain [] refl
 no_sign-fails (b ∷ bs) plain =
     let here = plain zero (omega arith) in
     plain-byte b bs here.0 here.1 ∙ ap (before b) (no_sign-fails bs (λ j below. plain (suc j) (omega arith)))

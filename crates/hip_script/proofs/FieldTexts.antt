@@ -3,11 +3,8 @@ use Rattle.std.proofs.Common.{◌≡◌, ℕ, ◌<◌, inl, true, List, [], ◌�
 use Rattle.std.proofs.lemmas.Bool.{lt-ltb}
 use Rattle.std.specs.declared.alloc.Global.{Global}
 use Rattle.hip_fields.specs.Records.{AreFields, AreRecords, records_of}
-use Rattle.hipstr.specs.Handle.{Handle}
-use Rattle.hipstr.specs.Slot.{SlotState, state_at}
-use Rattle.hip_script.specs.Played.{FieldsText}
-use Rattle.hip_script.specs.Printed.{printed_records}
-use Rattle.hip_script.specs.Said.{items_of, texts_of}
+use Rattle.hipstr.specs.{Handle.Handle, Slot.SlotState, Slot.state_at}
+use Rattle.hip_script.specs.{Played.FieldsText, Printed.printed_records, Said.items_of, Said.texts_of}
 
 fields-items : (source : Handle) (texts : List (List ℕ)) (fields : List Handle) → AreFields source texts fields → map items_of fields ≡ texts
 fields-items source [] fields are = ap (map items_of) are

@@ -1,19 +1,12 @@
 -- An item of a buffer stays where it is when more are added.
-use Rattle.std.proofs.Common.{◌≡◌, ℕ, suc, zero, ◌-◌, ◌≤◌, ◌<◌, List, [], ◌∷◌, ◌++◌, length, drop, get_or, Option, Some, None, arith, refl, sym, ap, subst, ◌∙◌, append_assoc}
-use Rattle.std.proofs.lemmas.List.{append-nil, take-append-le, drop-append-le, length-drop, length-append}
-use Rattle.std.specs.List.{slice_range}
-use Rattle.std.specs.Option.{MatchOption, option_and_then, option_map}
-use Rattle.std.specs.Str.{is_utf8}
+use Rattle.std.proofs.Common.{◌≡◌, ℕ, ◌-◌, ◌≤◌, List, [], ◌++◌, length, drop, Option, Some, None, arith, refl, sym, ap, subst, ◌∙◌, append_assoc}
+use Rattle.std.proofs.lemmas.List.{append-nil, get_or_append_left, take-append-le, drop-append-le, length-drop, length-append}
+use Rattle.std.specs.{List.slice_range, Str.is_utf8}
+use Rattle.std.specs.Option.{MatchOption, option_map}
 use Rattle.hip_script.specs.Said.{AreWithin, Grows, Held, IsListed, IsSpan, IsWithin, QuotedWithin, ReadsFields, arguments_in, fields_in, fields_with, in_span, no_arguments, quoted_in}
-use Rattle.hip_script.specs.Spoken.{Fields}
-use Rattle.hip_script.specs.Spoken.Pattern.{TextOf, AnyOf}
-use Rattle.hip_script.specs.Spoken.Quoted.{Plainly, Sought}
-use Rattle.hip_script.specs.Words.{Left}
-use Rattle.hip_script.specs.declared.said.Argument.{Argument}
-use Rattle.hip_script.specs.declared.said.Argument.TheVariants.{Nothing, Between, Bytes, DecodedBytes, Text, DecodedText, Char, Any, All}
-use Rattle.hip_script.specs.declared.said.Arguments.{Arguments}
-use Rattle.hip_script.specs.declared.said.Said.{Said}
-use Rattle.hip_script.specs.declared.said.Span.{Span}
+use Rattle.hip_script.specs.{Spoken.Fields, Spoken.Pattern.TextOf, Spoken.Pattern.AnyOf, Spoken.Quoted.Plainly, Spoken.Quoted.Sought, Words.Left, declared.said.Argument.Argument}
+use Rattle.hip_script.specs.{declared.said.Arguments.Arguments, declared.said.Said.Said, declared.said.Span.Span}
+use Rattle.hip_script.specs.declared.said.Argument.TheVariants.{DecodedBytes, DecodedText, Any, All}
 
 pub range-added : {A : Type 0} (xs more : List A) (i j : ℕ) → i ≤ j → j ≤ length xs → slice_range (xs ++ more) i j ≡ slice_range xs i j
 range-added xs more i j order end =
@@ -55,57 +48,32 @@ grows-then a b c first second = record {
   arguments = joined a.arguments b.arguments c.arguments first.more_arguments second.more_arguments first.arguments second.arguments;
 }
 
--- an item stays at its place when more are added
-place-added : (xs more : List Arguments) (i : ℕ) (d : Arguments) → i < length xs → get_or (xs ++ more) i d ≡ get_or xs i d
-place-added [] more i d inside = absurd (omega arith)
-place-added (x ∷ xs) more zero d inside = refl
-place-added (x ∷ xs) more (suc i) d inside = place-added xs more i d (omega arith)
-
 -- an argument says the same when more are listed
 arguments-grow : (old more : List Arguments) (argument : Argument) → IsListed (length old) argument
     → arguments_in (old ++ more) argument ≡ arguments_in old argument
-arguments-grow old more Nothing inside = refl
-arguments-grow old more (Between low high) inside = refl
-arguments-grow old more (Bytes bytes) inside = refl
-arguments-grow old more (DecodedBytes span) inside = refl
-arguments-grow old more (Text text) inside = refl
-arguments-grow old more (DecodedText span) inside = refl
-arguments-grow old more (Char c) inside = refl
-arguments-grow old more (Any span) inside = refl
-arguments-grow old more (All at) inside = place-added old more at no_arguments inside
+arguments-grow old more (All at) inside = get_or_append_left old more no_arguments at inside
+arguments-grow old more argument inside = refl
 
 listed-grows : (old more : List Arguments) (argument : Argument) → IsListed (length old) argument → IsListed (length (old ++ more)) argument
-listed-grows old more Nothing inside = tt
-listed-grows old more (Between low high) inside = tt
-listed-grows old more (Bytes bytes) inside = tt
-listed-grows old more (DecodedBytes span) inside = tt
-listed-grows old more (Text text) inside = tt
-listed-grows old more (DecodedText span) inside = tt
-listed-grows old more (Char c) inside = tt
-listed-grows old more (Any span) inside = tt
 listed-grows old more (All at) inside = simp length-append (omega arith)
+listed-grows old more argument inside = tt
 
 pub quoted-grows : (old new : Held) (quoted : Argument) → Grows old new → QuotedWithin old quoted
     → QuotedWithin new quoted × (quoted_in new quoted ≡ quoted_in old quoted)
-quoted-grows old new Nothing grows within = (tt, refl)
-quoted-grows old new (Between low high) grows within = (tt, refl)
-quoted-grows old new (All at) grows within = (tt, refl)
-quoted-grows old new (Bytes bytes) grows within = (tt, refl)
 quoted-grows old new (DecodedBytes span) grows within = (
   span-within old.bytes new.bytes grows.more_bytes span grows.bytes within,
   ap Plainly (span-in old.bytes new.bytes grows.more_bytes span grows.bytes within),
 )
-quoted-grows old new (Text text) grows within = (tt, refl)
 quoted-grows old new (DecodedText span) grows within =
     let same = span-in old.bytes new.bytes grows.more_bytes span grows.bytes within.0 in (
       (span-within old.bytes new.bytes grows.more_bytes span grows.bytes within.0, ap is_utf8 same ∙ within.1),
       ap (λ text. Sought (TextOf text)) same,
     )
-quoted-grows old new (Char c) grows within = (tt, refl)
 quoted-grows old new (Any span) grows within = (
   span-within old.chars new.chars grows.more_chars span grows.chars within,
   ap (λ cs. Sought (AnyOf cs)) (span-in old.chars new.chars grows.more_chars span grows.chars within),
 )
+quoted-grows old new argument grows within = (tt, refl)
 
 same-arguments : (old new : Held) (said : Said) → Grows old new → IsWithin old said
     → arguments_in new.arguments said.argument ≡ arguments_in old.arguments said.argument
@@ -135,17 +103,6 @@ pub fields-grow : (old new : Held) (said : Said) → Grows old new → IsWithin 
 fields-grow old new said grows within =
     ap (fields_with new said) (same-arguments old new said grows within)
     ∙ with-grows old new said (arguments_in old.arguments said.argument) grows within.arguments
-
--- words that were read on from what others left
-pub reads-then : (first : Option (Fields × Left)) (later : Fields → Left → Option (Fields × Left)) (between after : Left) (a b c : Held) (before mid said : Said)
-    → ReadsFields first between a b before mid → ReadsFields (later (fields_in b mid) between) after b c mid said
-    → ReadsFields (option_and_then (λ f. later f.0 f.1) first) after a c before said
-reads-then first later between after a b c before mid said one more = record {
-  grows = grows-then a b c one.grows more.grows;
-  within = more.within;
-  verb = more.verb ∙ one.verb;
-  read_is = ap (option_and_then (λ (f : Fields × Left). later f.0 f.1)) one.read_is ∙ more.read_is;
-}
 
 -- a word that needs no buffer
 pub puts : {A : Type 0} (set : A → Fields) (read : Option (A × Left)) (found : Option A) (value : A) (after : Left) (held : Held) (before new : Said)

@@ -1,7 +1,6 @@
 -- The first line of a text, by where its line feed stands.
-use Rattle.std.proofs.Common.{◌≡◌, ℕ, ◌-◌, ◌<◌, ◌≤◌, suc, zero, List, [], ◌∷◌, length, get_or, take, drop, false, nat_eq, arith, refl, ◌∙◌, ap}
+use Rattle.std.proofs.Common.{◌≡◌, ℕ, ◌-◌, ◌<◌, ◌≤◌, suc, zero, List, [], ◌∷◌, length, get_or, take, drop, false, nat_eq, arith, refl, ◌∙◌, ap, ⊎_elim}
 use Rattle.std.proofs.lemmas.Bool.{ne_eqb, cases_eq, and_right}
-use Rattle.std.proofs.Common.{⊎_elim}
 use Rattle.hip_script.proofs.Bytes.{FirstAt, Nowhere, later-at, later-nowhere}
 use Rattle.hip_script.specs.Lines.{lines, onto, without_return}
 

@@ -3,11 +3,8 @@ use Rattle.std.proofs.Common.{◌≡◌, ℕ, List, Some, None, refl, sym, ap, �
 use Rattle.std.specs.Option.{option_and_then}
 use Rattle.hip_script.specs.Grammar.{ended, line_said, no_fields, row_said, rows, words_said}
 use Rattle.hip_script.specs.Said.{Held, ReadsFields, ReadsLine, fields_in}
-use Rattle.hip_script.specs.Spoken.{Fields}
+use Rattle.hip_script.specs.{Spoken.Fields, declared.said.Said.Said, declared.verb.Verb.Verb, declared.verb.Word.Word}
 use Rattle.hip_script.specs.Words.{Left, look_up, said_at}
-use Rattle.hip_script.specs.declared.said.Said.{Said}
-use Rattle.hip_script.specs.declared.verb.Verb.{Verb}
-use Rattle.hip_script.specs.declared.verb.Word.{Word}
 
 pub row-none : (line : List ℕ) (before : Left) → before ≡ Some line → said_at (λ word. look_up word rows) before ≡ None → line_said line ≡ None
 unfolding line_said

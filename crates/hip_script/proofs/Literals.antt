@@ -2,8 +2,7 @@
 use Rattle.std.proofs.Common.{◌≡◌, ℕ, ◌+◌, ◌<◌, suc, zero, Bool, true, false, ◌==◌, ◌||◌, not, List, [], ◌∷◌, ◌++◌, length, take, drop, get_or, Option, Some, None, arith, refl, sym, ap, ◌∙◌, add-one, append_assoc}
 use Rattle.std.proofs.lemmas.Bool.{false_from_ne_true}
 use Rattle.std.specs.Bool.{if◌then◌else◌}
-use Rattle.std.specs.Io.KnownBytes.{Appends}
-use Rattle.std.specs.List.{flat_map}
+use Rattle.std.specs.{Io.KnownBytes.Appends, List.flat_map}
 use Rattle.memchr.specs.Find.{IsFirstByte}
 use Rattle.hip_script.proofs.Appended.{appends-then}
 use Rattle.hip_script.specs.Printed.{is_printable, printed_byte, printed_literal}
@@ -35,9 +34,6 @@ pub record PrintsSoFar (old new : Option (List ℕ)) (rest bytes : List ℕ) : T
   pub done : List ℕ
   pub written : Appends old new (34 ∷ done)
   pub whole : done ++ flat_map printed_byte rest ≡ flat_map printed_byte bytes
-
-pub prints-begin : (old new : Option (List ℕ)) (bytes : List ℕ) → Appends old new (34 ∷ []) → PrintsSoFar old new bytes bytes
-prints-begin old new bytes written = record { done = []; written = written; whole = refl }
 
 pub prints-on : (old a b c : Option (List ℕ)) (rest bytes : List ℕ) (at : ℕ) → IsFirstByte needs_escape rest (Some at) → PrintsSoFar old a rest bytes
     → Appends a b (take at rest) → Appends b c (printed_byte (get_or rest at 0)) → PrintsSoFar old c (drop (at + 1) rest) bytes

@@ -1,12 +1,8 @@
 -- Look-ups in a table of names, whose entries are seen through references.
 use Rattle.std.proofs.Common.{◌≡◌, ℕ, Bool, true, false, List, [], ◌∷◌, map, Option, Some, None, refl, sym, ap, ◌∙◌, length, arith, Bor}
-use Rattle.std.specs.Option.{MatchOption, option_map}
-use Rattle.hip_script.specs.Grammar.{rows}
-use Rattle.hip_script.specs.Words.{look_up}
-use Rattle.hip_script.specs.declared.verb.Verb.{Verb}
-use Rattle.hip_script.specs.declared.verb.Word.{Word}
+use Rattle.std.specs.{Option.MatchOption, Option.option_map, Str.bytes_eq}
+use Rattle.hip_script.specs.{Grammar.rows, Words.look_up, declared.verb.Verb.Verb, declared.verb.Word.Word}
 use Rattle.std.specs.Bool.{if◌then◌else◌}
-use Rattle.std.specs.Str.{bytes_eq}
 
 abbrev pub Entry : Type 0
 Entry = Bor (List ℕ) × (Verb × Bor (List Word))

@@ -1,11 +1,8 @@
 -- The numbers that digits spell, a digit at a time.
 use Rattle.std.proofs.Common.{◌≡◌, ℕ, ◌+◌, ◌-◌, ◌*◌, ◌^◌, ◌<◌, ◌≤◌, true, false, List, [], ◌∷◌, length, get_or, drop, Some, None, arith, refl, ◌∙◌, ap}
 use Rattle.std.proofs.lemmas.Bool.{lt-ltb, le-ltb, leb-true, and_right, and_parts}
-use Rattle.std.proofs.lemmas.List.{drop_more, drop_all}
-use Rattle.std.proofs.lemmas.Str.{digit_value_digit}
-use Rattle.std.specs.Char.{is_ascii_digit, digit_value}
-use Rattle.std.specs.Str.{all_ascii_digits}
-use Rattle.std.specs.Str.Parse.{digits_value_after}
+use Rattle.std.proofs.{lemmas.List.drop_more, lemmas.List.drop_all, lemmas.Str.digit_value_digit}
+use Rattle.std.specs.{Char.is_ascii_digit, Char.digit_value, Str.all_ascii_digits, Str.Parse.digits_value_after}
 use Rattle.hip_script.specs.Words.{number_after, number_of}
 
 digit-value : (d : ℕ) → is_ascii_digit d ≡ true → digit_value d + 48 ≡ d

@@ -3,24 +3,15 @@ use Rattle.std.proofs.Common.{◌≡◌, ℕ, ◌+◌, ◌<◌, ◌≤◌, ◌�
 use Rattle.std.proofs.lemmas.Bool.{cases_lt, le-ltb, lt-ltb}
 use Rattle.std.proofs.lemmas.List.{append-nil, map-append, map_more, take_all, take-append-drop}
 use Rattle.std.specs.Io.KnownBytes.{Appends}
-use Rattle.hipstr.specs.Run.{Run}
-use Rattle.hipstr.specs.Slot.{SlotState, state_at}
-use Rattle.hipstr.specs.Step.{Costs, Step}
-use Rattle.hipstr.specs.declared.command.Answer.{Answer}
-use Rattle.hipstr.specs.declared.command.Command.{Command}
-use Rattle.hipstr.specs.declared.command.Command.TheVariants.{New, Inline, Borrow, Copy, Room, Clone, Slice, Push, Pop, Truncate, Clear, Shrink, Upper, Lower, Set, Repeat, Join, Mutate, Owned, Text, Bytes, Trim, TrimMatches, Strip, Pieces, Once, Compare, ComparePath, Len, Kind, Capacity}
+use Rattle.hipstr.specs.{Run.Run, Slot.SlotState, Slot.state_at, Step.Costs, Step.Step, declared.command.Answer.Answer, declared.command.Command.Command, declared.command.Command.TheVariants.New}
 use Rattle.hip_script.proofs.Appended.{appends-none, appends-then}
 use Rattle.hip_script.specs.Performed.{AsideText, PerformsAt, Place, PlaysLine, Tells}
 use Rattle.hip_script.specs.Played.{Answers, FieldsText, IsPlayed, IsPlayedInPart, State, Writes, WritesAll, at_start, fields_cost, printed_show}
 use Rattle.hip_script.specs.Printed.{printed_answer, printed_answers, printed_slot}
 use Rattle.hip_script.specs.Said.{Held, aside_says, line_says, says_in}
-use Rattle.hip_script.specs.Spoken.{Spoken}
-use Rattle.hip_script.specs.Told.{says}
-use Rattle.hip_script.specs.declared.line.Aside.{Aside}
+use Rattle.hip_script.specs.{Spoken.Spoken, Told.says, declared.line.Aside.Aside, declared.line.Line.Line}
+use Rattle.hip_script.specs.{declared.line.Line.TheVariants.Command as CommandLine, declared.line.Line.TheVariants.Aside as AsideLine, declared.said.Said.Said}
 use Rattle.hip_script.specs.declared.line.Aside.TheVariants.{Show, Copied, Fields as FieldsOf}
-use Rattle.hip_script.specs.declared.line.Line.{Line}
-use Rattle.hip_script.specs.declared.line.Line.TheVariants.{Command as CommandLine, Aside as AsideLine}
-use Rattle.hip_script.specs.declared.said.Said.{Said}
 
 -- the lines so far, of which some wait
 pub record IsPlayedSoFar (shares : Bool) (lines waiting : List Spoken) (place : Place) (old : Option (List ℕ)) : Type 0 where
@@ -37,36 +28,7 @@ pub record IsPlayedSoFar (shares : Bool) (lines waiting : List Spoken) (place : 
 -- a command's line is none of the three others
 writes-said : (shares : Bool) (old new : State) (command : Command) (text : List ℕ) → Answers shares old (says command) text new → Writes shares old (says command) text new
 writes-said shares old new (New a) text answers = answers
-writes-said shares old new (Inline a b) text answers = answers
-writes-said shares old new (Borrow a b) text answers = answers
-writes-said shares old new (Copy a b) text answers = answers
-writes-said shares old new (Room a b) text answers = answers
-writes-said shares old new (Clone a b) text answers = answers
-writes-said shares old new (Slice a b c d) text answers = answers
-writes-said shares old new (Push a b) text answers = answers
-writes-said shares old new (Pop a) text answers = answers
-writes-said shares old new (Truncate a b) text answers = answers
-writes-said shares old new (Clear a) text answers = answers
-writes-said shares old new (Shrink a b) text answers = answers
-writes-said shares old new (Upper a) text answers = answers
-writes-said shares old new (Lower a) text answers = answers
-writes-said shares old new (Set a b c) text answers = answers
-writes-said shares old new (Repeat a b c) text answers = answers
-writes-said shares old new (Join a b c d) text answers = answers
-writes-said shares old new (Mutate a b) text answers = answers
-writes-said shares old new (Owned a) text answers = answers
-writes-said shares old new (Text a) text answers = answers
-writes-said shares old new (Bytes a) text answers = answers
-writes-said shares old new (Trim a b c) text answers = answers
-writes-said shares old new (TrimMatches a b c d) text answers = answers
-writes-said shares old new (Strip a b c d) text answers = answers
-writes-said shares old new (Pieces a b c d) text answers = answers
-writes-said shares old new (Once a b c d e) text answers = answers
-writes-said shares old new (Compare a b) text answers = answers
-writes-said shares old new (ComparePath a b) text answers = answers
-writes-said shares old new (Len a) text answers = answers
-writes-said shares old new (Kind a) text answers = answers
-writes-said shares old new (Capacity a) text answers = answers
+writes-said shares old new command text answers = answers
 
 abbrev behind : State → List SlotState → ℕ → State
 behind old slots cost = record { slots = slots; least = old.least; most = old.most + cost }
@@ -230,16 +192,12 @@ played-command shares lines waiting line place old so_far = record {
   all = sym (append_assoc so_far.done waiting (line ∷ [])) ∙ ap (λ t. t ++ line ∷ []) so_far.all;
 }
 
-map-push : (commands : List Command) (command : Command) → map says (commands ++ command ∷ []) ≡ map says commands ++ says command ∷ []
-map-push [] command = refl
-map-push (c ∷ cs) command = ap (λ t. says c ∷ t) (map-push cs command)
-
 -- one line more
 played-line : (shares : Bool) (lines : List Spoken) (waiting left : List Command) (line : Line) (place new : Place) (old : Option (List ℕ))
     → IsPlayedSoFar shares lines (map says waiting) place old → PlaysLine shares line waiting left place new
     → IsPlayedSoFar shares (lines ++ line_says line ∷ []) (map says left) new old
 played-line shares lines waiting left (CommandLine command) place new old so_far plays =
-    let more = subst (λ (w : List Spoken). IsPlayedSoFar shares (lines ++ says command ∷ []) w place old) (sym (map-push waiting command))
+    let more = subst (λ (w : List Spoken). IsPlayedSoFar shares (lines ++ says command ∷ []) w place old) (sym (map-append says waiting (command ∷ [])))
     (played-command shares lines (map says waiting) (says command) place old so_far) in
     ⊎_elim (λ waits. rw (waits.0, waits.1) more)
     (λ ran. rw ran.0 (played-run shares (lines ++ says command ∷ []) (waiting ++ command ∷ []) place new old more ran.1)) plays
@@ -292,14 +250,6 @@ played-front shares held lines i waiting place old after same so_far = record {
     writes = so_far.writes;
     written = rw same so_far.written;
   };
-}
-
-pub played-nothing : (shares : Bool) (lines : List Spoken) (old : Option (List ℕ)) → IsPlayedInPart shares lines old old
-played-nothing shares lines old = record {
-  front = [];
-  later = lines;
-  all = refl;
-  played = record { text = []; state = at_start; writes = (refl, refl); written = appends-none old };
 }
 
 pub plays-aside : (shares : Bool) (line : Line) (aside : Aside) (waiting left : List Command) (old ran new : Place) → line ≡ AsideLine aside → left ≡ [] → PerformsAt shares waiting old ran → new.slots ≡ ran.slots

@@ -1,32 +1,20 @@
 -- The values of literals, and words that are added to buffers.
 use Rattle.std.proofs.Common.{◌≡◌, ℕ, ◌+◌, ◌-◌, true, false, List, [], ◌++◌, length, drop, take, Option, Some, arith, refl, sym, ap, subst, ◌∙◌}
-use Rattle.std.proofs.Math.Seq.{drop-append_seam}
-use Rattle.std.proofs.lemmas.Bool.{false_from_ne_true}
+use Rattle.std.proofs.{Math.Seq.drop-append_seam, lemmas.Bool.false_from_ne_true, lemmas.Str.IsUtf8-from_is_utf8}
 use Rattle.std.proofs.lemmas.List.{append-nil, take_all, length-append}
-use Rattle.std.proofs.lemmas.Str.{IsUtf8-from_is_utf8}
-use Rattle.std.specs.Option.{option_map}
+use Rattle.std.specs.{Option.option_map, declared.ops.Bound.Bound, declared.ops.Bound.TheVariants.Included, declared.ops.Bound.TheVariants.Excluded}
 use Rattle.std.specs.Str.{chars, is_utf8, IsUtf8}
-use Rattle.std.specs.declared.ops.Bound.{Bound}
-use Rattle.std.specs.declared.ops.Bound.TheVariants.{Included, Excluded}
 use denote.Bor.{Bor}
 use Rattle.hip_script.proofs.Growth.{are-within-grows, fields-grow, grows-none, grows-then, quoted-grows, with-grows, within-grows}
 use Rattle.hip_script.specs.Grammar.{follows_said, only, quoted_as, quoted_said}
 use Rattle.hip_script.specs.Said.{AddsSpan, AreWithin, Grows, Held, IsListed, IsQuoted, IsSpan, IsWithin, LiteralIs, LiteralWithin, QuotedWithin, QuotesAs, ReadsFields, ReadsLiteral, StandsFor, arguments_in, fields_in, fields_with, in_span, literal_in, no_arguments, quoted_in}
-use Rattle.hip_script.specs.Spoken.{Fields, Quoted}
+use Rattle.hip_script.specs.{Spoken.Fields, Spoken.Quoted, Spoken.Quoted.Sought, declared.said.Argument.Argument, declared.said.Arguments.Arguments, declared.said.Literal.Literal}
+use Rattle.hip_script.specs.{declared.said.Literal.TheVariants.Plain, declared.said.Literal.TheVariants.Decoded, declared.said.Said.Said, declared.said.Span.Span, declared.verb.Follows.Follows}
+use Rattle.hip_script.specs.{declared.verb.Follows.TheVariants.Nothing as NothingFollows, declared.verb.Quote.Quote}
 use Rattle.hip_script.specs.Spoken.Pattern.{AnyOf, CharOf, TextOf}
-use Rattle.hip_script.specs.Spoken.Quoted.{Sought}
 use Rattle.hip_script.specs.Words.{Left, ends_of, literal_at, range_of, said_at, word_at}
 use Rattle.hipstr.specs.declared.End.{End}
-use Rattle.hip_script.specs.declared.said.Argument.{Argument}
 use Rattle.hip_script.specs.declared.said.Argument.TheVariants.{Nothing, Between, Bytes, DecodedBytes, Text, DecodedText, Char, Any, All}
-use Rattle.hip_script.specs.declared.said.Arguments.{Arguments}
-use Rattle.hip_script.specs.declared.said.Literal.{Literal}
-use Rattle.hip_script.specs.declared.said.Literal.TheVariants.{Plain, Decoded}
-use Rattle.hip_script.specs.declared.said.Said.{Said}
-use Rattle.hip_script.specs.declared.said.Span.{Span}
-use Rattle.hip_script.specs.declared.verb.Follows.{Follows}
-use Rattle.hip_script.specs.declared.verb.Follows.TheVariants.{Nothing as NothingFollows}
-use Rattle.hip_script.specs.declared.verb.Quote.{Quote}
 use Rattle.hip_script.specs.declared.verb.Quote.TheVariants.{Bytes as bytes_quote, Text as text_quote, Char as char_quote, Any as any_quote}
 
 -- the items that were added stand in the span
@@ -138,15 +126,9 @@ stands-alone arguments held argument listed is = record {
 -- an argument that is the value of a literal says nothing else
 quoted-alone : (listed : List Arguments) (argument : Argument) → IsQuoted argument
     → IsListed (length listed) argument × (arguments_in listed argument ≡ record no_arguments { quoted = argument })
-quoted-alone listed Nothing is = (tt, refl)
 quoted-alone listed (Between low high) is = absurd is
-quoted-alone listed (Bytes bytes) is = (tt, refl)
-quoted-alone listed (DecodedBytes span) is = (tt, refl)
-quoted-alone listed (Text text) is = (tt, refl)
-quoted-alone listed (DecodedText span) is = (tt, refl)
-quoted-alone listed (Char c) is = (tt, refl)
-quoted-alone listed (Any span) is = (tt, refl)
 quoted-alone listed (All at) is = absurd is
+quoted-alone listed argument is = (tt, refl)
 
 -- where a line has no other argument, a range or a literal stands alone
 pub range-alone : (held : Held) (before : Argument) (first last : ℕ) (low high : Bound ℕ) → before ≡ Nothing → low ≡ Included first → high ≡ Excluded last

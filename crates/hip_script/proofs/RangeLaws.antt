@@ -1,8 +1,7 @@
 -- A range, by where its first dot stands.
 use Rattle.std.proofs.Common.{◌≡◌, ℕ, suc, zero, List, [], ◌∷◌, take, drop, Option, Some, None, arith, refl, sym, ap, ◌∙◌}
 use Rattle.std.proofs.lemmas.Bool.{eq-eqb, ne_eqb}
-use Rattle.std.specs.Option.{option_and_then}
-use Rattle.std.specs.declared.ops.Bound.{Bound}
+use Rattle.std.specs.{Option.option_and_then, declared.ops.Bound.Bound}
 use Rattle.hip_script.proofs.Bytes.{FirstAt, Nowhere, later-at, later-nowhere}
 use Rattle.hip_script.specs.Words.{at_dot, behind_dots, low_of, range_at, range_of}
 

@@ -1,13 +1,11 @@
 -- A script, a line at a time.
-use Rattle.std.proofs.Common.{◌≡◌, ℕ, ◌+◌, List, [], ◌∷◌, ◌++◌, length, map, Some, None, Result, Ok, Err, arith, refl, sym, ap, ◌∙◌, append_assoc}
+use Rattle.std.proofs.Common.{◌≡◌, ℕ, ◌+◌, List, [], ◌∷◌, ◌++◌, length, map, Some, Result, Ok, Err, refl, sym, ap, ◌∙◌, append_assoc}
 use Rattle.std.proofs.lemmas.List.{append-nil}
 use Rattle.std.specs.List.{AllByRecursion}
 use Rattle.hip_script.proofs.Growth.{within-grows, fields-grow}
 use Rattle.hip_script.specs.Grammar.{lines_said, line_said, spoken, then_said}
-use Rattle.hip_script.specs.Lines.{lines}
+use Rattle.hip_script.specs.{Lines.lines, Spoken.Spoken, declared.said.Said.Said}
 use Rattle.hip_script.specs.Said.{Grows, Held, IsWithin, ReadsLine, says_in}
-use Rattle.hip_script.specs.Spoken.{Spoken}
-use Rattle.hip_script.specs.declared.said.Said.{Said}
 
 -- these lines before others
 abbrev pub put_before : List Spoken → Result (List Spoken) ℕ → Result (List Spoken) ℕ
@@ -36,10 +34,6 @@ line-says : (line : List ℕ) (number : ℕ) (more : List (List ℕ)) → (lengt
 line-says [] number more some = absurd (some refl)
 line-says (b ∷ bs) number more some = refl
 
-no_line-says : (line : List ℕ) (number : ℕ) (more : List (List ℕ)) → length line ≡ 0 → lines_said number (line ∷ more) ≡ lines_said (number + 1) more
-no_line-says [] number more none = refl
-no_line-says (b ∷ bs) number more none = absurd (omega arith)
-
 -- a line that is read, with what came before it
 pub script-goes_on : (old new : Held) (line rest after : List ℕ) (number : ℕ) (before after_lines : List Said) (said : Said) (whole : Result (List Spoken) ℕ)
     → AllByRecursion (IsWithin old) before → ReadsLine (line_said line) old new said → (length line ≡ 0 → ⊥) → lines rest ≡ line ∷ lines after
@@ -58,21 +52,6 @@ script-goes_on old new line rest after number before after_lines said whole all 
           ∙ ap (λ t. then_said t (number + 1) later) reads.read_is))
           ∙ so_far,
     )
-
--- a line that says nothing
-pub script-skips : (line rest after : List ℕ) (number : ℕ) (so_far : List Spoken) (whole : Result (List Spoken) ℕ)
-    → length line ≡ 0 → lines rest ≡ line ∷ lines after → put_before so_far (lines_said (number + 1) (lines rest)) ≡ whole
-    → put_before so_far (lines_said (number + 1 + 1) (lines after)) ≡ whole
-script-skips line rest after number so_far whole none first is =
-    ap (put_before so_far) (sym (ap (lines_said (number + 1)) first ∙ no_line-says line (number + 1) (lines after) none)) ∙ is
-
--- a line that is no command
-pub script-fails : (line rest after : List ℕ) (number : ℕ) (so_far : List Spoken) (whole : Result (List Spoken) ℕ)
-    → (length line ≡ 0 → ⊥) → lines rest ≡ line ∷ lines after → line_said line ≡ None → put_before so_far (lines_said (number + 1) (lines rest)) ≡ whole
-    → whole ≡ Err (number + 1)
-script-fails line rest after number so_far whole some first none is =
-    sym is ∙ ap (put_before so_far) (ap (lines_said (number + 1)) first ∙ line-says line (number + 1) (lines after) some
-    ∙ ap (λ said. then_said said (number + 1) (lines_said (number + 1 + 1) (lines after))) none)
 
 -- all lines were read
 pub script-ends : (rest : List ℕ) (number : ℕ) (so_far : List Spoken) (whole : Result (List Spoken) ℕ)

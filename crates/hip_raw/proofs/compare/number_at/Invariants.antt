@@ -1,6 +1,5 @@
 use Rattle.std.proofs.Common.{◌≡◌, ◌<◌, ◌^◌}
-use Rattle.std.specs.Simd.Lanes.{chunk}
-use Rattle.std.specs.Slice.Scan.{big_endian}
+use Rattle.std.specs.{Simd.Lanes.chunk, Slice.Scan.big_endian}
 use Rattle.hip_raw.proofs.compare.number_at.Given as goal
 
 abbrev pub invariant-loop-k : goal.invariant-loop-k

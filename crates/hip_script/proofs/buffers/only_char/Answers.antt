@@ -1,5 +1,4 @@
-use Rattle.std.proofs.lemmas.Iterator.{YieldsList-from_chars}
-use Rattle.std.proofs.lemmas.Iterator.Consumers.{YieldsList-turn, YieldsList-end}
+use Rattle.std.proofs.{lemmas.Iterator.YieldsList-from_chars, lemmas.Iterator.Consumers.YieldsList-turn, lemmas.Iterator.Consumers.YieldsList-end}
 use Rattle.hip_script.proofs.Letters.{only-second, only-all}
 use Rattle.hip_script.proofs.buffers.only_char.Goals as goal
 

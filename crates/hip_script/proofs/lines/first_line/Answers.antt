@@ -1,8 +1,6 @@
-use Rattle.std.proofs.Common.{rules, ◌+◌}
+use Rattle.std.proofs.Common.{rules, ◌+◌, add-one}
 use Rattle.std.proofs.lemmas.List.{take_rest}
-use Rattle.std.proofs.Common.{add-one}
-use Rattle.hip_script.proofs.Bytes.{found-at, found-nowhere}
-use Rattle.hip_script.proofs.LineLaws.{first_line-ends, last_line}
+use Rattle.hip_script.proofs.{Bytes.found-at, Bytes.found-nowhere, LineLaws.first_line-ends, LineLaws.last_line}
 use Rattle.hip_script.proofs.lines.first_line.Goals as goal
 
 pub returns-in_default-clause-line : goal.returns-in_default-clause-line

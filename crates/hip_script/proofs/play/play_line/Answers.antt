@@ -1,5 +1,4 @@
-use Rattle.std.proofs.Common.{refl}
-use Rattle.std.proofs.lemmas.Result.{on_ok_weaker}
+use Rattle.std.proofs.{Common.refl, lemmas.Result.on_ok_weaker}
 use Rattle.hip_script.specs.Performed.{Place}
 use Rattle.hip_script.proofs.Plays.{plays-aside}
 use Rattle.hip_script.proofs.play.play_line.Goals as goal

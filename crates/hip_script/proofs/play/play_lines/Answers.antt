@@ -1,7 +1,5 @@
-use Rattle.std.proofs.Common.{rules}
-use Rattle.std.proofs.lemmas.Result.{on_ok_weaker}
-use Rattle.hip_script.specs.Performed.{Place}
-use Rattle.hip_script.specs.Said.{held}
+use Rattle.std.proofs.{Common.rules, lemmas.Result.on_ok_weaker}
+use Rattle.hip_script.specs.{Performed.Place, Said.held}
 use Rattle.hip_script.proofs.Plays.{played-front, played-last, played-next, played-none}
 use Rattle.hip_script.proofs.play.play_lines.Goals as goal
 

@@ -1,7 +1,6 @@
 use Rattle.std.proofs.Common.{map, take}
 use Rattle.hip_script.proofs.Plays.{IsPlayedSoFar}
-use Rattle.hip_script.specs.Said.{held, says_in}
-use Rattle.hip_script.specs.Told.{says}
+use Rattle.hip_script.specs.{Said.held, Said.says_in, Told.says}
 use Rattle.hip_script.proofs.play.play_lines.Given as goal
 
 -- the text that was written may be written for the lines so far, without those that wait

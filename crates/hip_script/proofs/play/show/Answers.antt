@@ -1,5 +1,4 @@
-use Rattle.std.proofs.Common.{refl, subst}
-use Rattle.std.proofs.lemmas.Result.{on_ok_weaker}
+use Rattle.std.proofs.{Common.refl, Common.subst, lemmas.Result.on_ok_weaker}
 use Rattle.std.specs.Io.KnownBytes.{Appends}
 use Rattle.hipstr.specs.Slot.{state_of}
 use Rattle.hip_script.proofs.Plays.{prints-no-slot, prints-slot}

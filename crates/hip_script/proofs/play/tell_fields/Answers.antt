@@ -1,7 +1,5 @@
-use Rattle.std.proofs.Common.{rules, map}
-use Rattle.std.proofs.lemmas.Result.{on_ok_weaker}
-use Rattle.hip_script.specs.Printed.{printed_records}
-use Rattle.hip_script.specs.Said.{texts_of}
+use Rattle.std.proofs.{Common.rules, Common.map, lemmas.Result.on_ok_weaker}
+use Rattle.hip_script.specs.{Printed.printed_records, Said.texts_of}
 use Rattle.hip_script.proofs.FieldTexts.{fields-text}
 use Rattle.hip_script.proofs.play.tell_fields.Goals as goal
 

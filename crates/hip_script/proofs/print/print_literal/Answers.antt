@@ -1,6 +1,5 @@
 use Rattle.std.proofs.Common.{◌+◌, arith}
-use Rattle.std.proofs.lemmas.List.{length-drop, take_rest}
-use Rattle.std.proofs.lemmas.Result.{on_ok_weaker}
+use Rattle.std.proofs.{lemmas.List.length-drop, lemmas.List.take_rest, lemmas.Result.on_ok_weaker}
 use Rattle.hip_script.proofs.Literals.{prints-end, prints-on}
 use Rattle.hip_script.proofs.print.print_literal.Goals as goal
 

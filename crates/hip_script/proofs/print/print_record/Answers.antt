@@ -1,7 +1,5 @@
-use Rattle.std.proofs.Common.{codes}
-use Rattle.std.proofs.lemmas.Result.{on_ok_weaker}
-use Rattle.hip_script.specs.Printed.{printed_field}
-use Rattle.hip_script.specs.Said.{items_of}
+use Rattle.std.proofs.{Common.codes, lemmas.Result.on_ok_weaker}
+use Rattle.hip_script.specs.{Printed.printed_field, Said.items_of}
 use Rattle.hip_script.proofs.Appended.{appends-all, appends-next, appends-then}
 use Rattle.hip_script.proofs.print.print_record.Goals as goal
 

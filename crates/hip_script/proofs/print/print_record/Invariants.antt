@@ -1,8 +1,6 @@
 use Rattle.std.proofs.Common.{◌++◌, codes, map, take}
-use Rattle.std.specs.Io.KnownBytes.{Appends}
-use Rattle.std.specs.List.{flat_map}
-use Rattle.hip_script.specs.Printed.{printed_field}
-use Rattle.hip_script.specs.Said.{items_of}
+use Rattle.std.specs.{Io.KnownBytes.Appends, List.flat_map}
+use Rattle.hip_script.specs.{Printed.printed_field, Said.items_of}
 use Rattle.hip_script.proofs.print.print_record.Given as goal
 
 abbrev pub invariant-loop-field : goal.invariant-loop-field

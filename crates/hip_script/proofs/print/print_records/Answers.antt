@@ -1,6 +1,5 @@
 use Rattle.std.proofs.Common.{[], ap, map}
-use Rattle.hip_script.specs.Printed.{printed_record}
-use Rattle.hip_script.specs.Said.{items_of, texts_of}
+use Rattle.hip_script.specs.{Printed.printed_record, Said.items_of, Said.texts_of}
 use Rattle.hip_script.proofs.Appended.{appends-all, appends-next}
 use Rattle.hip_script.proofs.print.print_records.Goals as goal
 

@@ -1,7 +1,6 @@
 use Rattle.std.proofs.Common.{map, take}
 use Rattle.std.specs.Io.KnownBytes.{Appends}
-use Rattle.hip_script.specs.Printed.{printed_records}
-use Rattle.hip_script.specs.Said.{texts_of}
+use Rattle.hip_script.specs.{Printed.printed_records, Said.texts_of}
 use Rattle.hip_script.proofs.print.print_records.Given as goal
 
 abbrev pub invariant-loop-fields : goal.invariant-loop-fields

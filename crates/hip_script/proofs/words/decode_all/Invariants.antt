@@ -1,6 +1,5 @@
 use Rattle.std.proofs.Common.{◌≡◌, length}
-use Rattle.hip_script.specs.Words.{decoded}
-use Rattle.hip_script.specs.Words.Place.{Plain}
+use Rattle.hip_script.specs.{Words.decoded, Words.Place.Plain}
 use Rattle.hip_script.proofs.Decoded.{behind}
 use Rattle.hip_script.proofs.words.decode_all.Given as goal
 

@@ -1,8 +1,8 @@
-use Rattle.hip_script.proofs.Decoded.{high-none, high-other, hex-short, hex-other, hex-both}
+use Rattle.hip_script.proofs.Decoded.{decoded-none, high-other, hex-short, hex-other, hex-both}
 use Rattle.hip_script.proofs.words.unhex.Goals as goal
 
 pub returns-in_err-high-clause-value : goal.returns-in_err-high-clause-value
-returns-in_err-high-clause-value c = rw c.from_residual.ensures (high-none _ c.in_err-high.ensures.cases)
+returns-in_err-high-clause-value c = rw c.from_residual.ensures (decoded-none _ _ c.in_err-high.ensures.cases)
 
 pub returns-in_err-high-2-clause-value : goal.returns-in_err-high-2-clause-value
 returns-in_err-high-2-clause-value c =

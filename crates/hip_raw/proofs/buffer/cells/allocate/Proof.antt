@@ -6,79 +6,43 @@ use native.Mathlib.Omega.{arith}
 use mathlib.Core.List.{List, [], ◌∷◌, ◌++◌}
 use lib.Dec.{lit<}
 use seplogic.Ra.Ura.{Ura}
-use mir.Syntax.{Fn, Body, named, w64}
+use mir.Syntax.{Fn, Body, named, w64, ty_array}
 use mir.MapTy.{inst_fn}
 use mir.Val.{Val, vptr, vint, vstruct, vcons, vnil}
 use base.Logic.{SProp, ent}
-use base.Fml.{Lft, Share, ftrue, flft}
-use prog.Wp.{Env, Calls, Loops, WpFn, Tables}
-use types.Logic.{Logic}
-use contract.Monad.{fact}
-use contract.Running.{tables, tables_of}
-use sound.WpLaws.{WpFn-mono}
-use types.Kit.{Item, ⋆, ‵, raw, ◌⊛◌, later, await, at_ret, ◌$◌, ◌∵◌, !, qed, by, move, keep, use0, use1, use2, use3, split, join, fsplit, fsplit3, fjoin, feq_l, suffices, frame, done}
-use types.Part.{whole, agg}
-use types.Run.{stop, fld, lit, of_opd, and_then, no_more, first, exec, returns, enter}
-use types.ByLocal.{alloc_all, pass_all, free_all, look_at, get, get_in, sets, sets_last, is, env}
-use denote.Exit.{yes}
-use denote.RattleType.{RattleType, owns}
-use denote.Memory.{hidden_shr}
-use denote.Param.{layout}
-use denote.RawPtr.{Ptr, block_ptr}
-use denote.Ref.{Bor, ShrRef}
-use denote.Builtin.{RefOf}
-use denote.Signature.{plain}
-use denote.Steps.{nothing}
-use denote.Struct.Tuple.{Tuple}
+use base.Fml.{Lft, Share, ftrue, flft, Incl-trans}
+use prog.Wp.{Env, Calls, Loops, WpFn, Tables, Wp, after_seq, at_return}
+use types.{Logic.Logic, Part.whole, Part.agg}
+use contract.{Monad.fact, Monad.Fun, Running.tables, Running.tables_of}
+use sound.WpLaws.{WpFn-mono, FmC, fm_of}
+use types.Kit.{Item, ⋆, ‵, raw, ◌⊛◌, later, await, at_ret, ◌$◌, ◌∵◌, !, qed, by, move, keep, use0, use1, use2, use3, split, join, fsplit, fsplit3, fjoin, feq_l, suffices, frame, done, flt_l, flt_i, Post as After, any_q}
+use types.Run.{stop, fld, lit, of_opd, and_then, no_more, first, exec, returns, enter, bin, size_word, align_word, switches_on}
+use types.ByLocal.{alloc_all, pass_all, free_all, look_at, get, get_in, sets, sets_last, is, env, get_tag, lands_as}
+use denote.{Exit.yes, RattleType.RattleType, RattleType.owns, Memory.hidden_shr, Param.layout, RawPtr.Ptr, RawPtr.block_ptr, Ref.Bor, Ref.ShrRef, Builtin.RefOf, Builtin.usize, Signature.plain}
+use denote.{Steps.nothing, Steps.owned, Struct.Tuple.Tuple, Triple.Entry.on_entry, Triple.Spec.Meets, Triple.Spec.triple_of, Triple.Table.entered, Laws.Is}
+use denote.{Struct.Struct.Struct, Struct.Struct.Struct-Makes, Triple.Statement.Triple, Triple.Call.calls_at}
 use denote.Triple.Clauses.{Clauses, Ended, closing}
-use denote.Triple.Entry.{on_entry}
-use denote.Triple.Spec.{Meets, triple_of}
-use denote.Triple.Table.{entered}
 use denote.Triple.Walked.{says, needs, Stays, stay_dropped, walk_of, ends_at, Goes-dropped, walk_Meets}
-use Rattle.std_alloc.proofs.VecSteps.Shapes.{after}
-use Rattle.std_alloc.proofs.RcSteps.{Good, word, word-Good}
-use lib.ListN.{length}
-use types.Kit.{flt_l, flt_i}
-use types.Run.{bin}
-use denote.Builtin.{usize}
-use Rattle.std.specs.Prelude.{None}
+use Rattle.std_alloc.proofs.VecSteps.Shapes.{after, head, arm_body}
+use Rattle.std_alloc.proofs.RcSteps.{Good, word, word-Good, first_Good}
+use lib.ListN.{length, replicate, length-replicate}
+use Rattle.std.specs.Prelude.{None, IfOk, Ok, Err}
 use Rattle.core.proofs.mem.Param.{El, R, elτ}
-use Rattle.std_alloc.proofs.RawLayout.{as_written}
-use Rattle.hip_raw.specs.Ownership.{slots}
-use Rattle.hip_raw.proofs.PlacesMemory.{Cr, Bs, Mark, sz, mark, mark_made, word_made}
-use base.Fml.{Incl-trans}
-use lib.ListN.{replicate, length-replicate}
-use mir.Syntax.{ty_array}
+use Rattle.std_alloc.proofs.{RawLayout.as_written, ResultValues.ok_of, ResultValues.err_of}
+use Rattle.hip_raw.specs.{Ownership.slots, contracts.buffer.cells.allocate.Key.name as #self}
+use Rattle.hip_raw.proofs.PlacesMemory.{Cr, Bs, Mark, sz, mark, mark_made, word_made, three_val, three_of, of_room}
 use prog.Memory.{Memory, align, capped}
-use prog.Capped.{capped_fits}
-use prog.Routine.{Routine}
-use prog.Wp.{Wp, after_seq, at_return}
-use contract.Monad.{Fun}
+use prog.{Capped.capped_fits, Routine.Routine}
 use contract.BorrowLft.{◌⊑◌}
-use sound.WpLaws.{FmC, fm_of}
-use types.Kit.{Post as After, any_q}
 use types.Match.{live, vrt, in_variant}
-use types.Run.{size_word, align_word, switches_on}
-use types.ByLocal.{get_tag, lands_as}
-use denote.Laws.{Is}
-use denote.Steps.{owned}
-use denote.Struct.Struct.{Struct, Struct-Makes}
 use denote.Struct.Declared as Declared
-use denote.Triple.Statement.{Triple}
-use denote.Triple.Call.{calls_at}
-use Rattle.std.specs.Prelude.{IfOk, Ok, Err}
 use Rattle.std.specs.Vec.Ownership.{FitsInBlock}
 use Rattle.core.specs.contracts.result.Result as RS
 use Rattle.core.specs.contracts.alloc.AllocError as AE
 use Rattle.core.proofs.alloc.Calls.{Al, second, Answer-typed, takes_key, Takes, at_takes, Answered, Takes-goes, Takes-gives, answers}
 use Rattle.core.proofs.slots.Leases.{uncapped, block_ty, block_size, block_align, args, P}
-use Rattle.std_alloc.proofs.VecSteps.Shapes.{head, arm_body}
-use Rattle.std_alloc.proofs.ResultValues.{ok_of, err_of}
-use Rattle.std_alloc.proofs.RcSteps.{first_Good}
-use Rattle.hip_raw.proofs.PlacesMemory.{three_val, three_of, of_room}
 use Rattle.hip_raw.specs.contracts.buffer.cells.Deed as D-type
 use Rattle.hip_raw.specs.contracts.buffer.cells.allocate as F
-use Rattle.hip_raw.specs.contracts.buffer.cells.allocate.Key.{name as #self}
 use Rattle.hip_raw.proofs.buffer.cells.allocate.Statement as stated
 use Rattle.hip_raw.proofs.buffer.cells.allocate.Code as code
 

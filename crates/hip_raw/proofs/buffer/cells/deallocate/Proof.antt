@@ -4,63 +4,34 @@ use Prim.Native.Nat.{ℕ, ◌*◌, ◌<◌, ◌^◌}
 use native.Mathlib.Omega.{arith}
 use mathlib.Core.List.{List, [], ◌∷◌, ◌++◌}
 use seplogic.Ra.Ura.{Ura}
-use mir.Syntax.{Fn, named, w64}
+use mir.Syntax.{Fn, named, w64, ty_unit, ty_array}
 use mir.MapTy.{inst_fn}
-use mir.Val.{Val, vptr, vint, vunit}
+use mir.Val.{Val, vptr, vint, vunit, has_ty, WT}
 use base.Logic.{SProp, ent, never, id⊢}
-use base.Fml.{Lft, Share, ftrue, froom, flft}
+use base.Fml.{Lft, Share, ftrue, froom, flft, Incl-trans}
 use prog.Wp.{Env, Calls, Loops, WpFn, Tables}
-use types.Logic.{Logic}
-use contract.Monad.{fact}
-use contract.Running.{tables, tables_of}
-use sound.WpLaws.{WpFn-mono}
-use types.Kit.{Item, ⋆, ‵, raw, ◌⊛◌, given, later, await, learn, at_ret, ◌$◌, ◌∵◌, !, qed, by, move, keep, use1, split, join, group, rewrite, fsplit, fsplit3, fjoin, feq_i, feq_l, suffices, done}
-use types.Part.{whole, sub}
-use types.Run.{stop, fld, unit_lit, of_opd, and_then, no_more, first, blocks, exec, returns, enter}
-use types.ByLocal.{alloc_all, pass_all, free_all, look_at, get, get_in, sets, is, env}
-use denote.Exit.{yes, no}
-use denote.RattleType.{RattleType, owns}
-use denote.Memory.{hidden_shr}
+use types.{Logic.Logic, Part.whole, Part.sub}
+use contract.{Monad.fact, Monad.Fun, Running.tables, Running.tables_of}
+use sound.WpLaws.{WpFn-mono, FmC, fm_of}
+use types.Kit.{Item, ⋆, ‵, raw, ◌⊛◌, given, later, await, learn, at_ret, ◌$◌, ◌∵◌, !, qed, by, move, keep, use1, split, join, group, rewrite, fsplit, fsplit3, fjoin, feq_i, feq_l, suffices, done, flt_l}
+use types.Run.{stop, fld, unit_lit, of_opd, and_then, no_more, first, blocks, exec, returns, enter, bin, size_word, align_word}
+use types.ByLocal.{alloc_all, pass_all, free_all, look_at, get, get_in, sets, is, env, lands_last}
+use denote.{Exit.yes, Exit.no, RattleType.RattleType, RattleType.owns, Memory.hidden_shr, Ref.Bor, Ref.ShrRef, Builtin.RefOf, Builtin.usize, Signature.plain, Steps.nothing, Triple.Entry.on_entry}
+use denote.{Triple.Spec.Meets, Triple.Spec.triple_of, Triple.Table.entered, Triple.Statement.Triple, Triple.Call.calls_at_last}
 use denote.RawPtr.{Ptr, ptr_val, in_a_block}
-use denote.Ref.{Bor, ShrRef}
-use denote.Builtin.{RefOf}
-use denote.Signature.{plain}
-use denote.Steps.{nothing}
 use denote.Triple.Clauses.{Clauses, Ended, closing}
-use denote.Triple.Entry.{on_entry}
-use denote.Triple.Spec.{Meets, triple_of}
-use denote.Triple.Table.{entered}
 use denote.Triple.Walked.{needs, Stays, stay_dropped, walk_of, ends_at, Goes-dropped, walk_Meets}
-use Rattle.core.proofs.alloc.Calls.{Goes-blank}
-use Rattle.std_alloc.proofs.VecSteps.Shapes.{after}
-use Rattle.std_alloc.proofs.RcSteps.{word, word-Good}
-use types.Kit.{flt_l}
-use types.Run.{bin}
-use denote.Builtin.{usize}
+use Rattle.core.proofs.alloc.Calls.{Goes-blank, Al, second, token, gives_key, Gives, at_gives, Gives-goes, Gives-Gives}
+use Rattle.std_alloc.proofs.{VecSteps.Shapes.after, RcSteps.word, RcSteps.word-Good, RawLayout.as_raw}
 use Rattle.std.specs.Prelude.{None}
 use Rattle.core.proofs.mem.Param.{El, R, elτ}
-use Rattle.std_alloc.proofs.RawLayout.{as_raw}
-use Rattle.hip_raw.specs.Ownership.{cells_own, slots}
-use Rattle.hip_raw.proofs.PlacesMemory.{Cr, Bs, sz, mark, mark_had, word_had}
-use base.Fml.{Incl-trans}
-use lib.Dec.{T}
-use lib.ListN.{length, replicate}
-use mir.Syntax.{ty_unit, ty_array}
-use mir.Val.{has_ty, WT}
+use Rattle.hip_raw.specs.Ownership.{cells_own, slots, deed_owns}
+use Rattle.hip_raw.proofs.PlacesMemory.{Cr, Bs, sz, mark, mark_had, word_had, row_forgotten, to_room}
+use lib.{Dec.T, ListN.length, ListN.replicate}
 use prog.Memory.{Memory, align, capped}
-use prog.Capped.{capped_fits}
-use prog.Routine.{Routine}
-use contract.Monad.{Fun}
+use prog.{Capped.capped_fits, Routine.Routine}
 use contract.BorrowLft.{◌⊑◌}
-use sound.WpLaws.{FmC, fm_of}
-use types.Run.{size_word, align_word}
-use types.ByLocal.{lands_last}
-use denote.Triple.Statement.{Triple}
-use denote.Triple.Call.{calls_at_last}
-use Rattle.core.proofs.alloc.Calls.{Al, second, token, gives_key, Gives, at_gives, Gives-goes, Gives-Gives}
 use Rattle.core.proofs.slots.Leases.{uncapped, block_ty, block_size, block_align, args, P}
-use Rattle.hip_raw.specs.Ownership.{deed_owns}
-use Rattle.hip_raw.proofs.PlacesMemory.{row_forgotten, to_room}
 use Rattle.hip_raw.specs.contracts.buffer.cells.Deed as D-type
 use Rattle.hip_raw.specs.contracts.buffer.cells.deallocate as F
 use Rattle.hip_raw.specs.contracts.buffer.cells.deallocate.Key.{name as #self}

@@ -1,8 +1,6 @@
 use Rattle.std.proofs.Common.{sym, ap, ◌∙◌}
 use Rattle.std.specs.Option.{option_map}
-use Rattle.hip_script.specs.Said.{held}
-use Rattle.hip_script.specs.Spoken.Pattern.{CharOf}
-use Rattle.hip_script.specs.Spoken.Quoted.{Sought}
+use Rattle.hip_script.specs.{Said.held, Spoken.Pattern.CharOf, Spoken.Quoted.Sought}
 use Rattle.hip_script.proofs.Quotes.{lent-text, quotes-any, quotes-bytes, quotes-decoded, quotes-text, quotes-decoded_text, quotes-char}
 use Rattle.hip_script.proofs.buffers.Buffers.quoted.Goals as goal
 

@@ -1,8 +1,7 @@
 use Rattle.std.proofs.Common.{refl}
 use Rattle.hip_script.specs.Said.{held}
-use Rattle.hip_script.proofs.Quotes.{literal-alone, reads-quoted}
+use Rattle.hip_script.proofs.{Quotes.literal-alone, Quotes.reads-quoted, buffers.Buffers.read_quoted.Goals.in-Nothing, buffers.Buffers.read_quoted.Goals.in_default+in_ok-said-in_default}
 use Rattle.hip_script.proofs.buffers.Buffers.read_quoted.Goals as goal
-use Rattle.hip_script.proofs.buffers.Buffers.read_quoted.Goals.{in-Nothing, in_default+in_ok-said-in_default}
 
 pub returns-clause-ok : goal.returns-clause-ok
 returns-clause-ok c =

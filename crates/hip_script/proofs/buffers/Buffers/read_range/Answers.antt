@@ -1,9 +1,7 @@
-use Rattle.std.proofs.Common.{refl}
-use Rattle.std.proofs.lemmas.Option.{MatchOption-at_some}
+use Rattle.std.proofs.{Common.refl, lemmas.Option.MatchOption-at_some}
 use Rattle.hip_script.specs.Said.{held}
-use Rattle.hip_script.proofs.Quotes.{range-alone, reads-range}
+use Rattle.hip_script.proofs.{Quotes.range-alone, Quotes.reads-range, buffers.Buffers.read_range.Goals.in-Nothing-Included-Excluded, buffers.Buffers.read_range.Goals.in_default+in_ok-said-in_default}
 use Rattle.hip_script.proofs.buffers.Buffers.read_range.Goals as goal
-use Rattle.hip_script.proofs.buffers.Buffers.read_range.Goals.{in-Nothing-Included-Excluded, in_default+in_ok-said-in_default}
 
 pub returns-clause-ok : goal.returns-clause-ok
 returns-clause-ok c =

@@ -1,7 +1,5 @@
-use Rattle.std.proofs.Common.{ℕ, refl}
-use Rattle.std.proofs.lemmas.Result.{on_ok_weaker}
-use Rattle.hipstr.specs.declared.End.{End}
-use Rattle.hipstr.specs.declared.command.Side.{Side}
+use Rattle.std.proofs.{Common.ℕ, Common.refl, lemmas.Result.on_ok_weaker}
+use Rattle.hipstr.specs.{declared.End.End, declared.command.Side.Side}
 use Rattle.hip_script.specs.Said.{fields_in, held}
 use Rattle.hip_script.proofs.Growth.{puts}
 use Rattle.hip_script.proofs.buffers.Buffers.read_word.Goals as goal

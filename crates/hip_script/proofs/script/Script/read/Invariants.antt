@@ -1,7 +1,6 @@
 use Rattle.std.proofs.Common.{◌≡◌, ◌+◌, ◌≤◌, length, map}
 use Rattle.std.specs.List.{AllByRecursion}
-use Rattle.hip_script.specs.Grammar.{lines_said}
-use Rattle.hip_script.specs.Lines.{lines}
+use Rattle.hip_script.specs.{Grammar.lines_said, Lines.lines}
 use Rattle.hip_script.specs.Said.{IsWithin, held, says_in}
 use Rattle.hip_script.proofs.ScriptLaws.{put_before}
 use Rattle.hip_script.proofs.script.Script.read.Given as goal

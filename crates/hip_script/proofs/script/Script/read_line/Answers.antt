@@ -1,6 +1,4 @@
-use Rattle.std.proofs.Common.{rules}
-use Rattle.std.proofs.lemmas.Bool.{both_ways}
-use Rattle.std.proofs.lemmas.Option.{MatchOption-at_none, MatchOption-at_some}
+use Rattle.std.proofs.{Common.rules, lemmas.Bool.both_ways, lemmas.Option.MatchOption-at_none, lemmas.Option.MatchOption-at_some}
 use Rattle.hip_script.specs.Said.{held}
 use Rattle.hip_script.proofs.LineReads.{row-none, row-some, line-fails, line-reads, line-goes_on}
 use Rattle.hip_script.proofs.script.Script.read_line.Goals as goal

@@ -1,7 +1,6 @@
 use Rattle.std.proofs.Common.{rules, ◌≡◌, ◌+◌, add-one, Some, ap, ◌∙◌}
 use Rattle.std.proofs.lemmas.List.{take_rest}
-use Rattle.hip_script.proofs.Bytes.{found-at, found-nowhere}
-use Rattle.hip_script.proofs.WordLaws.{word-ends, last_word}
+use Rattle.hip_script.proofs.{Bytes.found-at, Bytes.found-nowhere, WordLaws.word-ends, WordLaws.last_word}
 use Rattle.hip_script.specs.Words.{word_at}
 use Rattle.hip_script.proofs.words.Words.next.Goals as goal
 

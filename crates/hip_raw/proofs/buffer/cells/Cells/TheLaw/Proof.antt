@@ -2,16 +2,10 @@
 use mathlib.Core.List.{[], ◌++◌}
 use base.Fml.{Incl-trans}
 use contract.BorrowLft.{meet_⊑_left}
-use denote.RattleType.{RattleType}
-use denote.RawPtr.{RawPtr}
-use denote.Param.Laws.{Laws}
-use denote.Param.Shared.{copy_shared}
-use denote.Struct.Laws.{field_copy}
-use denote.Struct.Lending.{of_Lends}
+use denote.{RattleType.RattleType, RawPtr.RawPtr, Param.Laws.Laws, Param.Shared.copy_shared, Struct.Laws.field_copy, Struct.Lending.of_Lends}
 use Rattle.core.specs.contracts.marker.PhantomData as marker
 use Rattle.hip_raw.specs.contracts.buffer.cells.Cells as C
-use Rattle.hip_raw.proofs.buffer.cells.Cells.TheLaw.Statement.{statement}
-use Rattle.hip_raw.proofs.PlacesSharing.{cells_lent_laws, Lends-cells}
+use Rattle.hip_raw.proofs.{buffer.cells.Cells.TheLaw.Statement.statement, PlacesSharing.cells_lent_laws, PlacesSharing.Lends-cells}
 
 pub shares : (R : RattleType) (L : Laws R) → statement R L
 shares R L = of_Lends (C.struct R) (C.the_codes R.Denot R.coded (marker.the_row RawPtr).coded) (C.the_heap R) (C.the_lent R)

@@ -2,7 +2,7 @@
 use mathlib.Core.Path.{◌≡◌, refl, sym, ap, subst, ◌∙◌}
 use Prim.Native.Nat.{ℕ, ◌+◌, ◌*◌, ◌<◌, ◌^◌}
 use native.Mathlib.Omega.{arith}
-use mathlib.Core.List.{List, [], ◌∷◌, ◌++◌}
+use mathlib.Core.List.{List, [], ◌∷◌, ◌++◌, map}
 use seplogic.Ra.Ura.{Ura}
 use base.Fraction.{full_share}
 use mir.Syntax.{Fn, named, w64}
@@ -12,49 +12,26 @@ use base.Logic.{SProp, ent, never, id⊢}
 use base.Fml.{Lft, Share, ftrue, fat, flft}
 use prog.Wp.{Env, Calls, Loops, WpFn, Tables}
 use types.Logic.{Logic}
-use contract.Monad.{fact}
-use contract.Running.{tables, tables_of}
+use contract.{Monad.fact, Running.tables, Running.tables_of}
 use sound.WpLaws.{WpFn-mono}
-use types.Kit.{Item, ⋆, ‵, ◌⊛◌, at_ret, ◌$◌, ◌∵◌, !, qed, by, move, keep, drop, use1, split, join, rewrite, fsplit, fjoin, feq_i, feq_l, suffices, frame, done}
+use types.Kit.{Item, ⋆, ‵, ◌⊛◌, at_ret, ◌$◌, ◌∵◌, !, qed, by, move, keep, drop, use1, split, join, rewrite, fsplit, fjoin, feq_i, feq_l, suffices, frame, done, flt_l, flt_i}
 use types.Part.{whole, sub, agg}
-use types.Run.{stop, fld, of_opd, and_then, no_more, first, blocks, exec, returns, enter}
-use types.ByLocal.{alloc_all, pass_all, free_all, look_at, get, get_in, sets, sets_last, is, env}
-use denote.Exit.{yes, no}
-use denote.RattleType.{owns}
-use denote.Memory.{hidden_shr}
-use denote.Param.{layout}
-use denote.RawPtr.{Ptr, in_a_block}
-use denote.Ref.{Bor, ShrRef}
-use denote.Builtin.{RefOf}
-use denote.Signature.{plain}
-use denote.Opens.{hide, unhide}
-use denote.Steps.{nothing}
-use denote.Triple.Carry.{spared}
+use types.Run.{stop, fld, of_opd, and_then, no_more, first, blocks, exec, returns, enter, bin, size_word}
+use types.ByLocal.{alloc_all, pass_all, free_all, look_at, get, get_in, sets, sets_last, is, env, take_at, give_at}
+use denote.{Exit.yes, Exit.no, RattleType.owns, Memory.hidden_shr, Param.layout, RawPtr.Ptr, RawPtr.in_a_block, Ref.Bor, Ref.ShrRef, Signature.plain, Opens.hide, Opens.unhide, Steps.nothing}
+use denote.{Triple.Carry.spared, Triple.Entry.on_entry, Triple.Spec.Meets, Triple.Spec.triple_of, Triple.Table.entered, Triple.Table.run_framed}
+use denote.Builtin.{RefOf, usize, SliceRefOf}
 use denote.Triple.Clauses.{Clauses, Ended, closing}
-use denote.Triple.Entry.{on_entry}
-use denote.Triple.Spec.{Meets, triple_of}
-use denote.Triple.Table.{entered, run_framed}
 use denote.Triple.Walked.{says, needs, Stays, stay_dropped, walk_of, ends_at, Goes-dropped, walk_Meets}
-use Rattle.std_alloc.proofs.VecSteps.Shapes.{after}
-use Rattle.std_alloc.proofs.RcSteps.{word, word-Good}
-use lib.ListN.{length, take, length-take, length-drop}
-use lib.ListN.{drop as drop_l}
-use mathlib.Core.List.{map}
-use types.Kit.{flt_l, flt_i}
-use types.Run.{bin}
-use types.ByLocal.{take_at, give_at}
-use denote.Builtin.{usize, SliceRefOf}
+use Rattle.std_alloc.proofs.{VecSteps.Shapes.after, RcSteps.word, RcSteps.word-Good}
+use lib.ListN.{length, take, length-take, length-drop, drop as drop_l}
 use Rattle.std.specs.Prelude.{Some}
 use Rattle.std.proofs.lemmas.List.{length-map}
 use Rattle.core.proofs.mem.Param.{El, R, args, el_x}
-use Rattle.core.proofs.ptr.Rows.{times_below}
-use Rattle.hip_raw.specs.Places.{AreFilled}
-use Rattle.hip_raw.specs.Ownership.{cells_lent}
+use Rattle.core.proofs.{ptr.Rows.times_below, slots.Leases.uncapped}
+use Rattle.hip_raw.specs.{Places.AreFilled, Ownership.cells_lent, contracts.buffer.cells.Cells.slice.Key.name as #self}
 use Rattle.hip_raw.proofs.PlacesMemory.{Cr, Bs, sz, word_had, run_seen}
 use denote.Slice.{ShrSlice, slice_val, elements_shared}
-use types.Run.{size_word}
-use Rattle.core.proofs.slots.Leases.{uncapped}
-use Rattle.hip_raw.specs.contracts.buffer.cells.Cells.slice.Key.{name as #self}
 use Rattle.hip_raw.proofs.buffer.cells.Cells.slice.Statement as stated
 use Rattle.hip_raw.proofs.buffer.cells.Cells.slice.Code as code
 
@@ -121,17 +98,9 @@ module _ (E : El) {M : Type 1} {𝓤 : Ura M} (𝓛 : Logic 𝓤) (C : Calls �
   entry : Asks E d base from len → ent 𝓤 (on_entry 𝓛 (ended E).signature (κ, tt) (q, tt) (self, (base, (from, (len, tt)))) (us0, (us1, (us2, (us3, tt))))) (WpFn 𝓤 H C Λ (function E) (us0 ++ (us1 ++ (us2 ++ (us3 ++ [])))) Post)
   entry asked =
       qed 𝓛 ((‵ (flft κ q) ⊛ ‵ ftrue) ∷ ‵ (owns (ShrRef (named 0) κ (Cr E) ∷ Bs E ∷ usize ∷ usize ∷ []) (self, (base, (from, (len, tt)))) (us0, (us1, (us2, (us3, tt))))) ∷ []) ∵
-      split ! $ move ! (2 ∷ []) $
-      fsplit ! $
-      fsplit ! $ feq_l ! (λ e0.
-      move ! (1 ∷ []) $
-      fsplit ! $
-      word_had ! base.ptr us1 (λ e1.
-      fsplit ! $
-      fsplit ! $ feq_l ! (λ e2. flt_l ! (λ fits_from.
-      fsplit ! $
-      fsplit ! $ feq_l ! (λ e3. flt_l ! (λ fits_len.
-      keep ! (1 ∷ 2 ∷ []) $
+      split ! $ move ! (2 ∷ []) $ fsplit ! $ fsplit ! $ feq_l ! (λ e0. move ! (1 ∷ []) $ fsplit ! $ word_had ! base.ptr us1 (λ e1.
+      fsplit ! $ fsplit ! $ feq_l ! (λ e2. flt_l ! (λ fits_from.
+      fsplit ! $ fsplit ! $ feq_l ! (λ e3. flt_l ! (λ fits_len. keep ! (1 ∷ 2 ∷ []) $
       by ! (subst (λ (ws : List Val × List Val × List Val × List Val). ent 𝓤 (⋆ 𝓛 Had) (WpFn 𝓤 H C Λ (function E) (ws.0 ++ (ws.1 ++ (ws.2 ++ (ws.3 ++ [])))) Post)) (λ j. (sym e0 j, sym e1 j, sym e2 j, sym e3 j)) (walk asked fits_from fits_len))))))))
 
 meets : (E : El) {M : Type 1} {𝓤 : Ura M} (𝓛 : Logic 𝓤) (𝓣 : Tables 𝓤 𝓛.H)

@@ -2,7 +2,7 @@
 use mathlib.Core.Path.{◌≡◌, refl, sym, ap, subst, ◌∙◌}
 use Prim.Native.Nat.{ℕ, ◌+◌, ◌*◌, ◌<◌, ◌≤◌, ◌^◌}
 use native.Mathlib.Omega.{arith}
-use mathlib.Core.List.{List, [], ◌∷◌, ◌++◌}
+use mathlib.Core.List.{List, [], ◌∷◌, ◌++◌, map}
 use seplogic.Ra.Ura.{Ura}
 use base.Fraction.{full_share}
 use mir.Syntax.{Fn, named, w64}
@@ -11,57 +11,30 @@ use mir.Val.{Val, vptr, vint}
 use base.Logic.{SProp, ent, sep, never, id⊢}
 use base.Fml.{Lft, GName, Share, Fml, ftrue, fsep, fat, flft, fobs, fbor}
 use prog.Wp.{Env, Calls, Loops, WpFn, Tables}
-use types.Logic.{Logic, sem}
-use contract.Monad.{fact}
-use contract.Running.{tables, tables_of}
+use types.{Logic.Logic, Logic.sem, SemTy.Body as Borrowed, SemTy.cells}
+use contract.{Monad.fact, Running.tables, Running.tables_of}
 use sound.WpLaws.{WpFn-mono}
-use types.Kit.{Item, ⋆, ‵, raw, ◌⊛◌, some, later, await, pick, at_ret, ◌$◌, ◌∵◌, !, qed, by, move, keep, use1, use2, split, join, group, rewrite, fsplit, fsplit3, fjoin, fjoin3, fpack, feq_l, suffices, frame, done}
+use types.Kit.{Item, ⋆, ‵, raw, ◌⊛◌, some, later, await, pick, at_ret, ◌$◌, ◌∵◌, !, qed, by, move, keep, use1, use2, split, join, group, rewrite, fsplit, fsplit3, fjoin, fjoin3, fpack, feq_l, suffices, frame, done, flt_l, flt_i}
 use types.Part.{whole, sub, agg}
-use types.Run.{stop, fld, of_opd, and_then, no_more, first, blocks, exec, returns, enter}
-use types.ByLocal.{alloc_all, pass_all, free_all, look_at, get, get_in, sets, sets_last, is, env}
-use types.SemTy.{Body as Borrowed}
-use denote.Exit.{no}
-use denote.RattleType.{owns}
+use types.Run.{stop, fld, of_opd, and_then, no_more, first, blocks, exec, returns, enter, bin, size_word}
+use types.ByLocal.{alloc_all, pass_all, free_all, look_at, get, get_in, sets, sets_last, is, env, take_at, give_at}
+use denote.{Exit.no, RattleType.owns, Param.layout, Ref.MutBor, Ref.MutRef, Signature.plain, Signature.mut_ref_to, Steps.nothing, Steps.opens, Triple.Carry.spared, Triple.Entry.on_entry}
+use denote.{Triple.Spec.Meets, Triple.Spec.triple_of, Triple.Table.entered, Triple.Table.run_framed, Array.Array, Slice.MutSlice, Slice.slice_val, Follow.follows}
+use denote.{FollowSlice.Elements, FollowSlice.lends_Elements}
 use denote.Memory.{mem, cell_at, part_of}
-use denote.Param.{layout}
 use denote.RawPtr.{Ptr, block_ptr, in_a_block}
-use denote.Ref.{MutBor, MutRef}
-use denote.Builtin.{RefMutOf}
-use denote.Signature.{plain, mut_ref_to}
-use denote.Steps.{nothing, opens}
-use denote.Triple.Carry.{spared}
+use denote.Builtin.{RefMutOf, usize, SliceRefMutOf}
 use denote.Triple.Clauses.{Clauses, Ended, closing}
-use denote.Triple.Entry.{on_entry}
-use denote.Triple.Spec.{Meets, triple_of}
-use denote.Triple.Table.{entered, run_framed}
 use denote.Triple.Walked.{says, needs, Stays, stay_dropped, walk_of, ends_at, Goes-dropped, Goes-spent_ref, walk_Meets}
-use Rattle.std_alloc.proofs.VecSteps.Shapes.{after}
-use Rattle.std_alloc.proofs.RcSteps.{word, word-Good}
-use lib.ListN.{length, take, length-take, length-drop, length-append}
-use lib.ListN.{drop as drop_l}
-use mathlib.Core.List.{map}
-use types.Kit.{flt_l, flt_i}
-use types.Run.{bin}
-use types.ByLocal.{take_at, give_at}
-use denote.Builtin.{usize, SliceRefMutOf}
-use Rattle.std.specs.Prelude.{Some}
+use Rattle.std_alloc.proofs.{VecSteps.Shapes.after, RcSteps.word, RcSteps.word-Good}
+use lib.ListN.{length, take, length-take, length-drop, length-append, drop as drop_l}
+use Rattle.std.specs.{Prelude.Some, List.refill}
 use Rattle.std.proofs.lemmas.List.{length-map}
 use Rattle.core.proofs.mem.Param.{El, R, args, el_x}
-use Rattle.core.proofs.ptr.Rows.{times_below}
-use Rattle.hip_raw.specs.Places.{somes, AreFilled}
-use Rattle.hip_raw.specs.Ownership.{slots, cells_own}
+use Rattle.core.proofs.{ptr.Rows.times_below, slots.Leases.uncapped}
+use Rattle.hip_raw.specs.{Places.somes, Places.AreFilled, Ownership.slots, Ownership.cells_own, Lends.with_slots, Lends.spliced, contracts.buffer.cells.Cells.slice_mut.Key.name as #self}
 use Rattle.hip_raw.proofs.PlacesMemory.{Cr, Bs, Mark, sz, Place, word_had, Around, run_out, run_in, to_cells, of_cells}
-use types.SemTy.{cells}
-use denote.Array.{Array}
-use denote.Slice.{MutSlice, slice_val}
-use denote.Follow.{follows}
-use denote.FollowSlice.{Elements, lends_Elements}
 use lib.Seq.{take_at as take_front}
-use Rattle.std.specs.List.{refill}
-use Rattle.hip_raw.specs.Lends.{with_slots, spliced}
-use types.Run.{size_word}
-use Rattle.core.proofs.slots.Leases.{uncapped}
-use Rattle.hip_raw.specs.contracts.buffer.cells.Cells.slice_mut.Key.{name as #self}
 use Rattle.hip_raw.proofs.buffer.cells.Cells.slice_mut.Statement as stated
 use Rattle.hip_raw.proofs.buffer.cells.Cells.slice_mut.Code as code
 
@@ -165,17 +138,9 @@ module _ (E : El) {M : Type 1} {𝓤 : Ura M} (𝓛 : Logic 𝓤) (C : Calls �
   entry : Asks E d base from len → ent 𝓤 (on_entry 𝓛 (ended E).signature (κ, tt) (q, tt) (self, (base, (from, (len, tt)))) (us0, (us1, (us2, (us3, tt))))) (WpFn 𝓤 H C Λ (function E) (us0 ++ (us1 ++ (us2 ++ (us3 ++ [])))) Post)
   entry asked =
       qed 𝓛 ((‵ (flft κ q) ⊛ ‵ ftrue) ∷ ‵ (owns (MutRef (named 0) κ (Cr E) ∷ Bs E ∷ usize ∷ usize ∷ []) (self, (base, (from, (len, tt)))) (us0, (us1, (us2, (us3, tt))))) ∷ []) ∵
-      split ! $ move ! (2 ∷ []) $
-      fsplit ! $
-      fsplit3 ! $ feq_l ! (λ e0.
-      move ! (2 ∷ []) $
-      fsplit ! $
-      word_had ! base.ptr us1 (λ e1.
-      fsplit ! $
-      fsplit ! $ feq_l ! (λ e2. flt_l ! (λ fits_from.
-      fsplit ! $
-      fsplit ! $ feq_l ! (λ e3. flt_l ! (λ fits_len.
-      keep ! (1 ∷ 2 ∷ 3 ∷ []) $
+      split ! $ move ! (2 ∷ []) $ fsplit ! $ fsplit3 ! $ feq_l ! (λ e0. move ! (2 ∷ []) $ fsplit ! $ word_had ! base.ptr us1 (λ e1.
+      fsplit ! $ fsplit ! $ feq_l ! (λ e2. flt_l ! (λ fits_from.
+      fsplit ! $ fsplit ! $ feq_l ! (λ e3. flt_l ! (λ fits_len. keep ! (1 ∷ 2 ∷ 3 ∷ []) $
       by ! (subst (λ (ws : List Val × List Val × List Val × List Val). ent 𝓤 (⋆ 𝓛 Had) (WpFn 𝓤 H C Λ (function E) (ws.0 ++ (ws.1 ++ (ws.2 ++ (ws.3 ++ [])))) Post)) (λ j. (sym e0 j, sym e1 j, sym e2 j, sym e3 j)) (walk asked fits_from fits_len))))))))
 
 meets : (E : El) {M : Type 1} {𝓤 : Ura M} (𝓛 : Logic 𝓤) (𝓣 : Tables 𝓤 𝓛.H)

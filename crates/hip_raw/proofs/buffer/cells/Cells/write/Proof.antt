@@ -11,41 +11,24 @@ use mir.Val.{Val, vptr, vint, vunit}
 use base.Logic.{SProp, ent, never, id⊢}
 use base.Fml.{Lft, GName, Share, ftrue, fat, flft, fobs, fbor}
 use prog.Wp.{Env, Calls, Loops, WpFn, Tables}
-use types.Logic.{Logic}
-use contract.Monad.{fact}
-use contract.Running.{tables, tables_of}
+use types.{Logic.Logic, Part.whole, Part.sub, SemTy.Body as Borrowed}
+use contract.{Monad.fact, Running.tables, Running.tables_of}
 use sound.WpLaws.{WpFn-mono}
-use types.Kit.{Item, ⋆, ‵, ◌⊛◌, at_ret, ◌$◌, ◌∵◌, !, qed, by, move, keep, use1, use2, split, join, rewrite, fsplit, fsplit3, fjoin, fjoin3, feq_i, feq_l, suffices, frame, done}
-use types.Part.{whole, sub}
-use types.Run.{init, stop, fld, unit_lit, of_opd, assigns_last, first, blocks, exec, returns, enter}
-use types.ByLocal.{alloc_all, pass_all, free_all, look_at, get, get_in, through, sets, env}
-use types.SemTy.{Body as Borrowed}
-use denote.Exit.{yes, no}
-use denote.RattleType.{owns}
-use denote.Memory.{mem}
-use denote.Param.{layout}
-use denote.RawPtr.{Ptr, in_a_block}
-use denote.Ref.{MutBor, MutRef}
-use denote.Builtin.{RefMutOf, unit}
-use denote.Signature.{plain}
+use types.Kit.{Item, ⋆, ‵, ◌⊛◌, at_ret, ◌$◌, ◌∵◌, !, qed, by, move, keep, use1, use2, split, join, rewrite, fsplit, fsplit3, fjoin, fjoin3, feq_i, feq_l, suffices, frame, done, flt_l, flt_i}
+use types.Run.{init, stop, fld, unit_lit, of_opd, assigns_last, first, blocks, exec, returns, enter, bin, size_lit}
+use types.ByLocal.{alloc_all, pass_all, free_all, look_at, get, get_in, through, sets, env, take_at, give_at}
+use denote.{Exit.yes, Exit.no, RattleType.owns, Memory.mem, Param.layout, RawPtr.Ptr, RawPtr.in_a_block, Ref.MutBor, Ref.MutRef, Signature.plain, Triple.Carry.spared, Triple.Entry.on_entry}
+use denote.{Triple.Spec.Meets, Triple.Spec.triple_of, Triple.Table.entered, Triple.Table.run_framed}
+use denote.Builtin.{RefMutOf, unit, usize}
 use denote.Steps.{nothing, opens, closes}
-use denote.Triple.Carry.{spared}
 use denote.Triple.Clauses.{Clauses, Ended, closing}
-use denote.Triple.Entry.{on_entry}
-use denote.Triple.Spec.{Meets, triple_of}
-use denote.Triple.Table.{entered, run_framed}
 use denote.Triple.Walked.{says, needs, Stays, stay_dropped, stay_ref, walk_of, ends_at, Goes-dropped, Goes-ref, walk_Meets}
-use Rattle.std_alloc.proofs.VecSteps.Shapes.{after}
+use Rattle.std_alloc.proofs.{VecSteps.Shapes.after, RawLayout.as_written}
 use Rattle.std_alloc.proofs.RcSteps.{Good, word, word-Good}
 use lib.ListN.{length, set, get_or, length-set}
-use types.Kit.{flt_l, flt_i}
-use types.Run.{bin, size_lit}
-use types.ByLocal.{take_at, give_at}
-use denote.Builtin.{usize}
 use Rattle.std.specs.Prelude.{Some, None}
 use Rattle.core.proofs.mem.Param.{El, R, args, elτ}
 use Rattle.core.proofs.ptr.Rows.{times_below, one_below}
-use Rattle.std_alloc.proofs.RawLayout.{as_written}
 use Rattle.hip_raw.specs.Ownership.{slot, slots, cells_own}
 use Rattle.hip_raw.proofs.PlacesMemory.{Cr, Bs, sz, word_had, value_in, tells, Besides, slot_out, slot_in, slot_forgotten}
 use Rattle.hip_raw.specs.contracts.buffer.cells.Cells.write.Key.{name as #self}
@@ -119,17 +102,8 @@ module _ (E : El) {M : Type 1} {𝓤 : Ura M} (𝓛 : Logic 𝓤) (C : Calls �
   entry : Asks E d base index item → ent 𝓤 (on_entry 𝓛 (ended E).signature (κ, tt) (q, tt) (self, (base, (index, (item, tt)))) (us0, (us1, (us2, (us3, tt))))) (WpFn 𝓤 H C Λ (function E) (us0 ++ (us1 ++ (us2 ++ (us3 ++ [])))) Post)
   entry asked =
       qed 𝓛 ((‵ (flft κ q) ⊛ ‵ ftrue) ∷ ‵ (owns (MutRef (named 0) κ (Cr E) ∷ Bs E ∷ usize ∷ R E ∷ []) (self, (base, (index, (item, tt)))) (us0, (us1, (us2, (us3, tt))))) ∷ []) ∵
-      split ! $ move ! (2 ∷ []) $
-      fsplit ! $
-      fsplit3 ! $ feq_l ! (λ e0.
-      move ! (2 ∷ []) $
-      fsplit ! $
-      word_had ! base.ptr us1 (λ e1.
-      fsplit ! $
-      fsplit ! $ feq_l ! (λ e2. flt_l ! (λ fits_index.
-      fsplit ! $
-      tells E.row E.laws ! item us3 (λ v_item e3 good_item.
-      keep ! (2 ∷ 3 ∷ 4 ∷ 0 ∷ []) $
+      split ! $ move ! (2 ∷ []) $ fsplit ! $ fsplit3 ! $ feq_l ! (λ e0. move ! (2 ∷ []) $ fsplit ! $ word_had ! base.ptr us1 (λ e1.
+      fsplit ! $ fsplit ! $ feq_l ! (λ e2. flt_l ! (λ fits_index. fsplit ! $ tells E.row E.laws ! item us3 (λ v_item e3 good_item. keep ! (2 ∷ 3 ∷ 4 ∷ 0 ∷ []) $
       by ! (subst (λ (ws : List Val × List Val × List Val × List Val). ent 𝓤 (⋆ 𝓛 (Had v_item)) (WpFn 𝓤 H C Λ (function E) (ws.0 ++ (ws.1 ++ (ws.2 ++ (ws.3 ++ [])))) Post)) (λ j. (sym e0 j, sym e1 j, sym e2 j, sym e3 j)) (walk e0 asked fits_index v_item good_item)))))))
 
 meets : (E : El) {M : Type 1} {𝓤 : Ura M} (𝓛 : Logic 𝓤) (𝓣 : Tables 𝓤 𝓛.H)

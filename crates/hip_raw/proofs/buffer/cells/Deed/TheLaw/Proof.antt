@@ -1,11 +1,6 @@
 -- A `&` to a deed holds nothing. Assumes `Logic`. Adapted from the same proof in the crate `circular_buffer` of the kit.
-use denote.RattleType.{RattleType}
-use denote.RawPtr.{RawPtr}
-use denote.Param.Laws.{Laws}
-use denote.Param.Shared.{copy_shared}
-use denote.SharingLaws.{nothing_shr_laws}
-use denote.Struct.Laws.{field_copy}
-use denote.Struct.Lending.{of_Lends, Lends-nothing}
+use denote.{RattleType.RattleType, RawPtr.RawPtr, Param.Laws.Laws, Param.Shared.copy_shared, SharingLaws.nothing_shr_laws, Struct.Laws.field_copy}
+use denote.{Struct.Lending.of_Lends, Struct.Lending.Lends-nothing}
 use Rattle.core.specs.declared.alloc.Allocator.{Ghosts}
 use Rattle.core.specs.contracts.marker.PhantomData as marker
 use Rattle.hip_raw.specs.contracts.buffer.cells.Deed as C

@@ -2,8 +2,7 @@
 -- of a `[T; N]`, so this proof walks the code by hand. Adapted from the same proof in the crate `arrayvec` of the kit.
 use mathlib.Core.Path.{◌≡◌, refl, sym, ap, ◌∙◌}
 use Prim.Native.Nat.{ℕ, ◌*◌, ◌^◌, ◌<◌, ◌≤◌}
-use native.Mathlib.Nat.{mul-le-mul_right}
-use native.Mathlib.Omega.{arith}
+use native.{Mathlib.Nat.mul-le-mul_right, Mathlib.Omega.arith}
 use mathlib.Core.List.{List, [], ◌∷◌, ◌++◌}
 use seplogic.Ra.Ura.{Ura}
 use mir.Syntax.{Fn, named, w64}
@@ -11,41 +10,22 @@ use mir.MapTy.{inst_fn}
 use mir.Val.{Val, vptr, vint}
 use base.Logic.{SProp, ent, sep, ex}
 use base.Fml.{Fml, Lft, GName, Share, ftrue, flft}
-use prog.Memory.{Memory, size}
-use prog.Routine.{Routine}
+use prog.{Memory.Memory, Memory.size, Routine.Routine}
 use prog.Wp.{Calls, Loops, WpFn, Tables}
-use types.Logic.{Logic, sem}
-use types.Mut.{open_ref}
+use types.{Logic.Logic, Logic.sem, Mut.open_ref, SemTy.cells, Part.agg}
 use contract.BorrowLft.{◌⊑◌}
-use contract.Lifetimes.{AllOutlive}
-use contract.Monad.{Fun}
-use contract.Running.{tables, tables_of}
+use contract.{Lifetimes.AllOutlive, Monad.Fun, Running.tables, Running.tables_of}
 use sound.WpLaws.{WpFn-mono}
 use types.Kit.{Item, ‵, ◌⊛◌, raw, given, some, later, ◌$◌, ◌∵◌, !, qed, by, move, keep, drop, split, split3, join, learn, fsplit, fsplit3, fjoin, use1, use2, await, pick, suffices, frame, done, updating, group, now, show, rewrite}
-use denote.Array.{Array}
-use denote.Builtin.{RefMutOf, usize}
-use denote.Exit.{yes, no}
-use denote.Follow.{follows}
-use denote.Memory.{mem}
-use denote.Param.{number, layout}
-use denote.Param.Laws.{Laws}
-use denote.Plain.{uint_vals, uint_Tells}
-use denote.RattleType.{RattleType, owns}
+use denote.{Array.Array, Builtin.RefMutOf, Builtin.usize, Exit.yes, Exit.no, Follow.follows, Memory.mem, Param.number, Param.layout, Param.Laws.Laws, Plain.uint_vals, Plain.uint_Tells}
+use denote.{RattleType.RattleType, RattleType.owns, Signature.plain, Steps.nothing, Triple.Entry.on_entry, Triple.Spec.Meets, Triple.Spec.triple_of, Triple.Table.entered, FollowSlice.lends_Elements}
 use denote.Ref.{MutBor, MutRef, mut_vals, mut_Tells}
-use denote.Signature.{plain}
-use denote.Steps.{nothing}
 use denote.Triple.Clauses.{Clauses, Ended, closing}
-use denote.Triple.Entry.{on_entry}
-use denote.Triple.Spec.{Meets, triple_of}
-use denote.Triple.Table.{entered}
 use denote.Triple.Walked.{says, Stays, stay_dropped, walk_of, ends_at, walked, Goes-dropped, Goes-spent_ref, walk_Meets}
 use lib.ListN.{length, take, drop as drop_list, take-append-drop, length-drop, length-append}
 use lib.Seq.{take_all}
-use types.SemTy.{cells}
-use types.Part.{agg}
 use types.Run.{stop, fld, addr, and_then, no_more, returns, enter}
 use types.ByLocal.{alloc_all, pass_all, free_all, look_at, get, through, sets}
-use denote.FollowSlice.{lends_Elements}
 use denote.Slice.{MutSlice, Room, slice_val}
 use borrow.Table.Elements.{at, cut_app, join_app, length-take-le}
 use Rattle.std.specs.List.{refill}
