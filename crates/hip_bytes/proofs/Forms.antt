@@ -68,15 +68,6 @@ from_le-front (a ∷ b ∷ c ∷ d ∷ e ∷ more) rest l = absurd (omega arith)
 pub form-of : (head items : List ℕ) → length head ≡ 4 → ((i : ℕ) → get_or head i 0 < 256) → length items ≡ from_le_bytes w32 head → borsh_form items ≡ head ++ items
 form-of head items l small says = ap (λ front. front ++ items) (le_bytes_4 head (length items) l small says)
 
--- a read that ended within the first four bytes of a form
-pub read-head : {T : Type 0} (shown : T → List ℕ) (old new : Option (List ℕ)) (fault : BorshFault) → (fault ≡ Memory → ⊥)
-    → MovesIn shown 4 old new (Err fault) → BorshReads old new (Err fault)
-read-head shown old new Memory never moved = absurd (never refl)
-read-head shown old new TooLong never moved = moved
-read-head shown old new Truncated never (taken, consumed, short, ended) = (taken, consumed, omega arith, ended)
-read-head shown old new Io never (taken, consumed, short) = (taken, consumed, omega arith)
-read-head shown old new NotUtf8 never moved = moved
-
 unfinished : (head taken : List ℕ) (len : ℕ) → length head ≡ 4 → len ≡ from_le_bytes w32 head → length taken < len → IsUnfinished (head ++ taken)
 unfinished head taken len l says short = omega (arith, length-append head taken, from_le-front head taken l)
 

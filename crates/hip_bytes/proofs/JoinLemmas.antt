@@ -1,15 +1,14 @@
 -- The answers and the costs of joins.
-use Rattle.std.proofs.Common.{◌≡◌, ℕ, ◌+◌, ◌*◌, ◌^◌, ◌<◌, ◌≤◌, Bool, true, false, List, length, Option, Result, Ok, Err, sym, subst, arith}
-use Rattle.std.specs.List.{join_by}
+use Rattle.std.proofs.Common.{◌≡◌, ℕ, ◌*◌, ◌^◌, ◌<◌, ◌≤◌, Bool, true, false, List, length, Result, Ok, Err, sym, subst, arith}
 use Rattle.std.specs.Result.{IsErrAnd}
 use Rattle.hip_raw.specs.Held.{Held}
 use Rattle.hip_raw.specs.Meter.{RisesAtLeast, RisesAtMost, count_from, unless_shared}
 use Rattle.hip_bytes.specs.Handle.{Handle}
-use Rattle.hip_bytes.specs.Join.{join_cost, GivesFirst}
+use Rattle.hip_bytes.specs.Join.{join_cost}
 use Rattle.hip_bytes.specs.Kinds.{by_length, HasCapacity, Holds}
-use Rattle.hip_bytes.specs.Made.{JoinAnswers, GatherAnswers, GatherCosts}
+use Rattle.hip_bytes.specs.Made.{JoinAnswers}
 use Rattle.hip_bytes.specs.declared.grow_fault.GrowFault.{GrowFault}
-use Rattle.hip_bytes.specs.declared.grow_fault.GrowFault.TheVariants.{Memory, TooLong}
+use Rattle.hip_bytes.specs.declared.grow_fault.GrowFault.TheVariants.{Memory}
 use Rattle.hip_bytes.specs.declared.kind.Kind.TheVariants.{Allocated}
 use Rattle.hip_bytes.specs.declared.kind.TheConstants.{INLINE_CAPACITY}
 use Rattle.hip_bytes.proofs.Pushes.{is_long}
@@ -49,26 +48,5 @@ module _ (old mid none apart n : ℕ) (empty : none ≡ 0) (all : RisesAtMost ol
   counted_whole true new len size own same last long = record { never_falls = omega arith; at_most = omega arith }
   counted_whole false new len size own same last long = record { never_falls = omega arith; at_most = omega arith }
 
-  pub counted_refused : (shares : Bool) → RisesAtMost none apart (n + INLINE_CAPACITY) → RisesAtMost old mid (join_cost shares n)
-  counted_refused true own = record { never_falls = all.never_falls; at_most = omega arith }
-  counted_refused false own = record { never_falls = all.never_falls; at_most = omega arith }
-
-  pub counted_gathered : (shares : Bool) (new size : ℕ) → RisesAtMost none apart (size + INLINE_CAPACITY) → RisesAtMost mid new (unless_shared shares size) → size ≡ n → RisesAtMost old new (join_cost shares n)
-  counted_gathered true new size own last long = record { never_falls = omega arith; at_most = omega arith }
-  counted_gathered false new size own last long = record { never_falls = omega arith; at_most = omega arith }
-
 pub copied_whole : (old mid new none apart len n : ℕ) → none ≡ 0 → RisesAtLeast none apart len → mid ≡ count_from old apart → mid ≤ new → len ≡ n → RisesAtLeast old new n
 copied_whole old mid new none apart len n empty own exact more same = omega arith
-
--- joins of the pieces that an iterator gives
-module _ {I T A : Type 0} (into : I → T → Type 0) (steps : T → Option A → T → Type 0) (pieces : I) (shown : A → List ℕ) (sep : List ℕ) where
-  pub gather_refused : (r : Result Handle GrowFault) (fault : GrowFault) → IsErrAnd r (λ f. f ≡ fault) → (fault ≡ TooLong → GivesFirst into steps pieces (λ xs. 2 ^ 64 ≤ length (join_by shown sep xs)))
-      → (fault ≡ Memory → GivesFirst into steps pieces (λ xs. INLINE_CAPACITY < length (join_by shown sep xs))) → GatherAnswers shown into steps pieces sep r
-  gather_refused (Ok handle) fault is long memory = absurd is
-  gather_refused (Err Memory) fault is long memory = memory (sym is)
-  gather_refused (Err TooLong) fault is long memory = long (sym is)
-
-  pub refused_costs : (shares : Bool) (old new : ℕ) (r : Result Handle GrowFault) (fault : GrowFault) → IsErrAnd r (λ f. f ≡ fault) → GivesFirst into steps pieces (λ xs. RisesAtMost old new (join_cost shares (length (join_by shown sep xs))))
-      → GatherCosts shares shown into steps pieces sep r old new
-  refused_costs shares old new (Ok handle) fault is costs = absurd is
-  refused_costs shares old new (Err f) fault is costs = costs

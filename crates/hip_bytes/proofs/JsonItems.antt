@@ -1,7 +1,7 @@
 -- The items of an array, one by one.
-use Rattle.std.proofs.Common.{◌≡◌, ◌∙◌, ℕ, ◌+◌, ◌<◌, ◌≤◌, List, [], ◌∷◌, ◌++◌, Some, None, length, drop, get_or, map, set, suc, take, ap, ap₂, arith, length-take-le, refl, sym, take_all}
+use Rattle.std.proofs.Common.{◌≡◌, ◌∙◌, ℕ, ◌+◌, ◌<◌, ◌≤◌, List, [], ◌∷◌, ◌++◌, Some, None, length, drop, get_or, map, suc, take, ap, ap₂, arith, length-take-le, refl, sym, take_all}
 use Rattle.std.proofs.Math.Seq.{drop-cons}
-use Rattle.std.proofs.lemmas.List.{length-map, map-append, take-append-drop, take_more, take_more_set}
+use Rattle.std.proofs.lemmas.List.{length-map, map-append, take-append-drop, take_more}
 use Rattle.serde_json.specs.Data.{array}
 use Rattle.serde_json.specs.View.{items_of, view}
 use Rattle.serde_json.specs.declared.value.Value.{Value}
@@ -25,12 +25,6 @@ read-more values bytes at byte value within is reads so_far =
     ∙ ap (λ front. front ++ byte_of (view value) ∷ []) so_far
     ∙ ap (λ item. map Some bytes ++ item ∷ []) reads
     ∙ sym (map-append Some bytes (byte ∷ []))
-
-pub filled-more : (values : List Value) (room : List ℕ) (at byte : ℕ) (value : Value) → at < length values → at < length room → value ≡ get_or values at value
-    → byte_of (view value) ≡ Some byte → read_items (take at values) ≡ map Some (take at room)
-    → read_items (take (at + 1) values) ≡ map Some (take (at + 1) (set room at byte))
-filled-more values room at byte value within fits is reads so_far =
-    read-more values (take at room) at byte value within is reads so_far ∙ ap (λ bytes. map Some bytes) (sym (take_more_set room at byte fits))
 
 -- the next is none
 pub first-other : (values : List Value) (bytes : List ℕ) (at : ℕ) (value : Value) → at < length values → value ≡ get_or values at value

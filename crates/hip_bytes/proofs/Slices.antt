@@ -1,15 +1,11 @@
 -- Lemmas on slices of slices.
-use Rattle.std.proofs.Common.{◌≡◌, ◌∙◌, ℕ, ◌+◌, ◌-◌, ◌≤◌, Bool, true, false, nat_le, if◌then◌else◌, List, drop, take, length, length-drop, length-take-le, slice_range, Option, Some, None, MatchOption, Result, Ok, Err, is_none, refl, sym, ap, ap₂, subst, arith}
+use Rattle.std.proofs.Common.{◌≡◌, ◌∙◌, ℕ, ◌+◌, ◌-◌, ◌≤◌, Bool, true, false, nat_le, if◌then◌else◌, List, drop, take, length, length-drop, length-take-le, slice_range, Option, Some, None, MatchOption, Result, Ok, Err, refl, sym, ap, arith}
 use Rattle.std.proofs.lemmas.Bool.{le-leb, le-ltb, leb-true}
 use Rattle.std.proofs.lemmas.List.{drop-drop, drop-take, take-take}
 use Rattle.std.specs.Range.Bound.{start_index, end_index}
 use Rattle.std.specs.declared.ops.Bound.{Bound}
-use Rattle.hip_raw.specs.Meter.{RisesAtMost}
-use Rattle.hip_bytes.specs.Cost.{cut_cost}
-use Rattle.hip_bytes.specs.Handle.{Handle}
 use Rattle.hip_bytes.specs.Kinds.{by_length, cut_kind}
-use Rattle.hip_bytes.specs.Range.{range_fault, slice_fault, slice_of}
-use Rattle.hip_bytes.specs.Slice.{slice_cost}
+use Rattle.hip_bytes.specs.Range.{range_fault}
 use Rattle.hip_bytes.specs.declared.slice_error.SliceErrorKind.{SliceErrorKind}
 use Rattle.hip_bytes.specs.declared.kind.Kind.{Kind}
 use Rattle.hip_bytes.specs.declared.kind.Kind.TheVariants.{Inline, Borrowed, Allocated}
@@ -57,18 +53,3 @@ abbrev pub Found : Bound ℕ → Bound ℕ → ℕ → ℕ → ℕ → Option Sl
 Found low high len start end fault =
     let range : Result (ℕ × ℕ) SliceErrorKind = Ok (start, end) in
     MatchOption fault (range ≡ Ok (start_index low, end_index high len)) (λ kind. range ≡ Err kind)
-
-module _ (source : Handle) (low high : Bound ℕ) (len start end : ℕ) (size : len ≡ length source.items) (found : Found low high len start end (slice_fault low high len)) where
-  pub sound : slice_fault low high (length source.items) ≡ None
-  sound = subst (λ k. slice_fault low high k ≡ None) size (found-ends _ (slice_fault low high len) refl found).0
-
-  pub is_slice : slice_range source.items start end ≡ slice_of low high source.items
-  is_slice =
-      let ends = found-ends _ (slice_fault low high len) refl found in
-      ap₂ (slice_range source.items) ends.1 (ends.2 ∙ ap (end_index high) size)
-
-  pub costs_slice : (shares : Bool) (m m' : ℕ) → start ≤ end → end ≤ len → RisesAtMost m m' (cut_cost shares source.kind (end - start)) → RisesAtMost m m' (slice_cost shares source low high)
-  costs_slice shares m m' ordered within counted =
-      let long = sym (length-part source.items start end ordered (omega arith)) ∙ ap length is_slice in
-      subst (λ fault. RisesAtMost m m' (if is_none fault then cut_cost shares source.kind (length (slice_of low high source.items)) else 0)) (sym sound)
-      (subst (λ k. RisesAtMost m m' (cut_cost shares source.kind k)) long counted)

@@ -1,9 +1,8 @@
 -- The answers of calls that write over the bytes, by where they lay.
-use Rattle.std.proofs.Common.{◌≡◌, ◌∙◌, ℕ, ◌<◌, ◌≤◌, Bool, true, false, List, length, drop, refl, sym, ap, subst, le_refl, take_all, arith, Option, Some, None, Result, Ok, Err}
+use Rattle.std.proofs.Common.{◌≡◌, ◌∙◌, ℕ, ◌<◌, ◌≤◌, Bool, true, false, List, length, drop, refl, sym, ap, subst, le_refl, take_all, arith, Option}
 use Rattle.std.proofs.lemmas.Bool.{false≢true, true≢false}
 use Rattle.std.proofs.lemmas.List.{take-append-le}
-use Rattle.std.specs.Prelude.{IfNone, IfOk, IfSome, IsOk, IsSome, OnErr, OnSome}
-use Rattle.std.specs.Result.{result_ok}
+use Rattle.std.specs.Prelude.{IfNone, IfSome, IsSome, OnSome}
 use Rattle.std.specs.List.{refill}
 use Rattle.hip_raw.specs.Held.{Held}
 use Rattle.hip_raw.specs.Meter.{RisesAtMost, times_copied}
@@ -87,23 +86,3 @@ abbrev pub Lends : {R : Type 0} → (List ℕ → R → List ℕ → Type 0) →
 Lends P shares old new r =
     IfSome r (λ answer. P old.items answer new.items) × (length new.items ≡ length old.items) × (new.kind ≡ old.kind) × (new.capacity ≡ old.capacity)
     × (old.kind ≡ Inline → IsSome r) × OnSome r (old.kind ≡ Borrowed → ⊥) × (shares ≡ false → old.kind ≡ Allocated → IsSome r) × IfNone r (new ≡ old)
-
-pub lends-inline : {R : Type 0} (P : List ℕ → R → List ℕ → Type 0) (shares : Bool) (xs new : List ℕ) (old : Handle) (answer : R) → record { kind = Inline; items = xs; capacity = INLINE_CAPACITY } ≡ old
-    → P xs answer new → length new ≡ length xs → Lends P shares old (record { kind = Inline; items = new; capacity = INLINE_CAPACITY }) (Some answer)
-lends-inline P shares xs new old answer view ran size =
-    subst (λ h. Lends P shares h (record { kind = Inline; items = new; capacity = INLINE_CAPACITY }) (Some answer)) view
-    (ran, size, refl, refl, λ own. refl, λ other. absurd (cc), λ sole own. refl, tt)
-
-pub lends-none : {R : Type 0} (P : List ℕ → R → List ℕ → Type 0) (shares : Bool) (xs : List ℕ) (old : Handle) → record { kind = Borrowed; items = xs; capacity = length xs } ≡ old
-    → Lends P shares old old None
-lends-none P shares xs old view =
-    subst (λ h. Lends P shares h h None) view (tt, refl, refl, refl, λ other. absurd (cc), tt, λ sole other. absurd (cc), refl)
-
-pub lends-owner : {R F : Type 0} (P : List ℕ → R → List ℕ → Type 0) (shares : Bool) (held held' : Held) (old : Handle) (q : Result R F) → owner_handle held ≡ old
-    → IfOk q (λ answer. P held.items answer held'.items) → length held'.items ≡ length held.items → held'.capacity ≡ held.capacity → (shares ≡ false → IsOk q)
-    → OnErr q (held' ≡ held) → Lends P shares old (owner_handle held') (result_ok q)
-lends-owner P shares held held' old (Ok answer) view ran size room always err =
-    subst (λ h. Lends P shares h (owner_handle held') (Some answer)) view (ran, size, refl, room, λ other. absurd (cc), λ other. absurd (cc), λ sole own. refl, tt)
-lends-owner P shares held held' old (Err back) view ran size room always err =
-    subst (λ h. Lends P shares h (owner_handle held') None) view
-    (tt, size, refl, room, λ other. absurd (cc), tt, λ sole own. absurd (false≢true (always sole)), ap owner_handle err)

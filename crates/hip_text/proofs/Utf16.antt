@@ -8,7 +8,7 @@ use Rattle.std.specs.Char.Escape.{encode_utf16}
 use Rattle.std.specs.Char.Utf16.{utf16_chars, utf16_lossy_chars, has_unpaired_surrogate, lone_unit_char, surrogate_pair_char}
 use Rattle.std.specs.List.{flat_map, list_any}
 use Rattle.std.specs.Option.{unwrap_or}
-use Rattle.hip_text.specs.Utf16.{IsBehind, IsFirstUnpaired, IsUnpaired, Spells}
+use Rattle.hip_text.specs.Utf16.{IsBehind, IsUnpaired, Spells}
 
 one-unit : (c : ℕ) → c < 0x10000 → length (encode_utf16 c) ≡ 1
 one-unit c small = rw (lt-ltb c 0x10000 small) refl
@@ -52,9 +52,6 @@ abbrev pub SpellsTo : List ℕ → List ℕ → Type 0
 SpellsTo units rest =
     (cs : List ℕ) × (utf16_chars units ≡ map Some cs ++ utf16_chars rest) × (length units ≡ length (flat_map encode_utf16 cs) + length rest)
 
-pub spells-none : (units : List ℕ) → SpellsTo units units
-spells-none units = ([], refl, omega arith)
-
 pub spells-more : (units rest : List ℕ) (u : ℕ) (us later : List ℕ) → SpellsTo units rest → rest ≡ u ∷ us → IsBehind u us later → SpellsTo units later
 spells-more units rest u us later so_far goes_on behind = (
   so_far.0 ++ behind.0 ∷ [],
@@ -65,10 +62,6 @@ spells-more units rest u us later so_far goes_on behind = (
 pub spells-all : (units rest : List ℕ) → SpellsTo units rest → length rest ≡ 0 → (cs : List ℕ) × Spells units cs
 spells-all units [] so_far ends = (so_far.0, so_far.1 ∙ ap (λ xs. map Some so_far.0 ++ xs) utf16_chars-nil ∙ append-nil (map Some so_far.0))
 spells-all units (u ∷ us) so_far ends = absurd (omega (arith, ends))
-
-pub spells-until : (units rest : List ℕ) (u : ℕ) (us : List ℕ) (at : ℕ) → SpellsTo units rest → rest ≡ u ∷ us → IsUnpaired u us → at ≡ length units - length rest → IsFirstUnpaired units at
-spells-until units rest u us at so_far goes_on unpaired is_at =
-    (so_far.0, unpaired.0, so_far.1 ∙ ap (λ xs. map Some so_far.0 ++ xs) (ap utf16_chars goes_on ∙ unpaired.1), omega (arith, is_at, so_far.2))
 
 -- where no surrogate is without a partner, no character is U+FFFD in place of one
 none-replaced : (found : List (Option ℕ)) → list_any (λ o. not (is_some o)) found ≡ false → found ≡ map Some (map (λ o. unwrap_or o 0xFFFD) found)

@@ -1,16 +1,11 @@
 -- Lemmas on the amortised cost of runs.
 use Rattle.std.proofs.Common.{◌≡◌, ◌∙◌, ℕ, zero, suc, ◌+◌, ◌*◌, ◌<◌, ◌≤◌, Bool, false, List, [], ◌∷◌, ◌++◌, length, take, get_or, slice_set, Option, Some, None, MatchOption, refl, ap, subst, sym, arith}
 use Rattle.std.proofs.lemmas.List.{take_more}
-use Rattle.hip_bytes.specs.Cost.{handle_pot, PushIsPaid}
-use Rattle.hip_bytes.specs.Meter.{RisesAtMost}
-use Rattle.hip_bytes.specs.declared.kind.Kind.{Kind}
+use Rattle.hip_bytes.specs.{Cost.handle_pot, Cost.PushIsPaid, Meter.RisesAtMost, declared.kind.Kind.Kind}
 use Rattle.hip_bytes.specs.declared.kind.Kind.TheVariants.{Inline, Borrowed, Allocated}
 use Rattle.hipstr.proofs.InPlace.{InPlace}
 use Rattle.hipstr.specs.Amortised.{added_to, pots, pushed_onto_owner, rises, CostsAmortised, PushesArePaid, RunAmortised}
-use Rattle.hipstr.specs.Slot.{SlotState, slot_at}
-use Rattle.hipstr.specs.Step.{Step, Costs}
-use Rattle.hipstr.specs.declared.command.Command.{Command}
-use Rattle.hipstr.specs.declared.command.Answer.{Answer}
+use Rattle.hipstr.specs.{Slot.SlotState, Slot.slot_at, Step.Step, Step.Costs, declared.command.Command.Command, declared.command.Answer.Answer}
 
 -- the pots grow by no more than they rise
 pub pots-rise : (old new : List SlotState) → pots new ≤ pots old + rises old new

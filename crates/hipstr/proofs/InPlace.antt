@@ -1,25 +1,17 @@
 -- Commands that are a call on one slot, which changes where it stands.
 use Rattle.std.proofs.Common.{◌≡◌, ◌∙◌, ℕ, ◌<◌, inl, inr, Bool, true, false, List, length, map, max, get_or, slice_set, Option, Some, None, Result, Ok, Err, MatchOption, ap, refl, subst, sym}
-use Rattle.std.specs.Borrow.{Bor}
-use Rattle.std.specs.Char.{to_ascii_lowercase, to_ascii_uppercase}
-use Rattle.std.specs.Option.{option_or}
+use Rattle.std.specs.{Borrow.Bor, Char.to_ascii_lowercase, Char.to_ascii_uppercase, Option.option_or}
 use Rattle.hip_bytes.specs.Change.{IsPushed, IsRewritten, IsShortened, IsShrunk}
 use Rattle.hip_bytes.specs.Cost.{owned_cost, push_cost, shortened_cost, shrink_cost, write_cost, CutNeedsMemory, OwnNeedsMemory, PushNeedsMemory, WriteNeedsMemory}
-use Rattle.hip_bytes.specs.Handle.{Handle}
-use Rattle.hip_bytes.specs.Made.{IsOwned}
-use Rattle.hip_bytes.specs.Meter.{RisesAtMost}
+use Rattle.hip_bytes.specs.{Handle.Handle, Made.IsOwned, Meter.RisesAtMost}
 use Rattle.hipstr.proofs.Places.{put-is, state-there}
 use Rattle.hipstr.proofs.Steps.{as-it-was, faulted, neither, no-other, performed, replaced, slot-there}
-use Rattle.hipstr.specs.Reason.{answer_of}
+use Rattle.hipstr.specs.{Reason.answer_of, declared.command.Answer.Answer, declared.command.Command.Command, declared.command.Reason.Reason, declared.command.Reason.TheVariants.Memory}
+use Rattle.hipstr.specs.{declared.pool.Slot.Slot}
 use Rattle.hipstr.specs.Slot.{Replaces, SlotState, slot_at, state_at, state_of, text_at}
 use Rattle.hipstr.specs.Step.{IsHalfMutated, Performs, SlotAnswers, SlotMutates, SlotPops, Step, addition_fault, cost_of, end_fault, fault_of, mutate_cost, not_text_fault, set_fault, slot_fault, text_fault, unless}
-use Rattle.hipstr.specs.declared.command.Answer.{Answer}
 use Rattle.hipstr.specs.declared.command.Answer.TheVariants.{Byte, Char, Done, Nothing, Refused}
-use Rattle.hipstr.specs.declared.command.Command.{Command}
 use Rattle.hipstr.specs.declared.command.Command.TheVariants.{Bytes, Clear, Lower, Mutate, Owned, Pop, Push, Set, Shrink, Text, Truncate, Upper}
-use Rattle.hipstr.specs.declared.command.Reason.{Reason}
-use Rattle.hipstr.specs.declared.command.Reason.TheVariants.{Memory}
-use Rattle.hipstr.specs.declared.pool.Slot.{Slot}
 
 -- the slot at t became another, and no other slot did
 pub record InPlace (old new : List SlotState) (t : ℕ) (was slot : SlotState) : Type 0 where

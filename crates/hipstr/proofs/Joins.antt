@@ -2,27 +2,18 @@
 use Rattle.std.proofs.Common.{◌≡◌, ◌∙◌, ℕ, ◌+◌, ◌<◌, ◌≤◌, ◌^◌, ◌↔◌, ◌⊎◌, inl, inr, Bool, true, false, List, Option, Some, None, Result, Ok, Err, IfOk, length, map, take, drop, nat_le, slice_set, refl, ap, sym, subst, arith, rules}
 use Rattle.std.proofs.lemmas.Bool.Decides.{leb_tells}
 use Rattle.std.proofs.lemmas.List.{get_or-drop, length-drop, take-take}
-use Rattle.std.specs.Borrow.{Bor}
-use Rattle.std.specs.List.{join_by}
-use Rattle.hip_bytes.specs.Handle.{Handle}
+use Rattle.std.specs.{Borrow.Bor, List.join_by, Option.option_or}
+use Rattle.hip_bytes.specs.{Handle.Handle, Kinds.HoldsByLength, Made.JoinAnswers, declared.grow_fault.GrowFault.GrowFault}
+use Rattle.hip_bytes.specs.{declared.grow_fault.GrowFault.TheVariants.Memory, declared.grow_fault.GrowFault.TheVariants.TooLong, Meter.RisesAtMost}
 use Rattle.hip_bytes.specs.Join.{gap_at, join_cost, joined}
-use Rattle.hip_bytes.specs.Kinds.{HoldsByLength}
-use Rattle.hip_bytes.specs.Made.{JoinAnswers}
-use Rattle.hip_bytes.specs.declared.grow_fault.GrowFault.{GrowFault}
-use Rattle.hip_bytes.specs.declared.grow_fault.GrowFault.TheVariants.{Memory, TooLong}
 use Rattle.hip_bytes.proofs.Joins.{joined-map, length-joined-take_more, length-joined-take}
 use Rattle.hipstr.specs.Slot.{SlotState, empty_slot, slot_at}
 use Rattle.hipstr.specs.Step.{Step, cost_of, fault_of, items_of, joined_slots, length_fault, slot_fault, slots_fault, unless}
-use Rattle.hipstr.specs.Reason.{grow_reason_of}
-use Rattle.hipstr.specs.declared.command.Answer.{Answer}
-use Rattle.hipstr.specs.declared.command.Answer.TheVariants.{Done, Refused}
-use Rattle.hipstr.specs.declared.command.Command.TheVariants.{Join}
-use Rattle.hipstr.specs.declared.command.Reason.{Reason}
-use Rattle.hipstr.specs.declared.command.Reason.TheVariants.{Memory as no_memory, TooLong as no_length}
+use Rattle.hipstr.specs.{Reason.grow_reason_of, declared.command.Answer.Answer, declared.command.Answer.TheVariants.Done, declared.command.Answer.TheVariants.Refused}
+use Rattle.hipstr.specs.{declared.command.Command.TheVariants.Join, declared.command.Reason.Reason}
+use Rattle.hipstr.specs.{declared.command.Reason.TheVariants.Memory as no_memory, declared.command.Reason.TheVariants.TooLong as no_length}
 use Rattle.hipstr.proofs.Places.{placed, short-enough, too-long}
 use Rattle.hipstr.proofs.Steps.{faulted, performed}
-use Rattle.hip_bytes.specs.Meter.{RisesAtMost}
-use Rattle.std.specs.Option.{option_or}
 
 -- one slot more
 pub length-joined_slots-next : (slots : List SlotState) (first i : ℕ) (sep : List ℕ) → first + i < length slots

@@ -2,18 +2,12 @@
 use Rattle.std.proofs.Common.{◌≡◌, ◌∙◌, ℕ, ◌-◌, ◌≤◌, Bool, true, false, List, [], ◌∷◌, length, Option, Some, None, MatchOption, if◌then◌else◌, ap, refl, subst, sym, arith}
 use Rattle.std.specs.Prelude.{is_none}
 use Rattle.hip_bytes.proofs.Costs.{shared_clone_is_little, shared_part_is_little}
-use Rattle.hip_bytes.specs.Cost.{clone_cost, cut_cost}
-use Rattle.hip_bytes.specs.Handle.{Handle}
-use Rattle.hip_bytes.specs.Range.{slice_of}
-use Rattle.hip_bytes.specs.declared.kind.Kind.{Kind}
+use Rattle.hip_bytes.specs.{Cost.clone_cost, Cost.cut_cost, Handle.Handle, Range.slice_of, declared.kind.Kind.Kind}
 use Rattle.hip_cuts.proofs.Costs.{part-little, parts_little}
 use Rattle.hip_cuts.specs.Piece.{IsLittle, part_cost, parts_cost}
-use Rattle.hipstr.specs.Little.{CopiesLittle}
-use Rattle.hipstr.specs.Slot.{SlotState, slot_at}
+use Rattle.hipstr.specs.{Little.CopiesLittle, Slot.SlotState, Slot.slot_at, declared.command.Command.Command, declared.command.Reason.Reason}
 use Rattle.hipstr.specs.Step.{Costs, TrimsTo, TrimsMatchesTo, copies_of, drawn_of, fault_of, option_cost, parted_slot, stripped_slot}
-use Rattle.hipstr.specs.declared.command.Command.{Command}
 use Rattle.hipstr.specs.declared.command.Command.TheVariants.{Clone, Slice, Trim, TrimMatches, Strip, Pieces, Once}
-use Rattle.hipstr.specs.declared.command.Reason.{Reason}
 
 -- one part and one clone cost at most 23 bytes
 pub one_part : (shares : Bool) → shares ≡ true → (kind : Kind) (len : ℕ) → cut_cost shares kind len ≤ 23

@@ -1,21 +1,12 @@
 -- Lemmas on the parts that a script draws: in the spare slots, and then in their own.
 use Rattle.std.proofs.Common.{◌≡◌, ◌∙◌, ℕ, zero, suc, ◌+◌, ◌-◌, ◌<◌, ◌≤◌, inl, inr, Bool, true, false, List, [], ◌∷◌, ◌++◌, length, map, take, drop, replicate, slice_set, slice_range, get_or, Option, Some, None, Result, Ok, Err, ap, refl, subst, sym, arith, drop-drop, length-take-le}
-use Rattle.std.proofs.Math.ListN.{drop_of_length-le}
+use Rattle.std.proofs.{Math.ListN.drop_of_length-le, lemmas.List.Edits.sets-eq, Math.Seq.sets, lemmas.Bool.false≢true}
 use Rattle.std.proofs.lemmas.List.{map-append, take-map, drop-map, append-nil, append_assoc, length-append, length-map, length-replicate, length-set, length-take}
-use Rattle.std.proofs.lemmas.List.Edits.{sets-eq}
-use Rattle.std.proofs.Math.Seq.{sets}
-use Rattle.std.proofs.lemmas.Bool.{false≢true}
 use borrow.Rule.Slice.PartMut.{put_mid}
-use Rattle.hip_bytes.specs.Cost.{CutNeedsMemory}
-use Rattle.hip_bytes.specs.Handle.{Handle}
-use Rattle.hip_bytes.specs.Made.{CutAnswers}
-use Rattle.hip_bytes.specs.Meter.{RisesAtMost}
-use Rattle.hip_bytes.specs.declared.kind.Kind.{Kind}
-use Rattle.hip_cuts.specs.Piece.{IsPartAt, Left, part_cost, parts_cost, FirstPiece, FirstCosts, LastPiece, LastCosts}
+use Rattle.hip_bytes.specs.{Cost.CutNeedsMemory, Handle.Handle, Made.CutAnswers, Meter.RisesAtMost, declared.kind.Kind.Kind}
+use Rattle.hip_cuts.specs.Piece.{IsPartAt, Left, part_cost, parts_cost, LastPiece, LastCosts}
 use Rattle.hip_match.proofs.DrawLemmas.{TakesEnd-back}
-use Rattle.hip_match.specs.Draw.{draw, but_last}
-use Rattle.hip_match.specs.declared.draw.End.{End}
-use Rattle.hip_match.specs.declared.draw.End.TheVariants.{Front, Back}
+use Rattle.hip_match.specs.{Draw.draw, Draw.but_last, declared.draw.End.End, declared.draw.End.TheVariants.Front, declared.draw.End.TheVariants.Back}
 use Rattle.hipstr.proofs.Places.{placed}
 use Rattle.hipstr.specs.Cut.{PutsParts, SomeNeedsMemory, has_back}
 use Rattle.hipstr.specs.Parts.{DrawsPart, HoldParts, put_all}
@@ -27,17 +18,6 @@ first-of r s l m same = ap (λ (l : List (ℕ × ℕ)). head l) same where
   head : List (ℕ × ℕ) → ℕ × ℕ
   head [] = r
   head (x ∷ l) = x
-
-pub draws-front : {E : Type 0} (shares : Bool) (old new : Left) (result : Option (Result Handle E)) (before after : ℕ)
-    → FirstPiece old result new → FirstCosts shares old result new before after → DrawsPart shares Front old result new before after
-draws-front shares old new None before after first costs = (first.0, costs)
-draws-front shares old new (Some part) before after first costs = (
-  first.0,
-  λ script. ap (λ (l : List (ℕ × ℕ)). draw l (Front ∷ script)) first.1,
-  first.3,
-  subst (λ (range : ℕ × ℕ). RisesAtMost before after (part_cost shares old.source range))
-      (first-of costs.0 first.0 new.rest new.rest (sym costs.1 ∙ first.1)) costs.2,
-)
 
 pub draws-back : {E : Type 0} (shares : Bool) (old new : Left) (result : Option (Result Handle E)) (before after : ℕ)
     → LastPiece old result new → LastCosts shares old result new before after → DrawsPart shares Back old result new before after

@@ -1,34 +1,19 @@
 -- Lemmas on the places of a pool, for the methods that put a slot into one.
 use Rattle.std.proofs.Common.{◌≡◌, ◌∙◌, ◌*◌, ◌^◌, ◌<◌, ◌≤◌, ◌↔◌, if◌then◌else◌, List, [], ℕ, Bool, false, true, length, map, get_or, replicate, slice_set, ap, refl, subst, sym, arith, rules, Option, Some, None, IfSome, IsSome, Result, Ok, Err, MatchOption}
-use Rattle.std.proofs.lemmas.Grind.{common_steps}
+use Rattle.std.proofs.{lemmas.Grind.common_steps, Math.Dec.ltb}
 use Rattle.std.proofs.lemmas.List.{get_or-map, length-map, length-set, map-set, set-get_or}
-use Rattle.hip_bytes.specs.Handle.{Handle}
-use Rattle.hip_bytes.specs.Kinds.{IsEmptyInline}
-use Rattle.hip_bytes.specs.declared.kind.Kind.{Kind}
-use Rattle.hip_bytes.specs.declared.kind.Kind.TheVariants.{Inline}
-use Rattle.hip_cuts.specs.Cut.{PartsIfAny}
+use Rattle.hip_bytes.specs.{Handle.Handle, Kinds.IsEmptyInline, declared.kind.Kind.Kind, declared.kind.Kind.TheVariants.Inline, Made.RepeatAnswers, Join.repeat_cost, Meter.RisesAtMost}
+use Rattle.hip_bytes.specs.{declared.grow_fault.GrowFault.GrowFault}
+use Rattle.hip_bytes.specs.{declared.grow_fault.GrowFault.TheVariants.Memory as grow_memory, declared.grow_fault.GrowFault.TheVariants.TooLong as grow_too_long}
+use Rattle.hip_cuts.specs.{Cut.PartsIfAny, Piece.IsPartAt}
 use Rattle.hip_text.proofs.Texts.{texts}
-use Rattle.hip_cuts.specs.Piece.{IsPartAt}
-use Rattle.hip_bytes.specs.Made.{RepeatAnswers}
 use Rattle.std.proofs.lemmas.Bool.{le-ltb, lt-ltb, ltb-true}
-use Rattle.std.proofs.Math.Dec.{ltb}
-use Rattle.std.specs.Borrow.{Bor}
-use Rattle.std.specs.Slice.{IsItemAt}
-use Rattle.std.specs.Option.{option_or}
-use Rattle.hip_bytes.specs.Join.{repeat_cost}
-use Rattle.hip_bytes.specs.Meter.{RisesAtMost}
-use Rattle.hip_bytes.specs.declared.grow_fault.GrowFault.{GrowFault}
-use Rattle.hip_bytes.specs.declared.grow_fault.GrowFault.TheVariants.{Memory as grow_memory, TooLong as grow_too_long}
-use Rattle.hipstr.specs.Reason.{grow_reason_of}
+use Rattle.std.specs.{Borrow.Bor, Slice.IsItemAt, Option.option_or}
+use Rattle.hipstr.specs.{Reason.grow_reason_of, declared.command.Answer.Answer, declared.command.Reason.Reason, declared.command.Answer.TheVariants.Done, declared.command.Answer.TheVariants.Refused}
+use Rattle.hipstr.specs.{declared.command.Command.TheVariants.Repeat, declared.command.Reason.TheVariants.Memory, declared.command.Reason.TheVariants.TooLong, declared.pool.Slot.Slot}
 use Rattle.hipstr.specs.Step.{Step, cost_of, fault_of, length_fault, slot_fault, unless}
-use Rattle.hipstr.specs.declared.command.Answer.{Answer}
-use Rattle.hipstr.specs.declared.command.Reason.{Reason}
-use Rattle.hipstr.specs.declared.command.Answer.TheVariants.{Done, Refused}
-use Rattle.hipstr.specs.declared.command.Command.TheVariants.{Repeat}
-use Rattle.hipstr.specs.declared.command.Reason.TheVariants.{Memory, TooLong}
 use Rattle.hipstr.proofs.Steps.{faulted, neither, performed, replaced}
 use Rattle.hipstr.specs.Slot.{SlotState, Replaces, empty_slot, slot_at, state_at, state_of}
-use Rattle.hipstr.specs.declared.pool.Slot.{Slot}
 
 -- a place that is written with what it holds stays as it is
 pub ruleset in_place = (common_steps, texts, map-set, get_or-map, length-map, set-get_or)

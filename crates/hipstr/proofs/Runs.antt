@@ -1,11 +1,7 @@
 -- Lemmas on runs of the list machine.
 use Rattle.std.proofs.Common.{◌≡◌, ◌∙◌, ℕ, ◌+◌, ◌<◌, Bool, List, [], ◌∷◌, ◌++◌, length, take, get_or, refl, ap, subst, arith}
 use Rattle.std.proofs.lemmas.List.{take_more}
-use Rattle.hipstr.specs.Slot.{SlotState}
-use Rattle.hipstr.specs.Step.{Step, Costs}
-use Rattle.hipstr.specs.Run.{Run}
-use Rattle.hipstr.specs.declared.command.Command.{Command}
-use Rattle.hipstr.specs.declared.command.Answer.{Answer}
+use Rattle.hipstr.specs.{Slot.SlotState, Step.Step, Step.Costs, Run.Run, declared.command.Command.Command, declared.command.Answer.Answer}
 
 -- a run goes on by a step, at the step's cost
 pub Run-append : (shares : Bool) (old mid new : List SlotState) (commands : List Command) (answers : List Answer) (total : ℕ) (command : Command) (answer : Answer)

@@ -1,27 +1,17 @@
 -- A slice of a slot, bytes or a text, that is put into another.
 use Rattle.std.proofs.Common.{◌≡◌, ◌∙◌, ℕ, ◌<◌, Bool, true, false, List, length, slice_set, Option, Some, None, Err, if◌then◌else◌, is_none, ap, refl, subst, sym}
-use Rattle.std.specs.Option.{option_map, option_or}
-use Rattle.std.specs.declared.ops.Bound.{Bound}
-use Rattle.hip_bytes.specs.Cost.{cut_cost, CutNeedsMemory}
-use Rattle.hip_bytes.specs.Handle.{Handle}
-use Rattle.hip_bytes.specs.Made.{IsPart}
-use Rattle.hip_bytes.specs.Meter.{RisesAtMost}
-use Rattle.hip_bytes.specs.Range.{slice_fault, slice_of}
-use Rattle.hip_bytes.specs.Slice.{SliceAnswers, slice_cost}
-use Rattle.hip_bytes.specs.declared.slice_error.SliceRefusal.{SliceRefusal}
-use Rattle.hip_bytes.specs.declared.slice_error.SliceRefusal.TheVariants.{Slice as bytes_slice, Memory as bytes_memory}
+use Rattle.std.specs.{Option.option_map, Option.option_or, declared.ops.Bound.Bound}
+use Rattle.hip_bytes.specs.{Cost.cut_cost, Cost.CutNeedsMemory, Handle.Handle, Made.IsPart, Meter.RisesAtMost, Range.slice_fault, Range.slice_of, Slice.SliceAnswers, Slice.slice_cost}
+use Rattle.hip_bytes.specs.{declared.slice_error.SliceRefusal.SliceRefusal}
+use Rattle.hip_bytes.specs.{declared.slice_error.SliceRefusal.TheVariants.Slice as bytes_slice, declared.slice_error.SliceRefusal.TheVariants.Memory as bytes_memory}
 use Rattle.hip_text.specs.Slice.{text_slice_fault, SliceAnswers as TextAnswers, slice_cost as text_cost}
-use Rattle.hip_text.specs.declared.slice_error.SliceRefusal.{SliceRefusal as TextRefusal}
-use Rattle.hip_text.specs.declared.slice_error.SliceRefusal.TheVariants.{Slice as text_slice, Memory as text_memory}
+use Rattle.hip_text.specs.{declared.slice_error.SliceRefusal.SliceRefusal as TextRefusal}
+use Rattle.hip_text.specs.{declared.slice_error.SliceRefusal.TheVariants.Slice as text_slice, declared.slice_error.SliceRefusal.TheVariants.Memory as text_memory}
 use Rattle.hipstr.proofs.Steps.{faulted, performed, replaced}
 use Rattle.hipstr.specs.Reason.{bytes_refusal, reason_of, text_reason_of, text_refusal}
-use Rattle.hipstr.specs.Slot.{SlotState, state_at}
+use Rattle.hipstr.specs.{Slot.SlotState, Slot.state_at, declared.command.Answer.Answer, declared.command.Answer.TheVariants.Done, declared.command.Answer.TheVariants.Refused}
+use Rattle.hipstr.specs.{declared.command.Command.TheVariants.Slice, declared.command.Reason.Reason, declared.command.Reason.TheVariants.Memory}
 use Rattle.hipstr.specs.Step.{Step, cost_of, fault_of, slot_fault, unless}
-use Rattle.hipstr.specs.declared.command.Answer.{Answer}
-use Rattle.hipstr.specs.declared.command.Answer.TheVariants.{Done, Refused}
-use Rattle.hipstr.specs.declared.command.Command.TheVariants.{Slice}
-use Rattle.hipstr.specs.declared.command.Reason.{Reason}
-use Rattle.hipstr.specs.declared.command.Reason.TheVariants.{Memory}
 
 -- why the range is none of a slot, the length of its part, and the part's cost
 abbrev fault_in : Bound ℕ → Bound ℕ → SlotState → Option Reason

@@ -1,19 +1,12 @@
 -- Lemmas on single steps of the list machine.
 use Rattle.std.proofs.Common.{◌≡◌, ◌∙◌, ℕ, suc, ◌+◌, ◌<◌, ◌≤◌, ◌⊎◌, inl, inr, arith, Bool, true, false, List, length, nat_le, slice_set, Option, Some, None, if◌then◌else◌, MatchOption, ap, refl, subst, sym}
-use Rattle.std.proofs.Math.Bool.{and-false}
-use Rattle.std.proofs.lemmas.Bool.{lt-ltb}
-use Rattle.std.proofs.lemmas.Bool.Decides.{leb_tells}
-use Rattle.std.proofs.lemmas.List.{get_or-set_same, set-get_or}
+use Rattle.std.proofs.{Math.Bool.and-false, lemmas.Bool.lt-ltb, lemmas.Bool.Decides.leb_tells, lemmas.List.get_or-set_same, lemmas.List.set-get_or}
 use Rattle.std.specs.Prelude.{◌&&◌, nat_lt}
 use Rattle.std.specs.Option.{option_or}
-use Rattle.hip_bytes.specs.Handle.{Handle}
-use Rattle.hip_bytes.specs.Meter.{RisesAtMost}
+use Rattle.hip_bytes.specs.{Handle.Handle, Meter.RisesAtMost}
 use Rattle.hipstr.specs.Slot.{Replaces, SlotState, empty_slot, state_at}
 use Rattle.hipstr.specs.Step.{Performs, Step, fault_of, one_end_fault, overlap_fault, slot_fault, unless}
-use Rattle.hipstr.specs.declared.command.Command.{Command}
-use Rattle.hipstr.specs.declared.command.Answer.{Answer}
-use Rattle.hipstr.specs.declared.command.Answer.TheVariants.{Refused}
-use Rattle.hipstr.specs.declared.command.Reason.{Reason}
+use Rattle.hipstr.specs.{declared.command.Command.Command, declared.command.Answer.Answer, declared.command.Answer.TheVariants.Refused, declared.command.Reason.Reason}
 use Rattle.hipstr.specs.declared.command.Reason.TheVariants.{Memory, NoSlot, Overlap}
 
 -- a command without a fault is performed

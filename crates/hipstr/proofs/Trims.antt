@@ -1,13 +1,8 @@
 -- Trims, strips and splits in two: the faults and needs of those that are refused, and the bytes that they copy. The part's `source` is the slot's handle, which is the `text` that was cut.
 use Rattle.std.proofs.Common.{◌≡◌, ◌-◌, ◌<◌, inl, inr, ℕ, Bool, true, List, [], ◌∷◌, Option, Some, None, MatchOption, Result, Ok, Err, IfErr, IfOk, OnErr, OnOk, ◌∙◌, ap, length, slice_set, arith, refl, rules, subst, sym}
-use Rattle.std.specs.Borrow.{Bor}
-use Rattle.std.specs.Char.{is_whitespace}
-use Rattle.std.specs.Option.{option_or}
-use Rattle.std.specs.declared.alloc.AllocError.{AllocError}
+use Rattle.std.specs.{Borrow.Bor, Char.is_whitespace, Option.option_or, declared.alloc.AllocError.AllocError}
 use Rattle.hip_bytes.proofs.Costs.{nothing_copied}
-use Rattle.hip_bytes.specs.Cost.{CutNeedsMemory}
-use Rattle.hip_bytes.specs.Handle.{Handle}
-use Rattle.hip_bytes.specs.Meter.{RisesAtMost}
+use Rattle.hip_bytes.specs.{Cost.CutNeedsMemory, Handle.Handle, Meter.RisesAtMost}
 use Rattle.hip_cuts.specs.Cut.{PartIfAny, PartIfAnyCosts, PartsIfAny, PartsIfAnyCosts}
 use Rattle.hip_cuts.specs.Piece.{IsPartAt, part_cost, parts_cost}
 use Rattle.hip_match.specs.Characters.{char_ends}
@@ -16,10 +11,7 @@ use Rattle.hipstr.proofs.Steps.{neither, second-fault, unfaulted}
 use Rattle.hipstr.specs.Cut.{Leaves, SomeNeedsMemory, occurrences}
 use Rattle.hipstr.specs.Slot.{Replaces, SlotState, slot_at, state_at}
 use Rattle.hipstr.specs.Step.{not_text_fault, option_cost, slot_fault, unless}
-use Rattle.hipstr.specs.declared.command.Pat.{Pat}
-use Rattle.hipstr.specs.declared.command.Reason.{Reason}
-use Rattle.hipstr.specs.declared.command.Reason.TheVariants.{NotText}
-use Rattle.hipstr.specs.declared.command.Side.{Side}
+use Rattle.hipstr.specs.{declared.command.Pat.Pat, declared.command.Reason.Reason, declared.command.Reason.TheVariants.NotText, declared.command.Side.Side}
 
 -- the fault of a source or a target that isn't there, or of a source that is no text
 abbrev pub text_for_fault : List SlotState → ℕ → ℕ → Option Reason

@@ -3,12 +3,9 @@ use Rattle.std.proofs.Common.{◌≡◌, ◌∙◌, ℕ, Bool, false, List, ap, 
 use Rattle.std.proofs.Math.Bool.{or-false, or-true}
 use Rattle.std.specs.Borrow.{Bor}
 use Rattle.std.specs.Prelude.{◌&&◌}
-use Rattle.hipstr.specs.declared.command.Pat.{Pat}
+use Rattle.hipstr.specs.{declared.command.Pat.Pat, declared.machine.parts.Way.Way, Cut.has_one_end, Cut.pieces_of, declared.command.How.How}
 use Rattle.hipstr.specs.declared.command.Pat.TheVariants.{Text as text_of, Char as char_of, Set as set_of}
-use Rattle.hipstr.specs.declared.machine.parts.Way.{Way}
-use Rattle.hipstr.specs.Cut.{has_one_end, pieces_of}
 use Rattle.hipstr.specs.Ways.{goes_one_way, is_counted, pieces_walked, walked_of, walks_one_way}
-use Rattle.hipstr.specs.declared.command.How.{How}
 use Rattle.hipstr.specs.declared.command.How.TheVariants.{Split, Inclusive, Terminator, SplitN, Matches, RSplit, RTerminator, RSplitN, RMatches, Lines, Words, AsciiWords}
 
 pub walked : (how : How) → ((text : List ℕ) → pieces_walked (walked_of how) text ≡ pieces_of how text) × (walks_one_way (walked_of how) ≡ has_one_end how)

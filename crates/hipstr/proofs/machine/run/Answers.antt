@@ -1,7 +1,6 @@
 use Rattle.std.proofs.Common.{◌+◌, get_or, arith}
 use Rattle.std.proofs.lemmas.Grind.{common_steps}
-use Rattle.hipstr.proofs.Amortised.{step-paid, RunAmortised-take_more}
-use Rattle.hipstr.proofs.Runs.{Run-take_more}
+use Rattle.hipstr.proofs.{Amortised.step-paid, Amortised.RunAmortised-take_more, Runs.Run-take_more}
 use Rattle.hipstr.specs.declared.command.Command.TheVariants.{New}
 use Rattle.hipstr.proofs.machine.run.Goals as goal
 

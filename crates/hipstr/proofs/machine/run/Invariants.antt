@@ -1,7 +1,6 @@
 use Rattle.std.proofs.Common.{◌≡◌, ◌+◌, ◌≤◌, ℕ, false, length, take, vec_len, vec_capacity}
 use Rattle.hip_bytes.specs.Meter.{RisesAtMost}
-use Rattle.hipstr.specs.Amortised.{pots, RunAmortised}
-use Rattle.hipstr.specs.Run.{Run}
+use Rattle.hipstr.specs.{Amortised.pots, Amortised.RunAmortised, Run.Run}
 use Rattle.hipstr.proofs.machine.run.Given as goal
 
 -- the answers so far are those to the commands so far, within their cost, and there is room for the rest

@@ -1,6 +1,5 @@
 use Rattle.std.proofs.Common.{◌≡◌, ◌∙◌, length, map, replicate, ap, sym, arith}
-use Rattle.std.proofs.lemmas.Grind.{common_steps}
-use Rattle.std.proofs.lemmas.List.{length-map, length-replicate}
+use Rattle.std.proofs.{lemmas.Grind.common_steps, lemmas.List.length-map, lemmas.List.length-replicate}
 use Rattle.hipstr.specs.Slot.{empty_slot, state_of}
 use Rattle.hipstr.proofs.pool.empty_slots.Goals as goal
 

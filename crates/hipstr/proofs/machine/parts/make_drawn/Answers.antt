@@ -2,8 +2,7 @@ use Rattle.std.proofs.Common.{◌≡◌, ◌≤◌, ◌∙◌, Bool, false, subs
 use Rattle.std.proofs.lemmas.List.{length-map}
 use Rattle.hip_match.specs.Draw.{draw}
 use Rattle.std.specs.Prelude.{◌&&◌}
-use Rattle.hipstr.specs.Cut.{has_back}
-use Rattle.hipstr.specs.Slot.{empty_slot, state_of}
+use Rattle.hipstr.specs.{Cut.has_back, Slot.empty_slot, Slot.state_of}
 use Rattle.hipstr.proofs.Parts.{all-front, goes-on, has-ended, is-refused, script-ended, so-far-none}
 use Rattle.hipstr.proofs.machine.parts.make_drawn.Goals as goal
 

@@ -1,8 +1,7 @@
 use Rattle.std.proofs.Common.{◌∙◌, ap}
 use Rattle.std.specs.Prelude.{◌&&◌}
 use Rattle.hipstr.proofs.Ways.{walked}
-use Rattle.hipstr.specs.Cut.{has_back}
-use Rattle.hipstr.specs.Ways.{walks_one_way}
+use Rattle.hipstr.specs.{Cut.has_back, Ways.walks_one_way}
 use Rattle.hipstr.proofs.machine.parts.make_parts.Goals as goal
 
 pub make_walked-requires-clause-ends : goal.make_walked-requires-clause-ends

@@ -1,5 +1,4 @@
-use Rattle.std.proofs.Common.{rules}
-use Rattle.std.proofs.lemmas.List.{map-set}
+use Rattle.std.proofs.{Common.rules, lemmas.List.map-set}
 use Rattle.hipstr.specs.Slot.{state_of}
 use Rattle.hipstr.proofs.machine.parts.put_text.Goals as goal
 

@@ -1,7 +1,6 @@
 use Rattle.std.proofs.Common.{◌≡◌, ◌≤◌, ◌∙◌, ◌+◌, ◌++◌, length, map, drop, replicate, ap, refl, sym, arith, rules, length-append, length-take-le}
 use borrow.Author.Rules.{scaled_fits≤}
-use Rattle.std.proofs.lemmas.List.{drop-map, map-append}
-use Rattle.std.proofs.lemmas.Slice.{drop-append-drop}
+use Rattle.std.proofs.{lemmas.List.drop-map, lemmas.List.map-append, lemmas.Slice.drop-append-drop}
 use Rattle.hipstr.specs.Slot.{empty_slot, state_of}
 use Rattle.hipstr.proofs.Parts.{parts-swapped}
 use Rattle.hipstr.proofs.machine.pieces.put_parts.Goals as goal

@@ -1,7 +1,5 @@
 use Rattle.std.proofs.Common.{List, ℕ, length, subst}
-use Rattle.hip_bytes.specs.Meter.{RisesAtMost}
-use Rattle.hip_bytes.specs.Join.{join_cost}
-use Rattle.hip_bytes.specs.Made.{JoinAnswers}
+use Rattle.hip_bytes.specs.{Meter.RisesAtMost, Join.join_cost, Made.JoinAnswers}
 use Rattle.hipstr.proofs.Joins.{joined-pieces, join-holds, join-too_long}
 use Rattle.hipstr.proofs.pool.Pool.joined.Goals as goal
 

@@ -1,22 +1,13 @@
-use Rattle.std.proofs.Common.{◌≡◌, Option, ap, rules}
+use Rattle.std.proofs.Common.{Option, ap, rules}
 use Rattle.std.specs.Option.{option_or}
-use Rattle.hipstr.proofs.InPlace.{in-place, bytes-step}
-use Rattle.hipstr.proofs.Places.{spare-kept}
-use Rattle.hipstr.proofs.Steps.{told-fault}
-use Rattle.hipstr.specs.Reason.{answer_of}
-use Rattle.hipstr.specs.Slot.{state_at}
-use Rattle.hipstr.specs.Step.{not_text_fault}
-use Rattle.hipstr.specs.declared.command.Answer.TheVariants.{Refused}
-use Rattle.hipstr.specs.declared.command.Command.TheVariants.{Bytes}
-use Rattle.hipstr.specs.declared.command.Reason.{Reason}
-use Rattle.hipstr.specs.declared.command.Reason.TheVariants.{NoSlot}
+use Rattle.hipstr.proofs.{InPlace.in-place, InPlace.bytes-step, Places.spare-kept, Steps.told-fault}
+use Rattle.hipstr.specs.{Slot.state_at, Step.not_text_fault, declared.command.Command.TheVariants.Bytes, declared.command.Reason.Reason, declared.command.Reason.TheVariants.NoSlot}
 use Rattle.hipstr.proofs.pool.Pool.make_bytes.Goals as goal
 
 pub returns-in_err-find : goal.returns-in_err-find
 returns-in_err-find g c =
-    let told : answer_of c.from_residual.result ≡ Refused NoSlot = search rules in
     record {
-      step = told-fault g.B.Backend.SHARES c.args.self.now (Bytes c.args.t) _ NoSlot told
+      step = told-fault g.B.Backend.SHARES c.args.self.now (Bytes c.args.t) _ NoSlot (search rules)
           (ap (λ (none : Option Reason). option_or none (not_text_fault (state_at c.args.self.now c.args.t))) c.in_err-find.ensures.missing);
     }
 

@@ -1,7 +1,5 @@
-use Rattle.std.proofs.Common.{◌≡◌, refl, rules}
+use Rattle.std.proofs.Common.{refl, rules}
 use Rattle.hipstr.proofs.Joins.{join-counted, join-refused, join-step}
-use Rattle.hipstr.specs.Reason.{answer_of, grow_reason_of}
-use Rattle.hipstr.specs.declared.command.Answer.TheVariants.{Refused}
 use Rattle.hipstr.proofs.pool.Pool.make_join.Goals as goal
 
 pub returns : goal.returns
@@ -14,10 +12,9 @@ returns g c = record {
 
 pub returns-in_err-handle : goal.returns-in_err-handle
 returns-in_err-handle g c =
-    let told : answer_of c.from_residual-in_err-handle.result ≡ Refused (grow_reason_of c.in_err-handle.field-0.0) = search rules in
     record {
       step = join-refused _ g.B.Backend.SHARES c.args.self.now c.args.self.now c.args.first c.args.count c.args.sep c.args.t c.in_err-handle.field-0.0 _
-          c.in_ok-find_all.ensures.found c.in_ok-find.ensures.found refl told refl c.in_err-handle.ensures.too_long;
+          c.in_ok-find_all.ensures.found c.in_ok-find.ensures.found refl (search rules) refl c.in_err-handle.ensures.too_long;
       counted = join-counted _ g.B.Backend.SHARES c.args.self.now c.args.first c.args.count c.args.sep c.args.t _ _
           c.in_ok-find_all.ensures.found c.in_ok-find.ensures.found c.in_err-handle.ensures.too_long c.in_err-handle.ensures.counted c.in_err-handle.ensures.refused_counts_none;
     }

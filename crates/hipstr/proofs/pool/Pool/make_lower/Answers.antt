@@ -1,16 +1,12 @@
-use Rattle.std.proofs.Common.{◌≡◌, rules}
+use Rattle.std.proofs.Common.{rules}
 use Rattle.hipstr.proofs.InPlace.{in-place, lower-step, lower-refused, write-counted}
-use Rattle.hipstr.specs.Reason.{answer_of}
-use Rattle.hipstr.specs.declared.command.Answer.TheVariants.{Refused}
-use Rattle.hipstr.specs.declared.command.Reason.TheVariants.{Memory}
 use Rattle.hipstr.proofs.pool.Pool.make_lower.Goals as goal
 
 pub returns-in_err-make_lower : goal.returns-in_err-make_lower
 returns-in_err-make_lower g c =
-    let told : answer_of c.from_residual-in_err-make_lower.result ≡ Refused Memory = search rules in
     let at = in-place c.self.inside.slots.items c.args.self.now c.args.t c.index_mut.result.now c.make_lower.new.self c.self.view_is c.in_ok-find.ensures.within c.index_mut.ensures.value in
     record {
-      step = lower-refused g.B.Backend.SHARES at _ told c.in_err-make_lower.ensures.write c.in_err-make_lower.ensures.flag;
+      step = lower-refused g.B.Backend.SHARES at _ (search rules) c.in_err-make_lower.ensures.write c.in_err-make_lower.ensures.flag;
       counted = write-counted g.B.Backend.SHARES at _ _ c.in_err-make_lower.ensures.counted;
     }
 

@@ -1,12 +1,8 @@
-use Rattle.std.proofs.Common.{◌≡◌, rules}
+use Rattle.std.proofs.Common.{rules}
 use Rattle.hip_bytes.proofs.Costs.{nothing_copied}
 use Rattle.hipstr.proofs.InPlace.{in-place, owned-step, owned-counted}
-use Rattle.hipstr.proofs.Places.{spare-kept}
-use Rattle.hipstr.proofs.Steps.{told-fault}
-use Rattle.hipstr.specs.Reason.{answer_of}
-use Rattle.hipstr.specs.declared.command.Answer.TheVariants.{Refused}
-use Rattle.hipstr.specs.declared.command.Command.TheVariants.{Owned}
-use Rattle.hipstr.specs.declared.command.Reason.TheVariants.{NoSlot}
+use Rattle.hipstr.proofs.{Places.spare-kept, Steps.told-fault}
+use Rattle.hipstr.specs.{declared.command.Command.TheVariants.Owned, declared.command.Reason.TheVariants.NoSlot}
 use Rattle.hipstr.proofs.pool.Pool.make_owned.Goals as goal
 
 pub returns-clause-step : goal.returns-clause-step
@@ -17,8 +13,7 @@ returns-clause-counted g c = owned-counted g.B.Backend.SHARES (in-place c.self.i
 
 pub returns-in_err-find-clause-step : goal.returns-in_err-find-clause-step
 returns-in_err-find-clause-step g c =
-    let told : answer_of c.from_residual.result ≡ Refused NoSlot = search rules in
-    told-fault g.B.Backend.SHARES c.args.self.now (Owned c.args.t) _ NoSlot told c.in_err-find.ensures.missing
+    told-fault g.B.Backend.SHARES c.args.self.now (Owned c.args.t) _ NoSlot (search rules) c.in_err-find.ensures.missing
 
 pub returns-in_err-find-clause-counted : goal.returns-in_err-find-clause-counted
 returns-in_err-find-clause-counted g c = nothing_copied c.args.meter.now _

@@ -1,10 +1,6 @@
-use Rattle.std.proofs.Common.{◌≡◌, ◌∙◌, ap, refl, rules, slice_set, subst, sym}
+use Rattle.std.proofs.Common.{◌∙◌, ap, refl, rules, slice_set, subst, sym}
 use Rattle.hip_bytes.specs.Meter.{RisesAtMost}
-use Rattle.hipstr.specs.Reason.{answer_of, grow_reason_of}
-use Rattle.hipstr.specs.Step.{cost_of}
-use Rattle.hipstr.specs.declared.command.Answer.TheVariants.{Refused}
-use Rattle.hipstr.specs.declared.command.Command.TheVariants.{Repeat}
-use Rattle.hipstr.specs.Slot.{state_of}
+use Rattle.hipstr.specs.{Step.cost_of, declared.command.Command.TheVariants.Repeat, Slot.state_of}
 use Rattle.hipstr.proofs.Places.{repeat-counted, repeat-refused, repeat-step}
 use Rattle.hipstr.proofs.pool.Pool.make_repeat.Goals.{in-Bytes+in_ok-repeat_metered-in-Bytes, in-Text+in_ok-repeat_metered-in-Text}
 use Rattle.hipstr.proofs.pool.Pool.make_repeat.Goals as goal
@@ -19,20 +15,18 @@ returns-clause-step g c = elim c.match-source.branch [
 
 pub returns-in_err-repeat_metered-in-Bytes : goal.returns-in_err-repeat_metered-in-Bytes
 returns-in_err-repeat_metered-in-Bytes g c =
-    let told : answer_of c.from_residual-in_err-repeat_metered-in-Bytes.result ≡ Refused (grow_reason_of c.in_err-repeat_metered-in-Bytes.field-0.0) = search rules in
     record {
       step = repeat-refused g.B.Backend.SHARES c.args.self.now c.args.self.now c.args.s c.args.t c.args.n _ c.in_err-repeat_metered-in-Bytes.field-0.0 _ c.in_ok-source.ensures.found c.in_ok-find.ensures.found
-          (sym (ap state_of c.in-Bytes.is) ∙ c.in_ok-source.ensures.slot) refl told c.in_err-repeat_metered-in-Bytes.ensures.repeated;
+          (sym (ap state_of c.in-Bytes.is) ∙ c.in_ok-source.ensures.slot) refl (search rules) c.in_err-repeat_metered-in-Bytes.ensures.repeated;
       counted = repeat-counted g.B.Backend.SHARES c.args.self.now c.args.s c.args.t c.args.n _ _ _ _ c.in_ok-source.ensures.found c.in_ok-find.ensures.found
           (sym (ap state_of c.in-Bytes.is) ∙ c.in_ok-source.ensures.slot) c.in_err-repeat_metered-in-Bytes.ensures.repeated c.in_err-repeat_metered-in-Bytes.ensures.counted c.in_err-repeat_metered-in-Bytes.ensures.refused_counts_none;
     }
 
 pub returns-in_err-repeat_metered-in-Text : goal.returns-in_err-repeat_metered-in-Text
 returns-in_err-repeat_metered-in-Text g c =
-    let told : answer_of c.from_residual-in_err-repeat_metered-in-Text.result ≡ Refused (grow_reason_of c.in_err-repeat_metered-in-Text.field-0.0) = search rules in
     record {
       step = repeat-refused g.B.Backend.SHARES c.args.self.now c.args.self.now c.args.s c.args.t c.args.n _ c.in_err-repeat_metered-in-Text.field-0.0 _ c.in_ok-source.ensures.found c.in_ok-find.ensures.found
-          (sym (ap state_of c.in-Text.is) ∙ c.in_ok-source.ensures.slot) refl told c.in_err-repeat_metered-in-Text.ensures.repeated;
+          (sym (ap state_of c.in-Text.is) ∙ c.in_ok-source.ensures.slot) refl (search rules) c.in_err-repeat_metered-in-Text.ensures.repeated;
       counted = repeat-counted g.B.Backend.SHARES c.args.self.now c.args.s c.args.t c.args.n _ _ _ _ c.in_ok-source.ensures.found c.in_ok-find.ensures.found
           (sym (ap state_of c.in-Text.is) ∙ c.in_ok-source.ensures.slot) c.in_err-repeat_metered-in-Text.ensures.repeated c.in_err-repeat_metered-in-Text.ensures.counted c.in_err-repeat_metered-in-Text.ensures.refused_counts_none;
     }

@@ -1,29 +1,23 @@
-use Rattle.std.proofs.Common.{◌≡◌, ◌∙◌, ap, false, true, refl, rules, slice_set, subst, sym}
+use Rattle.std.proofs.Common.{◌∙◌, ap, false, true, refl, rules, slice_set, subst, sym}
 use Rattle.hip_bytes.specs.Meter.{RisesAtMost}
 use Rattle.hipstr.proofs.Slices.{Slices, bytes-counted, bytes-sliced, bytes-unsliced, text-counted, text-sliced, text-unsliced}
-use Rattle.hipstr.specs.Reason.{answer_of, bytes_refusal, text_refusal}
-use Rattle.hipstr.specs.Slot.{state_of}
-use Rattle.hipstr.specs.Step.{cost_of}
-use Rattle.hipstr.specs.declared.command.Command.TheVariants.{Slice}
-use Rattle.hipstr.specs.declared.command.Answer.TheVariants.{Refused}
+use Rattle.hipstr.specs.{Slot.state_of, Step.cost_of, declared.command.Command.TheVariants.Slice}
 use Rattle.hipstr.proofs.pool.Pool.make_slice.Goals.{in-Bytes+in_ok-try_slice_bounds_metered-in-Bytes, in-Text+in_ok-try_slice_bounds_metered-in-Text}
 use Rattle.hipstr.proofs.pool.Pool.make_slice.Goals as goal
 
 pub returns-in_err-try_slice_bounds_metered-in-Bytes : goal.returns-in_err-try_slice_bounds_metered-in-Bytes
 returns-in_err-try_slice_bounds_metered-in-Bytes g c =
     let at : Slices c.args.self.now c.args.s c.args.t (record { is_text = false; handle = c.in-Bytes.bytes }) = record { source = c.in_ok-source.ensures.found; target = c.in_ok-find.ensures.found; is = sym (ap state_of c.in-Bytes.is) ∙ c.in_ok-source.ensures.slot } in
-    let told : answer_of c.from_residual-in_err-try_slice_bounds_metered-in-Bytes.result ≡ Refused (bytes_refusal c.in_err-try_slice_bounds_metered-in-Bytes.field-0.0) = search rules in
     record {
-      step = bytes-unsliced g.B.Backend.SHARES c.args.low c.args.high at c.in_err-try_slice_bounds_metered-in-Bytes.field-0.0 _ c.args.self.now told c.in_err-try_slice_bounds_metered-in-Bytes.ensures.slice refl;
+      step = bytes-unsliced g.B.Backend.SHARES c.args.low c.args.high at c.in_err-try_slice_bounds_metered-in-Bytes.field-0.0 _ c.args.self.now (search rules) c.in_err-try_slice_bounds_metered-in-Bytes.ensures.slice refl;
       counted = bytes-counted g.B.Backend.SHARES c.args.low c.args.high at _ _ c.in_err-try_slice_bounds_metered-in-Bytes.ensures.counted;
     }
 
 pub returns-in_err-try_slice_bounds_metered-in-Text : goal.returns-in_err-try_slice_bounds_metered-in-Text
 returns-in_err-try_slice_bounds_metered-in-Text g c =
     let at : Slices c.args.self.now c.args.s c.args.t (record { is_text = true; handle = c.in-Text.text }) = record { source = c.in_ok-source.ensures.found; target = c.in_ok-find.ensures.found; is = sym (ap state_of c.in-Text.is) ∙ c.in_ok-source.ensures.slot } in
-    let told : answer_of c.from_residual-in_err-try_slice_bounds_metered-in-Text.result ≡ Refused (text_refusal c.in_err-try_slice_bounds_metered-in-Text.field-0.0) = search rules in
     record {
-      step = text-unsliced g.B.Backend.SHARES c.args.low c.args.high at c.in_err-try_slice_bounds_metered-in-Text.field-0.0 _ c.args.self.now told c.in_err-try_slice_bounds_metered-in-Text.ensures.slice refl;
+      step = text-unsliced g.B.Backend.SHARES c.args.low c.args.high at c.in_err-try_slice_bounds_metered-in-Text.field-0.0 _ c.args.self.now (search rules) c.in_err-try_slice_bounds_metered-in-Text.ensures.slice refl;
       counted = text-counted g.B.Backend.SHARES c.args.low c.args.high at _ _ c.in_err-try_slice_bounds_metered-in-Text.ensures.counted;
     }
 

@@ -1,22 +1,13 @@
-use Rattle.std.proofs.Common.{◌≡◌, Option, ap, rules}
+use Rattle.std.proofs.Common.{Option, ap, rules}
 use Rattle.std.specs.Option.{option_or}
-use Rattle.hipstr.proofs.InPlace.{in-place, text-step}
-use Rattle.hipstr.proofs.Places.{spare-kept}
-use Rattle.hipstr.proofs.Steps.{told-fault}
-use Rattle.hipstr.specs.Reason.{answer_of}
-use Rattle.hipstr.specs.Slot.{state_at}
-use Rattle.hipstr.specs.Step.{text_fault}
-use Rattle.hipstr.specs.declared.command.Answer.TheVariants.{Refused}
-use Rattle.hipstr.specs.declared.command.Command.TheVariants.{Text}
-use Rattle.hipstr.specs.declared.command.Reason.{Reason}
-use Rattle.hipstr.specs.declared.command.Reason.TheVariants.{NoSlot}
+use Rattle.hipstr.proofs.{InPlace.in-place, InPlace.text-step, Places.spare-kept, Steps.told-fault}
+use Rattle.hipstr.specs.{Slot.state_at, Step.text_fault, declared.command.Command.TheVariants.Text, declared.command.Reason.Reason, declared.command.Reason.TheVariants.NoSlot}
 use Rattle.hipstr.proofs.pool.Pool.make_text.Goals as goal
 
 pub returns-in_err-find : goal.returns-in_err-find
 returns-in_err-find g c =
-    let told : answer_of c.from_residual.result ≡ Refused NoSlot = search rules in
     record {
-      step = told-fault g.B.Backend.SHARES c.args.self.now (Text c.args.t) _ NoSlot told
+      step = told-fault g.B.Backend.SHARES c.args.self.now (Text c.args.t) _ NoSlot (search rules)
           (ap (λ (none : Option Reason). option_or none (text_fault (state_at c.args.self.now c.args.t))) c.in_err-find.ensures.missing);
     }
 

@@ -1,13 +1,10 @@
 use Rattle.std.proofs.Common.{◌≡◌, ◌∙◌, Ok, Some, length, ap, refl, rules, sym}
 use Rattle.hip_bytes.proofs.Costs.{nothing_copied}
 use Rattle.hip_bytes.specs.Handle.{Handle}
-use Rattle.hipstr.specs.Cut.{occurrences, parted}
-use Rattle.hipstr.specs.Reason.{answer_of}
-use Rattle.hipstr.specs.Slot.{SlotState, slot_at}
+use Rattle.hipstr.specs.{Cut.occurrences, Cut.parted, Slot.SlotState, Slot.slot_at, declared.command.Command.TheVariants.Once}
 use Rattle.hipstr.specs.Step.{fault_of, not_text_fault, overlap_fault, slot_fault}
-use Rattle.hipstr.specs.declared.command.Command.TheVariants.{Once}
 use Rattle.hipstr.specs.declared.command.Answer.TheVariants.{Done, Nothing, Refused}
-use Rattle.hipstr.specs.declared.command.Reason.TheVariants.{Memory, NoSlot, NotText, Overlap}
+use Rattle.hipstr.specs.declared.command.Reason.TheVariants.{NoSlot, NotText, Overlap}
 use Rattle.hipstr.proofs.Places.{parted-put}
 use Rattle.hipstr.proofs.Steps.{apart, first-fault, overlaps, performed, neither, second-fault, told-fault, told-memory}
 use Rattle.hipstr.proofs.Trims.{once-counted, once-needs, once-none}
@@ -15,24 +12,21 @@ use Rattle.hipstr.proofs.pool.Pool.part_once.Goals as goal
 
 pub returns-in_err-source : goal.returns-in_err-source
 returns-in_err-source g c =
-    let told : answer_of c.from_residual.result ≡ Refused NoSlot = search rules in
     let slots = c.args.self.now in
     let is = first-fault (slot_fault slots c.args.s) _ NoSlot c.in_err-source.ensures.missing in
-    record { step = told-fault g.B.Backend.SHARES slots (Once c.args.s c.args.t c.args.u c.args.end c.args.pattern) _ NoSlot told is; counted = nothing_copied c.args.meter.now _ }
+    record { step = told-fault g.B.Backend.SHARES slots (Once c.args.s c.args.t c.args.u c.args.end c.args.pattern) _ NoSlot (search rules) is; counted = nothing_copied c.args.meter.now _ }
 
 pub returns-in_err-find : goal.returns-in_err-find
 returns-in_err-find g c =
-    let told : answer_of c.from_residual-in_err-find.result ≡ Refused NoSlot = search rules in
     let slots = c.args.self.now in
     let is = second-fault (slot_fault slots c.args.s) _ _ c.in_ok-source.ensures.found (first-fault (slot_fault slots c.args.t) _ NoSlot c.in_err-find.ensures.missing) in
-    record { step = told-fault g.B.Backend.SHARES slots (Once c.args.s c.args.t c.args.u c.args.end c.args.pattern) _ NoSlot told is; counted = nothing_copied c.args.meter.now _ }
+    record { step = told-fault g.B.Backend.SHARES slots (Once c.args.s c.args.t c.args.u c.args.end c.args.pattern) _ NoSlot (search rules) is; counted = nothing_copied c.args.meter.now _ }
 
 pub returns-in_err-find-2 : goal.returns-in_err-find-2
 returns-in_err-find-2 g c =
-    let told : answer_of c.from_residual-in_err-find-2.result ≡ Refused NoSlot = search rules in
     let slots = c.args.self.now in
     let is = second-fault (slot_fault slots c.args.s) _ _ c.in_ok-source.ensures.found (second-fault (slot_fault slots c.args.t) _ _ c.in_ok-find.ensures.found (first-fault (slot_fault slots c.args.u) _ NoSlot c.in_err-find-2.ensures.missing)) in
-    record { step = told-fault g.B.Backend.SHARES slots (Once c.args.s c.args.t c.args.u c.args.end c.args.pattern) _ NoSlot told is; counted = nothing_copied c.args.meter.now _ }
+    record { step = told-fault g.B.Backend.SHARES slots (Once c.args.s c.args.t c.args.u c.args.end c.args.pattern) _ NoSlot (search rules) is; counted = nothing_copied c.args.meter.now _ }
 
 pub returns-then-t-u : goal.returns-then-t-u
 returns-then-t-u g c =
@@ -43,15 +37,13 @@ returns-then-t-u g c =
 
 pub returns-in_err-text : goal.returns-in_err-text
 returns-in_err-text g c =
-    let told : answer_of c.from_residual-in_err-text.result ≡ Refused NotText = search rules in
     let slots = c.args.self.now in
     let is = second-fault (slot_fault slots c.args.s) _ _ c.in_ok-source.ensures.found (second-fault (slot_fault slots c.args.t) _ _ c.in_ok-find.ensures.found (second-fault (slot_fault slots c.args.u) _ _ c.in_ok-find-2.ensures.found
     (second-fault (overlap_fault c.args.t c.args.u 1) _ _ (apart c.args.t c.args.u c.if-t-u.false) (ap not_text_fault (sym c.in_ok-source.ensures.slot) ∙ c.in_err-text.ensures.not_text)))) in
-    record { step = told-fault g.B.Backend.SHARES slots (Once c.args.s c.args.t c.args.u c.args.end c.args.pattern) _ NotText told is; counted = nothing_copied c.args.meter.now _ }
+    record { step = told-fault g.B.Backend.SHARES slots (Once c.args.s c.args.t c.args.u c.args.end c.args.pattern) _ NotText (search rules) is; counted = nothing_copied c.args.meter.now _ }
 
 pub returns-in_err-front : goal.returns-in_err-front
 returns-in_err-front g c =
-    let told : answer_of c.from_residual-in_err-front.result ≡ Refused Memory = search rules in
     let slots = c.args.self.now in
     let command = Once c.args.s c.args.t c.args.u c.args.end c.args.pattern in
     let slot = c.in_ok-source.ensures.slot in
@@ -60,7 +52,7 @@ returns-in_err-front g c =
     let is = c.in_ok-text.ensures.text ∙ ap (λ (state : SlotState). state.handle) slot in
     let ranges_of = λ (text : Handle). parted c.args.end (occurrences c.args.pattern text.items) (length text.items) in
     record {
-      step = told-memory g.B.Backend.SHARES slots command _ told none (once-needs ranges_of c.in_ok-text.text.now (slot_at slots c.args.s) is c.in_err-front.field-0.0 c.in_err-front.ensures.parts, refl);
+      step = told-memory g.B.Backend.SHARES slots command _ (search rules) none (once-needs ranges_of c.in_ok-text.text.now (slot_at slots c.args.s) is c.in_err-front.field-0.0 c.in_err-front.ensures.parts, refl);
       counted = once-counted g.B.Backend.SHARES ranges_of c.in_ok-text.text.now (slot_at slots c.args.s) (fault_of slots command) _ _ is none c.in_err-front.ensures.counted;
     }
 

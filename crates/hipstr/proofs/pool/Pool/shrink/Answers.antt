@@ -1,16 +1,12 @@
-use Rattle.std.proofs.Common.{◌≡◌, rules}
+use Rattle.std.proofs.Common.{rules}
 use Rattle.hipstr.proofs.InPlace.{in-place, shrink-step, shrink-refused, shrink-counted}
-use Rattle.hipstr.specs.Reason.{answer_of}
-use Rattle.hipstr.specs.declared.command.Answer.TheVariants.{Refused}
-use Rattle.hipstr.specs.declared.command.Reason.TheVariants.{Memory}
 use Rattle.hipstr.proofs.pool.Pool.shrink.Goals as goal
 
 pub returns-in_err-shrink : goal.returns-in_err-shrink
 returns-in_err-shrink g c =
-    let told : answer_of c.from_residual-in_err-shrink.result ≡ Refused Memory = search rules in
     let at = in-place c.self.inside.slots.items c.args.self.now c.args.t c.index_mut.result.now c.shrink.new.self c.self.view_is c.in_ok-find.ensures.within c.index_mut.ensures.value in
     record {
-      step = shrink-refused g.B.Backend.SHARES at c.args.least _ told c.in_err-shrink.ensures.shrink c.in_err-shrink.ensures.flag;
+      step = shrink-refused g.B.Backend.SHARES at c.args.least _ (search rules) c.in_err-shrink.ensures.shrink c.in_err-shrink.ensures.flag;
       counted = shrink-counted g.B.Backend.SHARES at c.args.least _ _ c.in_err-shrink.ensures.counted;
     }
 

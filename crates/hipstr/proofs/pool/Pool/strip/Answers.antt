@@ -1,33 +1,26 @@
-use Rattle.std.proofs.Common.{◌≡◌, length, refl, rules}
+use Rattle.std.proofs.Common.{length, refl, rules}
 use Rattle.hip_bytes.proofs.Costs.{nothing_copied}
 use Rattle.hip_bytes.specs.Handle.{Handle}
-use Rattle.hipstr.specs.Cut.{occurrences, stripped}
-use Rattle.hipstr.specs.Reason.{answer_of}
-use Rattle.hipstr.specs.Slot.{slot_at}
-use Rattle.hipstr.specs.Step.{fault_of}
-use Rattle.hipstr.specs.declared.command.Command.TheVariants.{Strip}
-use Rattle.hipstr.specs.declared.command.Answer.TheVariants.{Done, Nothing, Refused}
-use Rattle.hipstr.specs.declared.command.Reason.TheVariants.{Memory}
+use Rattle.hipstr.specs.{Cut.occurrences, Cut.stripped, Slot.slot_at, Step.fault_of, declared.command.Command.TheVariants.Strip}
+use Rattle.hipstr.specs.{declared.command.Answer.TheVariants.Done, declared.command.Answer.TheVariants.Nothing}
 use Rattle.hipstr.proofs.Steps.{performed, told-fault, told-memory}
 use Rattle.hipstr.proofs.Trims.{strip-counted, strip-needs, strip-none, strip-put}
 use Rattle.hipstr.proofs.pool.Pool.strip.Goals as goal
 
 pub returns-in_err-text : goal.returns-in_err-text
 returns-in_err-text g c =
-    let told : answer_of c.from_residual.result ≡ Refused c.in_err-text.field-0.0 = search rules in
     let slots = c.args.self.now in
-    record { step = told-fault g.B.Backend.SHARES slots (Strip c.args.s c.args.t c.args.end c.args.pattern) _ c.in_err-text.field-0.0 told c.in_err-text.ensures.fault; counted = nothing_copied c.args.meter.now _ }
+    record { step = told-fault g.B.Backend.SHARES slots (Strip c.args.s c.args.t c.args.end c.args.pattern) _ c.in_err-text.field-0.0 (search rules) c.in_err-text.ensures.fault; counted = nothing_copied c.args.meter.now _ }
 
 pub returns-in_err-left : goal.returns-in_err-left
 returns-in_err-left g c =
-    let told : answer_of c.from_residual-in_err-left.result ≡ Refused Memory = search rules in
     let slots = c.args.self.now in
     let command = Strip c.args.s c.args.t c.args.end c.args.pattern in
     let none = c.in_ok-text.ensures.found in
     let is = c.in_ok-text.ensures.text in
     let range_of = λ (text : Handle). stripped c.args.end (occurrences c.args.pattern text.items) (length text.items) in
     record {
-      step = told-memory g.B.Backend.SHARES slots command _ told none (strip-needs range_of c.in_ok-text.text.now (slot_at slots c.args.s) is c.in_err-left.field-0.0 c.in_err-left.ensures.stripped, refl);
+      step = told-memory g.B.Backend.SHARES slots command _ (search rules) none (strip-needs range_of c.in_ok-text.text.now (slot_at slots c.args.s) is c.in_err-left.field-0.0 c.in_err-left.ensures.stripped, refl);
       counted = strip-counted g.B.Backend.SHARES range_of c.in_ok-text.text.now (slot_at slots c.args.s) (fault_of slots command) _ _ is none c.in_err-left.ensures.counted;
     }
 

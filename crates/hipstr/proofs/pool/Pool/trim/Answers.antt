@@ -1,12 +1,6 @@
-use Rattle.std.proofs.Common.{◌≡◌, ◌-◌, ℕ, refl, rules, subst}
-use Rattle.hip_bytes.specs.Handle.{Handle}
-use Rattle.hip_bytes.specs.Cost.{CutNeedsMemory}
-use Rattle.hipstr.specs.Reason.{answer_of}
-use Rattle.hipstr.specs.Slot.{slot_at}
-use Rattle.hipstr.specs.Step.{fault_of}
-use Rattle.hipstr.specs.declared.command.Command.TheVariants.{Trim}
-use Rattle.hipstr.specs.declared.command.Answer.TheVariants.{Done, Refused}
-use Rattle.hipstr.specs.declared.command.Reason.TheVariants.{Memory}
+use Rattle.std.proofs.Common.{◌-◌, ℕ, refl, rules, subst}
+use Rattle.hip_bytes.specs.{Handle.Handle, Cost.CutNeedsMemory}
+use Rattle.hipstr.specs.{Slot.slot_at, Step.fault_of, declared.command.Command.TheVariants.Trim, declared.command.Answer.TheVariants.Done}
 use Rattle.hipstr.proofs.Places.{trimmed-put}
 use Rattle.hipstr.proofs.Steps.{performed, told-fault, told-memory}
 use Rattle.hipstr.proofs.Trims.{Spaces, fault-costs, trim-costs}
@@ -14,23 +8,21 @@ use Rattle.hipstr.proofs.pool.Pool.trim.Goals as goal
 
 pub returns-in_err-text : goal.returns-in_err-text
 returns-in_err-text g c =
-    let told : answer_of c.from_residual.result ≡ Refused c.in_err-text.field-0.0 = search rules in
     let slots = c.args.self.now in
     let command = Trim c.args.s c.args.t c.args.side in
     record {
-      step = told-fault g.B.Backend.SHARES slots command _ c.in_err-text.field-0.0 told c.in_err-text.ensures.fault;
+      step = told-fault g.B.Backend.SHARES slots command _ c.in_err-text.field-0.0 (search rules) c.in_err-text.ensures.fault;
       counted = fault-costs g.B.Backend.SHARES slots c.args.s (Spaces c.args.side) (fault_of slots command) c.in_err-text.field-0.0 c.args.meter.now c.in_err-text.ensures.fault;
     }
 
 pub returns-in_err-left : goal.returns-in_err-left
 returns-in_err-left g c =
-    let told : answer_of c.from_residual-in_err-left.result ≡ Refused Memory = search rules in
     let slots = c.args.self.now in
     let command = Trim c.args.s c.args.t c.args.side in
     let none = c.in_ok-text.ensures.found in
     let is = c.in_ok-text.ensures.text in
     record {
-      step = told-memory g.B.Backend.SHARES slots command _ told none
+      step = told-memory g.B.Backend.SHARES slots command _ (search rules) none
           (subst (λ (text : Handle). (range : ℕ × ℕ) × Spaces c.args.side text range × CutNeedsMemory text.kind (range.1 - range.0)) is c.in_err-left.ensures.trimmed, refl);
       counted = trim-costs g.B.Backend.SHARES slots c.args.s (Spaces c.args.side) (fault_of slots command) c.in_ok-text.text.now _ _ none is c.in_err-left.ensures.counted;
     }

@@ -1,13 +1,8 @@
-use Rattle.std.proofs.Common.{Some, ◌≡◌, ◌∙◌, ◌-◌, ℕ, ap, refl, rules, subst, sym}
-use Rattle.hip_bytes.specs.Handle.{Handle}
-use Rattle.hip_bytes.specs.Cost.{CutNeedsMemory}
-use Rattle.hipstr.specs.Cut.{trims_one_end}
-use Rattle.hipstr.specs.Reason.{answer_of}
-use Rattle.hipstr.specs.Slot.{slot_at, state_at}
+use Rattle.std.proofs.Common.{Some, ◌∙◌, ◌-◌, ℕ, ap, refl, rules, subst, sym}
+use Rattle.hip_bytes.specs.{Handle.Handle, Cost.CutNeedsMemory}
+use Rattle.hipstr.specs.{Cut.trims_one_end, Slot.slot_at, Slot.state_at, declared.command.Command.TheVariants.TrimMatches}
+use Rattle.hipstr.specs.{declared.command.Answer.TheVariants.Done, declared.command.Answer.TheVariants.Refused, declared.command.Reason.TheVariants.OneEnd}
 use Rattle.hipstr.specs.Step.{fault_of, not_text_fault, one_end_fault, slot_fault}
-use Rattle.hipstr.specs.declared.command.Command.TheVariants.{TrimMatches}
-use Rattle.hipstr.specs.declared.command.Answer.TheVariants.{Done, Refused}
-use Rattle.hipstr.specs.declared.command.Reason.TheVariants.{Memory, OneEnd}
 use Rattle.hipstr.proofs.Places.{trimmed-put}
 use Rattle.hipstr.proofs.Steps.{more-faults, first-fault, performed, neither, one-end, second-fault, told-fault, told-memory}
 use Rattle.hipstr.proofs.Trims.{text_for_fault, Trimmed, fault-costs, trim-costs}
@@ -15,13 +10,12 @@ use Rattle.hipstr.proofs.pool.Pool.trim_matches.Goals as goal
 
 pub returns-in_err-text : goal.returns-in_err-text
 returns-in_err-text g c =
-    let told : answer_of c.from_residual.result ≡ Refused c.in_err-text.field-0.0 = search rules in
     let slots = c.args.self.now in
     let more = more-faults (slot_fault slots c.args.s) (slot_fault slots c.args.t) (not_text_fault (state_at slots c.args.s)) (one_end_fault (trims_one_end c.args.side c.args.pattern)) in
     let command = TrimMatches c.args.s c.args.t c.args.side c.args.pattern in
     let is = more ∙ first-fault (text_for_fault slots c.args.s c.args.t) (one_end_fault (trims_one_end c.args.side c.args.pattern)) c.in_err-text.field-0.0 c.in_err-text.ensures.fault in
     record {
-      step = told-fault g.B.Backend.SHARES slots command _ c.in_err-text.field-0.0 told is;
+      step = told-fault g.B.Backend.SHARES slots command _ c.in_err-text.field-0.0 (search rules) is;
       counted = fault-costs g.B.Backend.SHARES slots c.args.s (Trimmed c.args.side c.args.pattern) (fault_of slots command) c.in_err-text.field-0.0 c.args.meter.now is;
     }
 
@@ -38,14 +32,13 @@ returns-then-trims_one_end g c =
 
 pub returns-in_err-left : goal.returns-in_err-left
 returns-in_err-left g c =
-    let told : answer_of c.from_residual-in_err-left.result ≡ Refused Memory = search rules in
     let slots = c.args.self.now in
     let more = more-faults (slot_fault slots c.args.s) (slot_fault slots c.args.t) (not_text_fault (state_at slots c.args.s)) (one_end_fault (trims_one_end c.args.side c.args.pattern)) in
     let command = TrimMatches c.args.s c.args.t c.args.side c.args.pattern in
     let none = more ∙ neither (text_for_fault slots c.args.s c.args.t) (one_end_fault (trims_one_end c.args.side c.args.pattern)) c.in_ok-text.ensures.found (one-end (trims_one_end c.args.side c.args.pattern) (sym c.if-trims_one_end.ensures)) in
     let is = c.in_ok-text.ensures.text in
     record {
-      step = told-memory g.B.Backend.SHARES slots command _ told none
+      step = told-memory g.B.Backend.SHARES slots command _ (search rules) none
           (subst (λ (text : Handle). (range : ℕ × ℕ) × Trimmed c.args.side c.args.pattern text range × CutNeedsMemory text.kind (range.1 - range.0)) is c.in_err-left.ensures.trimmed, refl);
       counted = trim-costs g.B.Backend.SHARES slots c.args.s (Trimmed c.args.side c.args.pattern) (fault_of slots command) c.in_ok-text.text.now _ _ none is c.in_err-left.ensures.counted;
     }

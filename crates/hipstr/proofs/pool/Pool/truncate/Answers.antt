@@ -1,14 +1,8 @@
-use Rattle.std.proofs.Common.{◌≡◌, rules}
+use Rattle.std.proofs.Common.{rules}
 use Rattle.hip_bytes.proofs.Costs.{nothing_copied}
 use Rattle.hipstr.proofs.InPlace.{in-place, truncate-step, truncate-counted}
-use Rattle.hipstr.proofs.Places.{spare-kept}
-use Rattle.hipstr.proofs.Steps.{first-fault, told-fault}
-use Rattle.hipstr.specs.Reason.{answer_of}
-use Rattle.hipstr.specs.Slot.{state_at}
-use Rattle.hipstr.specs.Step.{end_fault, slot_fault}
-use Rattle.hipstr.specs.declared.command.Answer.TheVariants.{Refused}
-use Rattle.hipstr.specs.declared.command.Command.TheVariants.{Truncate}
-use Rattle.hipstr.specs.declared.command.Reason.TheVariants.{NoSlot}
+use Rattle.hipstr.proofs.{Places.spare-kept, Steps.first-fault, Steps.told-fault}
+use Rattle.hipstr.specs.{Slot.state_at, Step.end_fault, Step.slot_fault, declared.command.Command.TheVariants.Truncate, declared.command.Reason.TheVariants.NoSlot}
 use Rattle.hipstr.proofs.pool.Pool.truncate.Goals as goal
 
 pub returns-clause-step : goal.returns-clause-step
@@ -19,8 +13,7 @@ returns-clause-counted g c = truncate-counted g.B.Backend.SHARES (in-place c.sel
 
 pub returns-in_err-find-clause-step : goal.returns-in_err-find-clause-step
 returns-in_err-find-clause-step g c =
-    let told : answer_of c.from_residual.result ≡ Refused NoSlot = search rules in
-    told-fault g.B.Backend.SHARES c.args.self.now (Truncate c.args.t c.args.n) _ NoSlot told (first-fault (slot_fault c.args.self.now c.args.t) (end_fault (state_at c.args.self.now c.args.t) c.args.n) NoSlot c.in_err-find.ensures.missing)
+    told-fault g.B.Backend.SHARES c.args.self.now (Truncate c.args.t c.args.n) _ NoSlot (search rules) (first-fault (slot_fault c.args.self.now c.args.t) (end_fault (state_at c.args.self.now c.args.t) c.args.n) NoSlot c.in_err-find.ensures.missing)
 
 pub returns-in_err-find-clause-counted : goal.returns-in_err-find-clause-counted
 returns-in_err-find-clause-counted g c = nothing_copied c.args.meter.now _

@@ -1,8 +1,6 @@
 use Rattle.std.proofs.Common.{◌≡◌, ◌∙◌, false, None, Some, if◌then◌else◌, ap, arith}
 use Rattle.hip_text.proofs.Texts.{not-is_utf8}
-use Rattle.hipstr.specs.Slot.{state_of}
-use Rattle.hipstr.specs.Step.{text_fault}
-use Rattle.hipstr.specs.declared.command.Reason.TheVariants.{NotUtf8}
+use Rattle.hipstr.specs.{Slot.state_of, Step.text_fault, declared.command.Reason.TheVariants.NotUtf8}
 use Rattle.hipstr.proofs.Places.{in_place}
 use Rattle.hipstr.proofs.pool.Slot.make_text.Goals as goal
 
