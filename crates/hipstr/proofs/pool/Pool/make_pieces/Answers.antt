@@ -2,10 +2,14 @@ use Rattle.std.proofs.Common.{◌≡◌, ◌∙◌, ◌≤◌, ◌+◌, ◌++◌
 use Rattle.std.proofs.lemmas.List.{length-map, with_items_is}
 use Rattle.hip_bytes.specs.Handle.{Handle}
 use Rattle.hip_match.specs.Draw.{draw}
-use Rattle.hipstr.specs.{Cut.pieces_of, Parts.put_all, declared.command.Answer.Answer, declared.command.Answer.TheVariants.Number, declared.command.Answer.TheVariants.Refused}
-use Rattle.hipstr.specs.{declared.command.Command.TheVariants.Pieces}
+use Rattle.hipstr.specs.Cut.{pieces_of}
+use Rattle.hipstr.specs.Parts.{put_all}
+use Rattle.hipstr.specs.Reason.{answer_of}
 use Rattle.hipstr.specs.Slot.{SlotState, empty_slot, slot_at, state_at, state_of}
 use Rattle.hipstr.specs.Step.{copies_of, fault_of, Step, not_text_fault, one_end_fault}
+use Rattle.hipstr.specs.declared.command.Answer.{Answer}
+use Rattle.hipstr.specs.declared.command.Answer.TheVariants.{Number, Refused}
+use Rattle.hipstr.specs.declared.command.Command.TheVariants.{Pieces}
 use Rattle.hipstr.specs.declared.command.Reason.TheVariants.{NoSlot, Overlap, NotText, OneEnd, Memory}
 use Rattle.hipstr.proofs.Parts.{draw-within, empty-length, hold-within, pieces-cost, pieces-need, pieces-put, spare-emptied}
 use Rattle.hipstr.proofs.Places.{state-there}
@@ -52,7 +56,8 @@ pub returns-in_err-text-clause-step : goal.returns-in_err-text-clause-step
 returns-in_err-text-clause-step g c =
     let slots = c.args.self.now in
     let was : state_of {B = g.row.B.Denot} {S = g.row.B-Sole.Denot} {P = g.row.B-Extent.Denot} c.index.result.now ≡ state_at slots c.args.s = state-there c.self.inside.slots.items slots c.args.s c.index.result.now c.self.view_is c.in_ok-find.ensures.within c.index.ensures in
-    subst (λ (answer : Answer). Step g.B.Backend.SHARES slots (Pieces c.args.s c.args.how c.args.script c.args.first) answer slots) (sym (search rules))
+    let told : answer_of c.from_residual-in_err-text.result ≡ Refused NotText = search rules in
+    subst (λ (answer : Answer). Step g.B.Backend.SHARES slots (Pieces c.args.s c.args.how c.args.script c.args.first) answer slots) (sym told)
     (faulted g.B.Backend.SHARES slots slots (Pieces c.args.s c.args.how c.args.script c.args.first) NotText
     (second-fault _ _ (Some NotText) c.in_ok-find.ensures.found (second-fault _ _ (Some NotText) c.in_ok-find_all.ensures.found
     (second-fault _ _ (Some NotText) (ap (λ b. if b then Some Overlap else None) (sym c.if-is_among.ensures))
@@ -80,8 +85,9 @@ returns-in_err-count g c =
     (ap not_text_fault (sym was) ∙ c.in_ok-text.ensures.found) (one-end _ (sym c.if-lacks_back.ensures)) in
     let is : c.in_ok-text.text.now ≡ slot_at slots c.args.s = c.in_ok-text.ensures.text ∙ ap (λ (slot : SlotState). slot.handle) was in
     let ranges = λ (text : Handle). draw (pieces_of c.args.how text.items) c.args.script.now in
+    let told : answer_of c.from_residual-in_err-count.result ≡ Refused Memory = search rules in
     record {
-      step = subst (λ (answer : Answer). Step g.B.Backend.SHARES slots command answer (map state c.self.inside.slots.items)) (sym (search rules))
+      step = subst (λ (answer : Answer). Step g.B.Backend.SHARES slots command answer (map state c.self.inside.slots.items)) (sym told)
           (performed g.B.Backend.SHARES slots command (Refused Memory) (map state c.self.inside.slots.items) unrefused
           (pieces-need slots c.in_ok-text.text.now c.args.s ranges is c.in_err-count.ensures.made.0, c.self.view_is));
       counted = unfaulted (fault_of slots command) c.args.meter.now c.make_parts.new.meter (copies_of g.B.Backend.SHARES slots command) unrefused
