@@ -2,10 +2,11 @@
 # callers.sh [ROW..]   Proves the functions of bench/callers, or those of the rows named, as a user's own crate over this checkout's libraries,
 #                      one after another and with nothing kept, and prints the processor seconds of each beyond those of the calls that it
 #                      makes (head.txt): over HipStr<Rc>, over any backend, over String, and the first two as ratios to the third. LIBRARIES
-#                      names another checkout whose libraries are built. `make callers` builds them first.
+#                      names another checkout whose libraries are built, LIMIT the seconds after which a proof is given up, 600 if left out.
+#                      `make callers` builds the libraries first.
 set -euo pipefail
 cd "$(dirname "$0")/.."
-from=${LIBRARIES:-$PWD}
+from=${LIBRARIES:-$PWD} limit=${LIMIT:-600}
 rows=$PWD/bench/callers
 scratch=$(mktemp -d)
 trap 'rm -rf "$scratch"' EXIT
@@ -43,20 +44,25 @@ seconds() {
     rm -rf "$folder"
     mkdir -p "$folder/src"
     text "$1" "$2" > "$folder/src/lib.rt"
-    (cd "$folder" && { time rt check --jobs 1 > "$scratch/log" 2>&1 < /dev/null; } 2>&1) |
-        awk '{ printf "%.1f", $1 + $2 }'
-    grep -q '^logic=proved' "$scratch/log" || { tail -n 5 "$scratch/log" >&2; return 1; }
+    (cd "$folder" && { time timeout "$limit" rt check --jobs 1 > "$scratch/log" 2>&1 < /dev/null; } 2>&1) > "$scratch/spent" ||
+        { [ $? -eq 124 ] || { tail -n 5 "$scratch/log" >&2; return 1; }; echo none; return; }
+    awk '{ printf "%.1f", $1 + $2 }' "$scratch/spent"
 }
 
 [ $# -gt 0 ] || set -- cuts fields arms walk map path pair
 head_rc=$(seconds rc head)
 head_any=$(seconds any head)
 head_string=$(seconds string head)
-printf '%-8s %5.1f %5.1f %5.1f\n' calls "$head_rc" "$head_any" "$head_string"
+printf '%-8s %6s %6s %6s\n' calls "$head_rc" "$head_any" "$head_string"
 for row in "$@"; do
     over_rc=$(seconds rc "$row")
     over_any=$(seconds any "$row")
     over_string=$(seconds string "$row")
     echo "$row $over_rc $over_any $over_string"
 done | awk -v rc="$head_rc" -v any="$head_any" -v string="$head_string" '
-    { r = $2 - rc; a = $3 - any; s = $4 - string; printf "%-8s %5.1f %5.1f %5.1f   %.2f %.2f\n", $1, r, a, s, r / s, a / s; fflush() }'
+    function beyond(spent, calls) { return spent == "none" ? spent : sprintf("%.1f", spent - calls) }
+    function times(spent, base) { return spent == "none" ? spent : sprintf("%.2f", spent / base) }
+    {
+        r = beyond($2, rc); a = beyond($3, any); s = beyond($4, string)
+        printf "%-8s %6s %6s %6s   %5s %5s\n", $1, r, a, s, times(r, s), times(a, s); fflush()
+    }'
