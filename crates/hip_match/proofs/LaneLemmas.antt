@@ -3,7 +3,7 @@ use Rattle.std.proofs.Common.{◌≡◌, ℕ, suc, ◌+◌, ◌/◌, ◌%◌, �
 use Rattle.std.proofs.lemmas.Nat.{and_le_r}
 use Rattle.std.proofs.lemmas.Simd.{Each1-all, Each1-zip2, Each2-splat, SwzOk, SwzOk-from_below, bit_mask_l, get_or-chunk, get_or-swz_l_below, length-chunk, length-swz_l, length-zip2, map-map, mask_l-lt, mask_l-mod, swz_l}
 use Rattle.std.proofs.lemmas.List.{ext_get_or, length-map, get_or-map}
-use Rattle.hip_match.specs.Marks.{AreMarks}
+use Rattle.hip_match.specs.Marks.{AreMarks, by_byte}
 use Rattle.hip_match.proofs.MarkLemmas.{lanes-are}
 use lib.Lanes.{Each1, chunk, mask_l, top, zip2}
 
@@ -14,14 +14,14 @@ few_lanes v z f long is = grind (arith, length-map, mask_l-lt, mask_l-mod)
 -- lane by lane, z is f of the sixteen bytes from i on, and its lanes are set just where the bytes pass the test
 pub marked : (test : ℕ → Bool) (xs : List ℕ) (i : ℕ) (z : List ℕ) (f : ℕ → ℕ) → i + 16 ≤ length xs
     → ((k : ℕ) → Fits w8 (get_or xs k 0)) → z ≡ map f (chunk i 16 xs) → ((x : ℕ) → x < 256 → top 7 (f x) ≡ test x)
-    → AreMarks test xs i (i + 16) (i + 64) (mask_l (map (top 7) z) % 2 ^ 64)
+    → AreMarks (by_byte test) xs i (i + 16) (i + 64) (mask_l (map (top 7) z) % 2 ^ 64)
 marked test xs i z f room fits lanes all =
     let set : ℕ → Bool = λ x. top 7 (f x) in
     let v = chunk i 16 xs in
     let long : length v ≡ 16 = length-chunk i 16 xs room in
     let mask_is : mask_l (map (top 7) z) % 2 ^ 64 ≡ mask_l (map set v) =
     grind (arith, mask_l, top 7, map-map (top 7) f v, mask_l-mod (map set v) 64, length-map v set) in
-    lanes-are test xs i _ (few_lanes v z f long lanes) (λ k inside.
+    lanes-are (by_byte test) xs i _ (few_lanes v z f long lanes) (λ k inside.
     grind (arith, get_or-map set v k 0 false, get_or-chunk i 16 xs k 0 inside, bit_mask_l (map set v) k))
 
 -- a lane of a comparison

@@ -1,10 +1,10 @@
--- Sets of characters that are found by the bytes with which they begin.
+-- Sets of characters that are found by the places where they start.
 use Rattle.std.proofs.Common.{◌≡◌, ℕ, ◌+◌, ◌<◌, ◌≤◌, Bool, List, Some, None, length, sym, ap, ◌∙◌, arith, ⊎_elim, slice_index, IsUtf8, IsCharBoundary}
 use Rattle.std.proofs.lemmas.Bool.{cases_lt}
 use Rattle.std.proofs.lemmas.Option.{none-some, same_Some}
-use Rattle.memchr.specs.Find.{IsFirst, IsLast, Nowhere, Passes}
-use Rattle.hip_match.specs.Marks.{Ahead}
-use Rattle.hip_match.specs.MarkedSets.{AreFirstBytes}
+use Rattle.memchr.specs.Find.{IsFirst, IsLast, Nowhere}
+use Rattle.hip_match.specs.Marks.{Ahead, PassesAt}
+use Rattle.hip_match.specs.MarkedSets.{AreFirstPlaces}
 use Rattle.hip_match.specs.Occurrence.{EndsLast, GoesOnAt, NoneStarts, StartsFirst}
 use Rattle.hip_match.specs.Characters.{char_ends}
 use Rattle.hip_match.specs.CharLaws.{char_ends-one_char, char_ends-spans}
@@ -12,20 +12,20 @@ use Rattle.hip_match.proofs.OccurrenceLemmas.{option_cases}
 use Rattle.hip_match.proofs.SetLemmas.{none_more, none_past}
 use Rattle.hip_match.proofs.MarkLemmas.{ahead-skipped}
 
-module _ (belongs passes : ℕ → Bool) (first : AreFirstBytes belongs passes) (t : List ℕ) (utf8 : IsUtf8 t) where
-  pub no_start : (i j : ℕ) → Nowhere (Passes passes t) i j → (k : ℕ) → i ≤ k → k < j → char_ends belongs t k ≡ None
+module _ (belongs : ℕ → Bool) (places : List ℕ → ℕ → Bool) (first : AreFirstPlaces belongs places) (t : List ℕ) (utf8 : IsUtf8 t) where
+  pub no_start : (i j : ℕ) → Nowhere (PassesAt places t) i j → (k : ℕ) → i ≤ k → k < j → char_ends belongs t k ≡ None
   no_start i j none k lo hi = option_cases (char_ends belongs t k) (λ free. free) (λ b is. absurd (none k lo hi (first.leads t k b utf8 is)))
 
   -- none begins within a character
-  pub past_char : (a b k next m : ℕ) → ((i : ℕ) → slice_index t i < 256) → char_ends belongs t a ≡ Some b → GoesOnAt (a, b) k → Ahead passes t (a + 1) next m → Ahead passes t k next m
+  pub past_char : (a b k next m : ℕ) → ((i : ℕ) → slice_index t i < 256) → char_ends belongs t a ≡ Some b → GoesOnAt (a, b) k → Ahead places t (a + 1) next m → Ahead places t k next m
   past_char a b k next m fits is goes h =
       let one = char_ends-one_char belongs t a b utf8 is in
       let holds : a < b = one.holds in
       let end : k ≡ b = goes.1 holds in
       let within = (char_ends-spans belongs t a b utf8 is).end.0 in
-      ahead-skipped passes t (a + 1) next m h k (omega arith) (λ i lo hi pass. one.one i (omega arith) (omega arith) (first.begins t i utf8 (fits i) (omega arith) pass))
+      ahead-skipped places t (a + 1) next m h k (omega arith) (λ i lo hi pass. one.one i (omega arith) (omega arith) (first.begins t i utf8 (fits i) (omega arith) pass))
 
-  pub starts_first : (from past a b : ℕ) → from ≤ past → NoneStarts (char_ends belongs t) from past → IsFirst (Passes passes t) past (length t) (Some a) → char_ends belongs t a ≡ Some b
+  pub starts_first : (from past a b : ℕ) → from ≤ past → NoneStarts (char_ends belongs t) from past → IsFirst (PassesAt places t) past (length t) (Some a) → char_ends belongs t a ≡ Some b
       → StartsFirst (char_ends belongs t) from (a, b)
   starts_first from past a b le none found is = record {
     after = omega (arith, found.0.low);
@@ -33,11 +33,11 @@ module _ (belongs passes : ℕ → Bool) (first : AreFirstBytes belongs passes) 
     first = λ k lo hi. ⊎_elim (λ (lt : k < past). none k lo lt) (λ (ge : past ≤ k). no_start past a found.0.before k ge hi) (cases_lt k past);
   }
 
-  pub none_up_to : (from past a : ℕ) → NoneStarts (char_ends belongs t) from past → IsFirst (Passes passes t) past (length t) (Some a) → char_ends belongs t a ≡ None → NoneStarts (char_ends belongs t) from (a + 1)
+  pub none_up_to : (from past a : ℕ) → NoneStarts (char_ends belongs t) from past → IsFirst (PassesAt places t) past (length t) (Some a) → char_ends belongs t a ≡ None → NoneStarts (char_ends belongs t) from (a + 1)
   none_up_to from past a none found here =
       none_more (char_ends belongs t) from a (λ k lo hi. ⊎_elim (λ (lt : k < past). none k lo lt) (λ (ge : past ≤ k). no_start past a found.0.before k ge hi) (cases_lt k past)) here
 
-  pub none_left : (from past : ℕ) → NoneStarts (char_ends belongs t) from past → IsFirst (Passes passes t) past (length t) None → (k : ℕ) → from ≤ k → char_ends belongs t k ≡ None
+  pub none_left : (from past : ℕ) → NoneStarts (char_ends belongs t) from past → IsFirst (PassesAt places t) past (length t) None → (k : ℕ) → from ≤ k → char_ends belongs t k ≡ None
   none_left from past none found = none_past belongs t from (λ k lo hi. ⊎_elim (λ (lt : k < past). none k lo lt) (λ (ge : past ≤ k). no_start past (length t) found k ge hi) (cases_lt k past))
 
   -- ---- from the end
@@ -46,7 +46,7 @@ module _ (belongs passes : ℕ → Bool) (first : AreFirstBytes belongs passes) 
   beyond-new to c d is le = let holds : c < d = (char_ends-one_char belongs t c d utf8 is).holds in omega arith
 
   module _ (to past : ℕ) (beyond : (c d : ℕ) → char_ends belongs t c ≡ Some d → past ≤ c → to < d) where
-    pub ends_last : (a b : ℕ) → IsCharBoundary t to → past ≤ to → IsLast (Passes passes t) 0 past (Some a) → char_ends belongs t a ≡ Some b → EndsLast (char_ends belongs t) to (a, b)
+    pub ends_last : (a b : ℕ) → IsCharBoundary t to → past ≤ to → IsLast (PassesAt places t) 0 past (Some a) → char_ends belongs t a ≡ Some b → EndsLast (char_ends belongs t) to (a, b)
     ends_last a b cut le found is =
         let high = found.0.high in
         let one = char_ends-one_char belongs t a b utf8 is in
@@ -69,11 +69,11 @@ module _ (belongs passes : ℕ → Bool) (first : AreFirstBytes belongs passes) 
               (cases_lt c a);
         }
 
-    pub beyond_it : (a : ℕ) → IsLast (Passes passes t) 0 past (Some a) → char_ends belongs t a ≡ None → (c d : ℕ) → char_ends belongs t c ≡ Some d → a ≤ c → to < d
+    pub beyond_it : (a : ℕ) → IsLast (PassesAt places t) 0 past (Some a) → char_ends belongs t a ≡ None → (c d : ℕ) → char_ends belongs t c ≡ Some d → a ≤ c → to < d
     beyond_it a found here c d is le = ⊎_elim
         (λ (gt : a < c). ⊎_elim (λ (near : c < past). absurd (found.0.after c (omega arith) near (first.leads t c d utf8 is))) (λ (far : past ≤ c). beyond c d is far) (cases_lt c past))
         (λ (level : c ≤ a). let same : c ≡ a = omega arith in absurd (none-some d (sym here ∙ ap (char_ends belongs t) (sym same) ∙ is)))
         (cases_lt a c)
 
-    pub none_before : IsLast (Passes passes t) 0 past None → (c d : ℕ) → char_ends belongs t c ≡ Some d → to < d
+    pub none_before : IsLast (PassesAt places t) 0 past None → (c d : ℕ) → char_ends belongs t c ≡ Some d → to < d
     none_before found c d is = ⊎_elim (λ (near : c < past). absurd (found c (omega arith) near (first.leads t c d utf8 is))) (λ (far : past ≤ c). beyond c d is far) (cases_lt c past)

@@ -7,8 +7,8 @@ use lib.Utf8.{encode}
 use Rattle.memchr.specs.Find.{Passes}
 use Rattle.hip_match.specs.Characters.{char_ends}
 use Rattle.hip_match.specs.CharLaws.{is_boundary-is, char_ends-is}
-use Rattle.hip_match.specs.MarkedSets.{AreFirstBytes}
-use Rattle.hip_match.specs.Marks.{has_nibbles}
+use Rattle.hip_match.specs.MarkedSets.{AreFirstPlaces}
+use Rattle.hip_match.specs.Marks.{by_byte, has_nibbles}
 use Rattle.hip_match.specs.declared.byte_test.TheConstants.{SPACE_COLUMNS, SPACE_ROWS}
 
 -- the bytes with which white space begins, and some others that aren't of ASCII
@@ -60,5 +60,5 @@ module _ (t : List ℕ) (utf8 : IsUtf8 t) where
       let told = agree_below_at (λ i. not (space_leads i) || (nat_lt i 128 || nat_le 192 i)) (λ i. true) 256 (slice_index t k) refl fits in
       grind (arith, is_boundary-is)
 
-pub space_first_bytes : AreFirstBytes is_whitespace space_leads
-space_first_bytes = record { leads = λ t a b utf8 is. space-passes t utf8 a b is; begins = λ t k utf8 fits within pass. lead-boundary t utf8 k fits within pass }
+pub space_first_places : AreFirstPlaces is_whitespace (by_byte space_leads)
+space_first_places = record { leads = λ t a b utf8 is. space-passes t utf8 a b is; begins = λ t k utf8 fits within pass. lead-boundary t utf8 k fits within pass }

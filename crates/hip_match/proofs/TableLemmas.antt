@@ -31,7 +31,7 @@ nibbles_ascii rows c fits =
     grind (arith, nat_tests, common_steps, column-low, and_pow, one_or_none, bit_at-lt, pow_pos, and_le_r, column-high, cases_lt)
 
 -- a table as its test tells it
-in_rows-low : (rows : List ℕ) (c : ℕ) → 128 ≤ c → in_rows rows c ≡ false
+pub in_rows-low : (rows : List ℕ) (c : ℕ) → 128 ≤ c → in_rows rows c ≡ false
 in_rows-low rows c high = grind (arith, nat_tests)
 
 pub rows-are : (rows : List ℕ) (test : ℕ → Bool) → agree_below (in_rows rows) test 128 ≡ true → ((c : ℕ) → 128 ≤ c → test c ≡ false) → in_rows rows ≡ test

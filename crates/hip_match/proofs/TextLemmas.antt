@@ -1,32 +1,20 @@
 -- Where memchr finds the bytes of a text, the text occurs.
-use Rattle.std.proofs.Common.{◌≡◌, ℕ, ◌+◌, ◌-◌, ◌<◌, ◌≤◌, false, inl, inr, List, Option, Some, None, length, take, drop, slice_index, arith, length-drop, length-take-le, get_or-drop, get_or-take, take_all, add-zero, ◌==◌, eqb-true, eq-eqb, IsUtf8, IsCharBoundary}
+use Rattle.std.proofs.Common.{◌≡◌, ℕ, ◌+◌, ◌-◌, ◌<◌, ◌≤◌, false, ⊎_elim, List, Some, None, length, take, drop, arith, length-drop, length-take-le, get_or-drop, get_or-take, take_all, add-zero, ◌==◌, eq-eqb, IsUtf8, IsCharBoundary}
 use Rattle.std.proofs.lemmas.Bool.{cases_lt, false≢true}
 use Rattle.std.proofs.lemmas.List.{nil_from_length}
-use Rattle.memchr.specs.Find.{OccursAt, FindsNeedle, FindsLastNeedle, IsFirstByte, IsLastByte, NoneAfter, NoneBefore, Passes, is_byte}
+use Rattle.memchr.specs.Find.{OccursAt, FindsNeedle, FindsLastNeedle, IsFirst, IsLast}
 use Rattle.memchr.proofs.lemmas.MatchLemmas.{OccursAt-part, OccursAt-from_part}
 use Rattle.hip_match.specs.Occurrence.{StartsFirst, EndsLast, start_of}
+use Rattle.hip_match.specs.Marks.{PassesAt, stands}
 use Rattle.hip_match.specs.Texts.{text_ends}
 use Rattle.hip_match.specs.TextLaws.{text_ends-some, text_ends-is, text_ends-one_start, Stands-boundaries}
+use Rattle.hip_match.proofs.NeedleLemmas.{occurs-stands, stands-occurs}
 use Rattle.hip_match.proofs.OccurrenceLemmas.{option_cases}
 use Rattle.hip_match.proofs.RightmostLemmas.{start_among-found, start_among-none}
 
 -- the slice from a place to the end
 pub rest_slice : (t : List ℕ) (from : ℕ) → take (length t - from) (drop from t) ≡ drop from t
 rest_slice t from = take_all _ _ (omega (arith, length-drop from t))
-
--- ---- a needle of one byte
-
-OneByte-occurs : (hay needle : List ℕ) (k : ℕ) → length needle ≡ 1 → k < length hay → Passes (is_byte (slice_index needle 0)) hay k → OccursAt hay needle k
-OneByte-occurs hay needle k one lt passes = grind (arith, eqb-true)
-
-OneByte-passes : (hay needle : List ℕ) (k : ℕ) → length needle ≡ 1 → OccursAt hay needle k → Passes (is_byte (slice_index needle 0)) hay k
-OneByte-passes hay needle k one occurs = grind (arith, eq-eqb)
-
-pub FindsNeedle-byte : (hay needle : List ℕ) (r : Option ℕ) → length needle ≡ 1 → IsFirstByte (is_byte (slice_index needle 0)) hay r → FindsNeedle hay needle 0 r
-FindsNeedle-byte hay needle r one h = grind (arith, OneByte-passes, OneByte-occurs)
-
-pub FindsLastNeedle-byte : (hay needle : List ℕ) (r : Option ℕ) → length needle ≡ 1 → IsLastByte (is_byte (slice_index needle 0)) hay r → FindsLastNeedle hay needle r
-FindsLastNeedle-byte hay needle r one h = grind (arith, OneByte-passes, OneByte-occurs)
 
 -- ---- occurrences in a part of the text
 
@@ -42,100 +30,6 @@ module _ (t p : List ℕ) where
 
   pub OccursAt-in_take : (to k : ℕ) → to ≤ length t → k + length p ≤ to → OccursAt t p k → OccursAt (take to t) p k
   OccursAt-in_take to k le fits h = grind (arith, length-take-le, get_or-take)
-
-  -- p is looked for by one of its bytes
-  module _ (sign : ℕ) (within : sign < length p) where
-    byte_there : (k : ℕ) → OccursAt t p k → Passes (is_byte (slice_index p sign)) t (k + sign)
-    byte_there k h = eq-eqb _ _ (h.reads sign within)
-
-    pub FindsNeedle-no_byte : IsFirstByte (is_byte (slice_index p sign)) t None → FindsNeedle t p 0 None
-    FindsNeedle-no_byte none k lo hi h = grind (arith, byte_there k h)
-
-    pub FindsLastNeedle-no_byte : IsLastByte (is_byte (slice_index p sign)) t None → FindsLastNeedle t p None
-    FindsLastNeedle-no_byte none k lo hi h = grind (arith, byte_there k h)
-
-    pub FindsLastNeedle-here : (at : ℕ) → NoneAfter (Passes (is_byte (slice_index p sign)) t) 0 (length t) at → sign ≤ at → OccursAt (drop (at - sign) t) p 0 → FindsLastNeedle t p (Some (at - sign))
-    FindsLastNeedle-here at last le here =
-        let high : at < length t = last.high in
-        let out : OccursAt t p (at - sign) = rw (add-zero (at - sign)) at (OccursAt-drop (at - sign) 0 (omega arith) here) in
-        (record { low = omega arith; high = omega (arith, out.fits); after = λ k lo hi h. last.after (k + sign) (omega arith) (omega (arith, h.fits)) (byte_there k h) }, out)
-
-    module _ (at : ℕ) (first : NoneBefore (Passes (is_byte (slice_index p sign)) t) 0 (length t) at) where
-      abbrev start : ℕ
-      start = at - sign
-
-      abbrev past : ℕ
-      past = at + 1 - sign
-
-      within_text : past ≤ length t
-      within_text = grind arith
-
-      pub FindsNeedle-here : sign ≤ at → OccursAt (drop start t) p 0 → FindsNeedle t p 0 (Some start)
-      FindsNeedle-here le here =
-          let high : at < length t = first.high in
-          let out : OccursAt t p start = rw (add-zero start) at (OccursAt-drop start 0 (omega arith) here) in
-          (record { low = omega arith; high = omega (arith, out.fits); before = λ k lo hi h. first.before (k + sign) (omega arith) (omega arith) (byte_there k h) }, out)
-
-      module _ (apart : sign ≤ at → ¬ OccursAt (drop start t) p 0) where
-        early : (k : ℕ) → k < past → ¬ OccursAt t p k
-        early k low h = grind (arith, cases_lt (k + sign) at, byte_there k h, OccursAt-in_drop start k)
-
-        pub FindsNeedle-none_behind : FindsNeedle (drop past t) p 0 None → FindsNeedle t p 0 None
-        FindsNeedle-none_behind none k lo hi h =
-            elim (cases_lt k past) [
-              | inl low ↦ early k low h
-              | inr high ↦ none (k - past) (omega arith) (omega (arith, h.fits, length-drop past t)) (OccursAt-in_drop past k high h)
-            ]
-
-        pub FindsNeedle-behind : (k : ℕ) → FindsNeedle (drop past t) p 0 (Some k) → FindsNeedle t p 0 (Some (past + k))
-        FindsNeedle-behind k found =
-            let out = OccursAt-drop past k within_text found.1 in (
-              record {
-                low = omega arith;
-                high = omega (arith, out.fits);
-                before = λ j lo hi h. elim (cases_lt j past) [
-                  | inl low ↦ early j low h
-                  | inr high ↦ found.0.before (j - past) (omega arith) (omega arith) (OccursAt-in_drop past j high h)
-                ];
-              },
-              out,
-            )
-
-  -- where p does not stand at the last place of its last byte, it stands before that
-  pub FindsLastNeedle-front : (at : ℕ) (r : Option ℕ) → 0 < length p → NoneAfter (Passes (is_byte (slice_index p (length p - 1))) t) 0 (length t) at
-      → (length p - 1 ≤ at → ¬ OccursAt (take (length t - (at - (length p - 1))) (drop (at - (length p - 1)) t)) p 0) → FindsLastNeedle (take at t) p r → FindsLastNeedle t p r
-  FindsLastNeedle-front at r some last apart found = by-place r found where
-    le : at ≤ length t
-    le = let high : at < length t = last.high in omega arith
-
-    ends : (k : ℕ) → OccursAt t p k → k + length p ≤ at
-    ends k h =
-        let back = length p - 1 in
-        let fits : k + length p ≤ length t = h.fits in
-        let passes : Passes (is_byte (slice_index p back)) t (k + back) = eq-eqb _ _ (h.reads back (omega arith)) in
-        elim (cases_lt (k + back) at) [
-          | inl before ↦ omega arith
-          | inr behind ↦ elim (cases_lt at (k + back)) [
-            | inl after ↦ absurd (last.after (k + back) (omega arith) (omega arith) passes)
-            | inr here ↦
-                let e : k - (at - back) ≡ 0 = omega arith in
-                absurd (apart (omega arith) (rw rest_slice (rw e at (OccursAt-in_drop (at - back) k (omega arith) h))))
-          ]
-        ]
-
-    by-place : (r : Option ℕ) → FindsLastNeedle (take at t) p r → FindsLastNeedle t p r
-    by-place None none = λ k lo hi h.
-        let within = ends k h in
-        none k lo (omega (arith, length-take-le at t le)) (OccursAt-in_take at k le within h)
-    by-place (Some k) found =
-        let out = OccursAt-take at k le found.1 in (
-          record {
-            low = found.0.low;
-            high = omega arith;
-            after = λ j lo hi h. let within = ends j h in found.0.after j lo (omega (arith, length-take-le at t le)) (OccursAt-in_take at j le within h);
-          },
-          out.0,
-        )
 
   pub text_ends-occurs : (a b : ℕ) → text_ends p t a ≡ Some b → OccursAt t p a × (b ≡ a + length p)
   text_ends-occurs a b is = grind (arith, text_ends-is p t a b is, OccursAt-from_part)
@@ -154,6 +48,33 @@ module _ (t p : List ℕ) where
           after = omega arith;
           occurs = occurs-text_ends (from + k) some (OccursAt-drop from k le h.1);
           first = λ j lo hi. option_cases (text_ends p t j) (λ empty. empty) (λ b is. absurd (h.0.before (j - from) (omega arith) (omega arith) (OccursAt-in_drop from j lo (text_ends-occurs j b is).0)));
+        }
+
+    -- the search by marks
+    pub marks-none : (from : ℕ) → 0 < length p → IsFirst (PassesAt (stands p) t) from (length t) None → (k : ℕ) → from ≤ k → text_ends p t k ≡ None
+    marks-none from some none k lo = option_cases (text_ends p t k) (λ empty. empty) (λ b is. let h = (text_ends-occurs k b is).0 in absurd (none k lo (omega (arith, h.fits)) (occurs-stands p t k h)))
+
+    pub marks-some : (from k : ℕ) → 0 < length p → IsFirst (PassesAt (stands p) t) from (length t) (Some k) → StartsFirst (text_ends p t) from (k, k + length p)
+    marks-some from k some found = record {
+      after = found.0.low;
+      occurs = occurs-text_ends k some (stands-occurs p t k found.1);
+      first = λ j lo hi. option_cases (text_ends p t j) (λ empty. empty) (λ b is. absurd (found.0.before j lo hi (occurs-stands p t j (text_ends-occurs j b is).0)));
+    }
+
+    pub marks_back-none : (to : ℕ) → 0 < length p → IsLast (PassesAt (stands p) t) 0 (to - (length p - 1)) None → (a b : ℕ) → text_ends p t a ≡ Some b → to < b
+    marks_back-none to some none a b is =
+        let h = text_ends-occurs a b is in
+        ⊎_elim (λ (lt : to < b). lt) (λ (ge : b ≤ to). absurd (none a (omega arith) (omega (arith, h.1)) (occurs-stands p t a h.0))) (cases_lt to b)
+
+    pub marks_back-some : (to k : ℕ) → 0 < length p → IsLast (PassesAt (stands p) t) 0 (to - (length p - 1)) (Some k) → EndsLast (text_ends p t) to (k, k + length p)
+    marks_back-some to k some found =
+        let high = found.0.high in
+        record {
+          before = omega arith;
+          occurs = occurs-text_ends k some (stands-occurs p t k found.1);
+          last = λ a b is lt.
+              let h = text_ends-occurs a b is in
+              ⊎_elim (λ (over : to < b). over) (λ (ge : b ≤ to). absurd (found.0.after a (omega (arith, h.1)) (omega (arith, h.1)) (occurs-stands p t a h.0))) (cases_lt to b);
         }
 
     -- an empty text occurs at once

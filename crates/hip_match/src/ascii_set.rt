@@ -6,15 +6,15 @@ ghost use Rattle.std.specs.Char.{is_ascii, is_ascii_alphabetic, is_ascii_alphanu
 ghost use Rattle.hip_match.specs.AsciiSets.{in_set};
 ghost use Rattle.hip_match.specs.Characters.{char_ends};
 ghost use Rattle.hip_match.specs.CharLaws.{char_ends-spans, char_ends-one_start, char_ends-one_char};
-ghost use Rattle.hip_match.specs.FirstBytes.{ascii_first_bytes};
 ghost use Rattle.hip_match.specs.Searchers.{AreAhead, AreBehind};
-ghost use Rattle.hip_match.specs.MarkedSets.{AreAsciiBytes};
+ghost use Rattle.hip_match.specs.MarkedSets.{AreStarts};
 
 use crate::byte_test::{ASCII_COLUMNS, ByteTest, has_nibbles, nibble_lanes};
 use crate::chars::{CharSet, end_of, start_before};
 use crate::marked_set::{MarkedSet, last_marked, marked_searcher, next_marked};
 use crate::marks::{Marks, block};
 use crate::pattern::{ClonePattern, DoubleEndedPattern, OneChar, Pattern, ReversePattern};
+use crate::place_test::{Bytes, PlaceTest};
 use std::simd::prelude::*;
 
 /// A set of characters of ASCII. A walk finds them 64 bytes at a time.
@@ -109,7 +109,7 @@ impl AsciiSet {
         ensures { (k : ℕ) → k < 64
             → bit_at result k ≡ (if in_set self (slice_index bytes.now (at + k)) then 1 else 0) }
     {
-        block(&self, bytes, at)
+        block(&Bytes(self), bytes, at)
     }
 }
 
@@ -134,42 +134,41 @@ impl CharSet for AsciiSet {
 }
 
 impl MarkedSet for AsciiSet {
-    type Test = AsciiSet;
+    type Test = Bytes<AsciiSet>;
 
-    ghost is_found_by = { λ s passes. AreAsciiBytes (in_set s) passes };
+    ghost is_found_by = { λ s. AreStarts (in_set s) 1 };
 
-    ghost first_bytes = { λ s passes found. ascii_first_bytes (in_set s) passes found };
+    ghost first_places = { λ _ _ found. found.first };
 
     #[inline]
-    fn test(&self) -> Option<AsciiSet> {
-        Some(*self)
+    fn test(&self) -> Option<Bytes<AsciiSet>> {
+        Some(Bytes(*self))
     }
 
-    #[tactic(auto, using(crate::specs::FirstBytes::ascii_end))]
     #[inline(always)]
-    fn end_at_mark(&self, _test: &AsciiSet, _text: &str, at: usize) -> Option<usize> {
+    fn end_at_mark(&self, _test: &Bytes<AsciiSet>, _text: &str, at: usize) -> Option<usize> {
         Some(at + 1)
     }
 }
 
 impl Pattern for AsciiSet {
-    type Searcher = Option<Marks<AsciiSet>>;
+    type Searcher = Option<Marks<Bytes<AsciiSet>>>;
 
     ghost ends = { λ s. char_ends (in_set s) };
 
-    ghost is_ready = { λ s m text from. AreAhead (AreAsciiBytes (in_set s)) (⟦<AsciiSet as ByteTest>⟧.passes) m text from };
+    ghost is_ready = { λ s m text from. AreAhead (AreStarts (in_set s) 1) (⟦<Bytes<AsciiSet> as PlaceTest>⟧.places) m text from };
 
-    ghost is_ready_back = { λ s m text to. AreBehind (AreAsciiBytes (in_set s)) (⟦<AsciiSet as ByteTest>⟧.passes) m text to };
+    ghost is_ready_back = { λ s m text to. AreBehind (AreStarts (in_set s) 1) (⟦<Bytes<AsciiSet> as PlaceTest>⟧.places) m text to };
 
     #[inline]
-    fn searcher(&self, _text: &str, from: usize, to: usize) -> Option<Marks<AsciiSet>> {
+    fn searcher(&self, _text: &str, from: usize, to: usize) -> Option<Marks<Bytes<AsciiSet>>> {
         marked_searcher(self, from, to)
     }
 
     #[inline(always)]
     fn next_match_by(
         &self,
-        searcher: &mut Option<Marks<AsciiSet>>,
+        searcher: &mut Option<Marks<Bytes<AsciiSet>>>,
         text: &str,
         from: usize,
     ) -> Option<(usize, usize)> {
@@ -188,7 +187,7 @@ impl ReversePattern for AsciiSet {
     #[inline(always)]
     fn last_match_by(
         &self,
-        searcher: &mut Option<Marks<AsciiSet>>,
+        searcher: &mut Option<Marks<Bytes<AsciiSet>>>,
         text: &str,
         to: usize,
     ) -> Option<(usize, usize)> {

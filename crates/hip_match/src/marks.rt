@@ -1,12 +1,13 @@
-//! The places of a text whose bytes pass a test, found 64 at a time from either end.
+//! The places of a text that pass a test, found 64 at a time from either end.
 //!
 //! Functions that aren't inlined take a test by value, so that a walk's own fields stay in registers.
 ghost use Rattle.std.specs.Prelude.{◌≡◌, ◌+◌, ◌-◌, ◌<◌, ◌≤◌, ℕ, Bool, List, length, IfSome};
-ghost use Rattle.memchr.specs.Find.{IsFirst, IsLast, Passes};
-ghost use Rattle.hip_match.specs.Marks.{Ahead, AreMarks, Behind};
+ghost use Rattle.memchr.specs.Find.{IsFirst, IsLast};
+ghost use Rattle.hip_match.specs.Marks.{Ahead, AreMarks, Behind, PassesAt};
 
 use crate::bits::{bits_below, bits_from, highest, lowest, shifted_up, without, without_lowest};
-use crate::byte_test::{ByteTest, byte_before, byte_from};
+use crate::byte_test::{byte_before, byte_from};
+use crate::place_test::PlaceTest;
 
 const BLOCK: usize = 64;
 
@@ -14,19 +15,19 @@ const LANES: usize = 16;
 
 // The marks of the sixteen places from `at` on, moved up by `by`.
 #[inline(always)]
-fn lanes_moved<T: ByteTest>(test: &T, bytes: &[u8], at: usize, by: usize) -> u64
-    requires room { at + 16 ≤ length bytes.now }
+fn lanes_moved<T: PlaceTest>(test: &T, bytes: &[u8], at: usize, by: usize) -> u64
+    requires room { at + 16 + T.reach test.now ≤ length bytes.now }
     requires by { by ≤ 48 }
-    ensures { (end : ℕ) → by + end ≡ at + 64 → AreMarks (T.passes test.now) bytes.now at (at + 16) end result }
+    ensures { (end : ℕ) → by + end ≡ at + 64 → AreMarks (T.places test.now) bytes.now at (at + 16) end result }
 {
     shifted_up(test.lanes(bytes, at), by)
 }
 
 // The marks of the 64 places from `at` on.
 #[inline(always)]
-pub(crate) fn block<T: ByteTest>(test: &T, bytes: &[u8], at: usize) -> u64
-    requires { at + 64 ≤ length bytes.now }
-    ensures { AreMarks (T.passes test.now) bytes.now at (at + 64) (at + 64) result }
+pub(crate) fn block<T: PlaceTest>(test: &T, bytes: &[u8], at: usize) -> u64
+    requires { at + 64 + T.reach test.now ≤ length bytes.now }
+    ensures { AreMarks (T.places test.now) bytes.now at (at + 64) (at + 64) result }
 {
     lanes_moved(test, bytes, at, 0)
         | lanes_moved(test, bytes, at + LANES, LANES)
@@ -34,19 +35,21 @@ pub(crate) fn block<T: ByteTest>(test: &T, bytes: &[u8], at: usize) -> u64
         | lanes_moved(test, bytes, at + 3 * LANES, 3 * LANES)
 }
 
-// The marks of a text of fewer than 64 bytes: bit k is of the place k.
+// The marks of a text that has fewer than 64 places: bit k is of the place k.
 #[inline(never)]
-fn few<T: ByteTest>(test: T, bytes: &[u8]) -> u64
-    requires { length bytes.now < 64 }
-    ensures { AreMarks (T.passes test) bytes.now 0 (length bytes.now) 64 result }
+fn few<T: PlaceTest>(test: T, bytes: &[u8]) -> u64
+    requires some { T.reach test < length bytes.now }
+    requires few { length bytes.now < 64 + T.reach test }
+    ensures { AreMarks (T.places test) bytes.now 0 (length bytes.now - T.reach test) 64 result }
 {
     let len = bytes.len();
-    if len < LANES {
-        let mut padded = [0; LANES];
+    let count = len - test.reach();
+    if count < LANES {
+        let mut padded = [0; 2 * LANES];
         padded[..len].copy_from_slice(bytes);
-        return bits_below(test.lanes(&padded, 0), len);
+        return bits_below(test.lanes(&padded, 0), count);
     }
-    let last = len - LANES;
+    let last = count - LANES;
     let second = last.min(LANES);
     let third = last.min(2 * LANES);
     lanes_moved(&test, bytes, 0, 0)
@@ -57,45 +60,46 @@ fn few<T: ByteTest>(test: T, bytes: &[u8]) -> u64
 
 // The marks of the last places of a text, from `from` on. The last is told by the highest bit.
 #[inline(never)]
-fn last_block<T: ByteTest>(test: T, bytes: &[u8], from: usize) -> u64
-    requires some { from < length bytes.now }
-    requires few { length bytes.now < from + 64 }
-    ensures { AreMarks (T.passes test) bytes.now from (length bytes.now) (length bytes.now) result }
+fn last_block<T: PlaceTest>(test: T, bytes: &[u8], from: usize) -> u64
+    requires some { from + T.reach test < length bytes.now }
+    requires few { length bytes.now < from + 64 + T.reach test }
+    ensures { AreMarks (T.places test) bytes.now from (length bytes.now - T.reach test) (length bytes.now - T.reach test) result }
 {
-    let len = bytes.len();
-    let passed = BLOCK - (len - from);
-    if BLOCK <= len {
-        return bits_from(block(&test, bytes, len - BLOCK), passed);
+    let count = bytes.len() - test.reach();
+    let passed = BLOCK - (count - from);
+    if BLOCK <= count {
+        return bits_from(block(&test, bytes, count - BLOCK), passed);
     }
-    bits_from(shifted_up(few(test, bytes), BLOCK - len), passed)
+    bits_from(shifted_up(few(test, bytes), BLOCK - count), passed)
 }
 
 // The marks of at most 64 places from `from` on, and the first place behind them.
 #[inline(always)]
-fn block_from<T: ByteTest>(test: &T, bytes: &[u8], from: usize) -> (usize, u64)
-    requires { from < length bytes.now }
+fn block_from<T: PlaceTest>(test: &T, bytes: &[u8], from: usize) -> (usize, u64)
+    requires { from + T.reach test.now < length bytes.now }
     ensures goes_on { from < result.0 }
     ensures within { result.0 ≤ length bytes.now }
-    ensures marks { AreMarks (T.passes test.now) bytes.now from result.0 result.0 result.1 }
+    ensures marks { AreMarks (T.places test.now) bytes.now from result.0 result.0 result.1 }
 {
-    if BLOCK <= bytes.len() - from {
+    let count = bytes.len() - test.reach();
+    if BLOCK <= count - from {
         return (from + BLOCK, block(test, bytes, from));
     }
-    (bytes.len(), last_block(*test, bytes, from))
+    (count, last_block(*test, bytes, from))
 }
 
 // The marks of at most 64 places before `to`, and the first of these places.
 #[inline(always)]
-fn block_before<T: ByteTest>(test: &T, bytes: &[u8], to: usize) -> (usize, u64)
+fn block_before<T: PlaceTest>(test: &T, bytes: &[u8], to: usize) -> (usize, u64)
     requires some { 0 < to }
-    requires within { to ≤ length bytes.now }
+    requires within { to + T.reach test.now ≤ length bytes.now }
     ensures goes_on { result.0 < to }
-    ensures marks { AreMarks (T.passes test.now) bytes.now result.0 to (result.0 + 64) result.1 }
+    ensures marks { AreMarks (T.places test.now) bytes.now result.0 to (result.0 + 64) result.1 }
 {
     if BLOCK <= to {
         return (to - BLOCK, block(test, bytes, to - BLOCK));
     }
-    (0, few(*test, &bytes[..to]))
+    (0, few(*test, &bytes[..to + test.reach()]))
 }
 
 /// The marks that are left of a block of 64 places, from its front.
@@ -112,17 +116,22 @@ pub(crate) struct FrontMarks {
 impl FrontMarks {
     // The first place that is left, which is passed. Where the last one was far and one byte alone passes, that byte is searched for.
     #[inline(always)]
-    pub(crate) fn next<T: ByteTest>(&mut self, test: &T, bytes: &[u8], from: usize) -> Option<usize>
-        requires { Ahead (T.passes test.now) bytes.now from self.old.next self.old.bits }
-        ensures found { IsFirst (Passes (T.passes test.now) bytes.now) from (length bytes.now) result }
-        ensures ahead { IfSome result (λ at. Ahead (T.passes test.now) bytes.now (at + 1) self.new.next self.new.bits) }
+    pub(crate) fn next<T: PlaceTest>(
+        &mut self,
+        test: &T,
+        bytes: &[u8],
+        from: usize,
+    ) -> Option<usize>
+        requires { Ahead (T.places test.now) bytes.now from self.old.next self.old.bits }
+        ensures found { IsFirst (PassesAt (T.places test.now) bytes.now) from (length bytes.now) result }
+        ensures ahead { IfSome result (λ at. Ahead (T.places test.now) bytes.now (at + 1) self.new.next self.new.bits) }
     {
         loop {
             if let Some(k) = lowest(self.bits) {
                 self.bits = without_lowest(self.bits);
                 return Some(self.next + k as usize - BLOCK);
             }
-            if self.next == bytes.len() {
+            if bytes.len() - self.next <= test.reach() {
                 return None;
             }
             if self.is_far {
@@ -137,6 +146,20 @@ impl FrontMarks {
             self.next = next;
             self.bits = bits;
             self.is_far = bits == 0;
+        }
+    }
+
+    // Passes the places before `to`.
+    #[inline(always)]
+    pub(crate) fn skip_to(&mut self, to: usize)
+        ensures { (places : List ℕ → ℕ → Bool) (t : List ℕ) (from : ℕ) → from ≤ to → to ≤ length t
+            → Ahead places t from self.old.next self.old.bits → Ahead places t to self.new.next self.new.bits }
+    {
+        if self.next <= to {
+            self.next = to;
+            self.bits = 0;
+        } else {
+            self.bits = bits_from(self.bits, BLOCK.saturating_sub(self.next - to));
         }
     }
 }
@@ -155,50 +178,65 @@ pub(crate) struct BackMarks {
 impl BackMarks {
     // Like `next`, but the last place.
     #[inline(always)]
-    pub(crate) fn last<T: ByteTest>(&mut self, test: &T, bytes: &[u8], to: usize) -> Option<usize>
-        requires { Behind (T.passes test.now) bytes.now to self.old.start self.old.bits }
-        ensures found { IsLast (Passes (T.passes test.now) bytes.now) 0 to result }
-        ensures behind { IfSome result (λ at. Behind (T.passes test.now) bytes.now at self.new.start self.new.bits) }
+    pub(crate) fn last<T: PlaceTest>(&mut self, test: &T, bytes: &[u8], to: usize) -> Option<usize>
+        requires { Behind (T.places test.now) bytes.now to self.old.start self.old.bits }
+        ensures found { IsLast (PassesAt (T.places test.now) bytes.now) 0 to result }
+        ensures behind { IfSome result (λ at. Behind (T.places test.now) bytes.now at self.new.start self.new.bits) }
     {
         loop {
             if let Some(k) = highest(self.bits) {
                 self.bits = without(self.bits, k);
                 return Some(self.start + k as usize);
             }
-            if self.start == 0 {
+            let to = self.start.min(bytes.len().saturating_sub(test.reach()));
+            if to == 0 {
                 return None;
             }
             if self.is_far {
                 if let Some(byte) = test.only() {
-                    let at = byte_before(byte, bytes, self.start)?;
-                    self.is_far = BLOCK <= self.start - at;
+                    let at = byte_before(byte, bytes, to)?;
+                    self.is_far = BLOCK <= to - at;
                     self.start = at;
                     return Some(at);
                 }
             }
-            let (start, bits) = block_before(test, bytes, self.start);
+            let (start, bits) = block_before(test, bytes, to);
             self.start = start;
             self.bits = bits;
             self.is_far = bits == 0;
         }
     }
+
+    // Passes the places from `to` on.
+    #[inline(always)]
+    pub(crate) fn skip_to(&mut self, to: usize)
+        ensures { (places : List ℕ → ℕ → Bool) (t : List ℕ) (from : ℕ) → to ≤ from
+            → Behind places t from self.old.start self.old.bits → Behind places t to self.new.start self.new.bits }
+    {
+        if to <= self.start {
+            self.start = to;
+            self.bits = 0;
+        } else if to - self.start < BLOCK {
+            self.bits = bits_below(self.bits, to - self.start);
+        }
+    }
 }
 
-/// The places of a text whose bytes pass a test, from either end.
+/// The places of a text that pass a test, from either end.
 #[derive(Clone, Copy)]
-pub struct Marks<T: ByteTest> {
+pub struct Marks<T: PlaceTest> {
     pub(crate) test: T,
     pub(crate) front: FrontMarks,
     pub(crate) back: BackMarks,
 }
 
-impl<T: ByteTest> Marks<T> {
+impl<T: PlaceTest> Marks<T> {
     // The places of a text from `from` up to `to`, none of which is read yet.
     #[inline]
     pub(crate) fn new(test: T, from: usize, to: usize) -> Self
         ensures test { result.test ≡ test }
-        ensures ahead { (t : List ℕ) → from ≤ length t → Ahead (T.passes test) t from result.front.next result.front.bits }
-        ensures behind { (t : List ℕ) → to ≤ length t → Behind (T.passes test) t to result.back.start result.back.bits }
+        ensures ahead { (t : List ℕ) → from ≤ length t → Ahead (T.places test) t from result.front.next result.front.bits }
+        ensures behind { (t : List ℕ) → to ≤ length t → Behind (T.places test) t to result.back.start result.back.bits }
     {
         Marks {
             test,

@@ -1,21 +1,28 @@
 //! The patterns that are characters: one of them, or any of some.
 ghost use Rattle.std.proofs.Common.{rules};
 ghost use Rattle.std.specs.Prelude.{◌≡◌, ◌==◌, ℕ, IfSome};
+ghost use Rattle.std.specs.Char.{len_utf8};
 ghost use Rattle.std.specs.List.{list_any};
 ghost use Rattle.hip_match.specs.AsciiSets.{in_set};
 ghost use Rattle.hip_match.specs.Characters.{char_ends};
 ghost use Rattle.hip_match.specs.CharLaws.{char_ends-spans, char_ends-one_start, char_ends-one_char};
-ghost use Rattle.hip_match.specs.MarkedSets.{AreAsciiBytes};
+ghost use Rattle.hip_match.specs.MarkedSets.{AreStarts};
 ghost use Rattle.hip_match.specs.Searchers.{AreAhead, AreBehind};
-ghost use Rattle.hip_match.specs.FirstBytes.{ascii_first_bytes};
 
 use crate::ascii_set::AsciiSet;
-use crate::byte_test::{ByteTest, OneByte};
 use crate::chars::{CharSet, end_of, start_before};
 use crate::marked_set::{MarkedSet, last_marked, marked_searcher, next_marked};
 use crate::marks::Marks;
 use crate::pattern::{ClonePattern, DoubleEndedPattern, OneChar, Pattern, ReversePattern};
-use crate::texts::{find_char, rfind_char};
+use crate::place_test::{Bytes, Needle, PlaceTest};
+
+// The bytes of a character.
+fn needle_of(c: char) -> Option<Needle>
+    ensures { IfSome result (λ n. AreStarts (λ d. d == c) (len_utf8 c) (⟦<Needle as PlaceTest>⟧.places n)) }
+{
+    let mut room = [0; 4];
+    Needle::new(c.encode_utf8(&mut room).as_bytes())
+}
 
 impl CharSet for char {
     ghost belongs = { λ c d. d == c };
@@ -27,52 +34,44 @@ impl CharSet for char {
 }
 
 impl MarkedSet for char {
-    type Test = OneByte;
+    type Test = Needle;
 
-    ghost is_found_by = { λ c passes. AreAsciiBytes (λ d. d == c) passes };
+    ghost is_found_by = { λ c. AreStarts (λ d. d == c) (len_utf8 c) };
 
-    ghost first_bytes = { λ c passes found. ascii_first_bytes (λ d. d == c) passes found };
+    ghost first_places = { λ _ _ found. found.first };
 
     #[inline]
-    fn test(&self) -> Option<OneByte> {
-        if self.is_ascii() {
-            Some(OneByte(*self as u8))
-        } else {
-            None
-        }
+    fn test(&self) -> Option<Needle> {
+        needle_of(*self)
     }
 
-    #[tactic(auto, using(crate::specs::FirstBytes::ascii_end))]
     #[inline(always)]
-    fn end_at_mark(&self, _test: &OneByte, _text: &str, at: usize) -> Option<usize> {
-        Some(at + 1)
+    fn end_at_mark(&self, _test: &Needle, _text: &str, at: usize) -> Option<usize> {
+        Some(at + self.len_utf8())
     }
 }
 
 impl Pattern for char {
-    type Searcher = Option<Marks<OneByte>>;
+    type Searcher = Option<Marks<Needle>>;
 
     ghost ends = { λ c. char_ends (λ d. d == c) };
 
-    ghost is_ready = { λ c m text from. AreAhead (AreAsciiBytes (λ d. d == c)) (⟦<OneByte as ByteTest>⟧.passes) m text from };
+    ghost is_ready = { λ c m text from. AreAhead (AreStarts (λ d. d == c) (len_utf8 c)) (⟦<Needle as PlaceTest>⟧.places) m text from };
 
-    ghost is_ready_back = { λ c m text to. AreBehind (AreAsciiBytes (λ d. d == c)) (⟦<OneByte as ByteTest>⟧.passes) m text to };
+    ghost is_ready_back = { λ c m text to. AreBehind (AreStarts (λ d. d == c) (len_utf8 c)) (⟦<Needle as PlaceTest>⟧.places) m text to };
 
     #[inline]
-    fn searcher(&self, _text: &str, from: usize, to: usize) -> Option<Marks<OneByte>> {
+    fn searcher(&self, _text: &str, from: usize, to: usize) -> Option<Marks<Needle>> {
         marked_searcher(self, from, to)
     }
 
     #[inline(always)]
     fn next_match_by(
         &self,
-        searcher: &mut Option<Marks<OneByte>>,
+        searcher: &mut Option<Marks<Needle>>,
         text: &str,
         from: usize,
     ) -> Option<(usize, usize)> {
-        if searcher.is_none() {
-            return find_char(text, *self, from);
-        }
         next_marked(self, searcher, text, from)
     }
 
@@ -88,13 +87,10 @@ impl ReversePattern for char {
     #[inline(always)]
     fn last_match_by(
         &self,
-        searcher: &mut Option<Marks<OneByte>>,
+        searcher: &mut Option<Marks<Needle>>,
         text: &str,
         to: usize,
     ) -> Option<(usize, usize)> {
-        if searcher.is_none() {
-            return rfind_char(text, *self, to);
-        }
         last_marked(self, searcher, text, to)
     }
 
@@ -149,42 +145,41 @@ impl<'a> CharSet for &'a [char] {
 }
 
 impl<'a> MarkedSet for &'a [char] {
-    type Test = AsciiSet;
+    type Test = Bytes<AsciiSet>;
 
-    ghost is_found_by = { λ s passes. AreAsciiBytes (λ d. list_any (λ c. c == d) s.now) passes };
+    ghost is_found_by = { λ s. AreStarts (λ d. list_any (λ c. c == d) s.now) 1 };
 
-    ghost first_bytes = { λ s passes found. ascii_first_bytes (λ d. list_any (λ c. c == d) s.now) passes found };
+    ghost first_places = { λ _ _ found. found.first };
 
     #[inline]
-    fn test(&self) -> Option<AsciiSet> {
-        ascii_set(*self)
+    fn test(&self) -> Option<Bytes<AsciiSet>> {
+        Some(Bytes(ascii_set(*self)?))
     }
 
-    #[tactic(auto, using(crate::specs::FirstBytes::ascii_end))]
     #[inline(always)]
-    fn end_at_mark(&self, _test: &AsciiSet, _text: &str, at: usize) -> Option<usize> {
+    fn end_at_mark(&self, _test: &Bytes<AsciiSet>, _text: &str, at: usize) -> Option<usize> {
         Some(at + 1)
     }
 }
 
 impl<'a> Pattern for &'a [char] {
-    type Searcher = Option<Marks<AsciiSet>>;
+    type Searcher = Option<Marks<Bytes<AsciiSet>>>;
 
     ghost ends = { λ s. char_ends (λ d. list_any (λ c. c == d) s.now) };
 
-    ghost is_ready = { λ s m text from. AreAhead (AreAsciiBytes (λ d. list_any (λ c. c == d) s.now)) (⟦<AsciiSet as ByteTest>⟧.passes) m text from };
+    ghost is_ready = { λ s m text from. AreAhead (AreStarts (λ d. list_any (λ c. c == d) s.now) 1) (⟦<Bytes<AsciiSet> as PlaceTest>⟧.places) m text from };
 
-    ghost is_ready_back = { λ s m text to. AreBehind (AreAsciiBytes (λ d. list_any (λ c. c == d) s.now)) (⟦<AsciiSet as ByteTest>⟧.passes) m text to };
+    ghost is_ready_back = { λ s m text to. AreBehind (AreStarts (λ d. list_any (λ c. c == d) s.now) 1) (⟦<Bytes<AsciiSet> as PlaceTest>⟧.places) m text to };
 
     #[inline]
-    fn searcher(&self, _text: &str, from: usize, to: usize) -> Option<Marks<AsciiSet>> {
+    fn searcher(&self, _text: &str, from: usize, to: usize) -> Option<Marks<Bytes<AsciiSet>>> {
         marked_searcher(self, from, to)
     }
 
     #[inline(always)]
     fn next_match_by(
         &self,
-        searcher: &mut Option<Marks<AsciiSet>>,
+        searcher: &mut Option<Marks<Bytes<AsciiSet>>>,
         text: &str,
         from: usize,
     ) -> Option<(usize, usize)> {
@@ -203,7 +198,7 @@ impl<'a> ReversePattern for &'a [char] {
     #[inline(always)]
     fn last_match_by(
         &self,
-        searcher: &mut Option<Marks<AsciiSet>>,
+        searcher: &mut Option<Marks<Bytes<AsciiSet>>>,
         text: &str,
         to: usize,
     ) -> Option<(usize, usize)> {
@@ -229,16 +224,16 @@ impl<'a> ClonePattern for &'a [char] {
 impl<'a> DoubleEndedPattern for &'a [char] {}
 
 impl<'a, const N: usize> Pattern for &'a [char; N] {
-    type Searcher = Option<Marks<AsciiSet>>;
+    type Searcher = Option<Marks<Bytes<AsciiSet>>>;
 
     ghost ends = { λ s. char_ends (λ d. list_any (λ c. c == d) s.now) };
 
-    ghost is_ready = { λ s m text from. AreAhead (AreAsciiBytes (λ d. list_any (λ c. c == d) s.now)) (⟦<AsciiSet as ByteTest>⟧.passes) m text from };
+    ghost is_ready = { λ s m text from. AreAhead (AreStarts (λ d. list_any (λ c. c == d) s.now) 1) (⟦<Bytes<AsciiSet> as PlaceTest>⟧.places) m text from };
 
-    ghost is_ready_back = { λ s m text to. AreBehind (AreAsciiBytes (λ d. list_any (λ c. c == d) s.now)) (⟦<AsciiSet as ByteTest>⟧.passes) m text to };
+    ghost is_ready_back = { λ s m text to. AreBehind (AreStarts (λ d. list_any (λ c. c == d) s.now) 1) (⟦<Bytes<AsciiSet> as PlaceTest>⟧.places) m text to };
 
     #[inline]
-    fn searcher(&self, text: &str, from: usize, to: usize) -> Option<Marks<AsciiSet>> {
+    fn searcher(&self, text: &str, from: usize, to: usize) -> Option<Marks<Bytes<AsciiSet>>> {
         let set: &[char] = *self;
         set.searcher(text, from, to)
     }
@@ -246,7 +241,7 @@ impl<'a, const N: usize> Pattern for &'a [char; N] {
     #[inline(always)]
     fn next_match_by(
         &self,
-        searcher: &mut Option<Marks<AsciiSet>>,
+        searcher: &mut Option<Marks<Bytes<AsciiSet>>>,
         text: &str,
         from: usize,
     ) -> Option<(usize, usize)> {
@@ -267,7 +262,7 @@ impl<'a, const N: usize> ReversePattern for &'a [char; N] {
     #[inline(always)]
     fn last_match_by(
         &self,
-        searcher: &mut Option<Marks<AsciiSet>>,
+        searcher: &mut Option<Marks<Bytes<AsciiSet>>>,
         text: &str,
         to: usize,
     ) -> Option<(usize, usize)> {

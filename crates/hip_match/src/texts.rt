@@ -1,269 +1,147 @@
-//! Texts found in texts, by the vector searches of `memchr`.
+//! Texts found in texts: up to four bytes by the marks of their places, more by the vector searches of `memchr`.
 
 ghost use Rattle.std.proofs.Common.{rules};
-ghost use Rattle.std.specs.Prelude.{◌≡◌, ◌==◌, ◌<◌, length, string_bytes, IfSome};
+ghost use Rattle.std.specs.Prelude.{◌≡◌, ◌≤◌, ◌-◌, ℕ, List, length, string_bytes, IfSome};
 ghost use Rattle.std.specs.Str.{IsCharBoundary};
 ghost use Rattle.memchr.specs.Find.{FindsNeedle, FindsLastNeedle};
-ghost use Rattle.hip_match.specs.Occurrence.{IsNextMatch, IsLastMatch, start_of};
+ghost use Rattle.hip_match.specs.Occurrence.{GoesOnAt, GoesOnBefore, IsNextMatch, IsLastMatch, start_of};
+ghost use Rattle.hip_match.specs.Needles.{bytes_of};
+ghost use Rattle.hip_match.specs.Marks.{Ahead, Behind, stands};
+ghost use Rattle.hip_match.specs.Searchers.{FindsAhead, FindsBehind};
 ghost use Rattle.hip_match.specs.Texts.{text_ends};
-ghost use Rattle.hip_match.specs.Characters.{char_ends};
 ghost use Rattle.hip_match.specs.TextLaws.{text_ends-spans, text_ends-one_start};
 
+use crate::marks::Marks;
 use crate::pattern::{ClonePattern, Pattern, ReversePattern};
-use memchr::arch::all::packedpair::Pair;
-use memchr::arch::all::{is_prefix, is_suffix, packedpair};
+use crate::place_test::{Needle, PlaceTest};
+use memchr::arch::all::{is_prefix, is_suffix};
+use memchr::memmem;
 use memchr::memmem::{Finder, FinderRev};
-use memchr::{memchr, memmem, memrchr};
 
-/// The searcher of a text. Nothing is prepared for a short one.
+/// The searcher of a text: the marks of a short one, or a prepared search for a longer one from the front or from the end.
 #[derive(Drop)]
 pub struct TextSearcher<'p> {
-    finder: Option<Prepared<'p>>,
-    reverse_finder: Option<PreparedBack<'p>>,
+    marks: Option<Marks<Needle>>,
+    finder: Option<Finder<'p>>,
+    reverse_finder: Option<FinderRev<'p>>,
 }
 
-// A prepared search from the front, and the position in the needle of the byte that is searched for first, if there is one.
-#[derive(Drop)]
-pub(crate) struct Prepared<'p> {
-    finder: Finder<'p>,
-    sign: Option<usize>,
-}
-
-// Like `Prepared`, but for a search from the end.
-#[derive(Drop)]
-pub(crate) struct PreparedBack<'p> {
-    finder: FinderRev<'p>,
-    sign: Option<usize>,
-}
-
-// The position in a needle of a rare byte, whose first place in a haystack mostly is where the needle stands: the last byte of one
-// character that isn't ASCII, else a punctuation mark, as separators have one.
+// The marks of a needle of one to four bytes, over what lies between two places.
 #[inline]
-fn sign_of(needle: &[u8]) -> Option<usize> {
-    if needle.len() <= 4 && !needle.is_ascii() {
-        return needle.len().checked_sub(1);
-    }
-    needle.iter().position(|byte| byte.is_ascii_punctuation())
+fn marks_of(needle: &[u8], from: usize, to: usize) -> Option<Marks<Needle>>
+    ensures needle { IfSome result (λ m. bytes_of m.test ≡ needle.now) }
+    ensures ahead { IfSome result (λ m. (t : List ℕ) → from ≤ length t → Ahead (stands needle.now) t from m.front.next m.front.bits) }
+    ensures behind { IfSome result (λ m. (t : List ℕ) → to ≤ length t → Behind (stands needle.now) t (to - (length needle.now - 1)) m.back.start m.back.bits) }
+{
+    let test = Needle::new(needle)?;
+    Some(Marks::new(test, from, to.saturating_sub(test.reach())))
 }
 
-// The prepared search for `needle` from the front. One byte and two have ways of their own.
+// The searcher of `needle` over what lies between two places, prepared for a search from the front.
 #[inline]
-fn finder_of<'p>(needle: &'p str) -> Option<Prepared<'p>>
-    ensures { IfSome result (λ f. f.finder ≡ needle.now) }
+fn searcher_of<'p>(needle: &'p str, from: usize, to: usize) -> TextSearcher<'p>
+    ensures front { (t : List ℕ) → from ≤ length t → FindsAhead needle.now result t from }
+    ensures back { (t : List ℕ) → to ≤ length t → FindsBehind needle.now result t to }
 {
     let wanted = needle.as_bytes();
-    if wanted.len() <= 2 {
-        return None;
+    let marks = marks_of(wanted, from, to);
+    let finder = if marks.is_none() {
+        Some(Finder::new(wanted))
+    } else {
+        None
+    };
+    TextSearcher {
+        marks,
+        finder,
+        reverse_finder: None,
     }
-    Some(Prepared {
-        finder: Finder::new(wanted),
-        sign: sign_of(wanted),
-    })
 }
 
-// The prepared search for `needle` from the end.
+// Like `searcher_of`, but prepared for a search from the end.
 #[inline]
-fn reverse_finder_of<'p>(needle: &'p str) -> Option<PreparedBack<'p>>
-    ensures { IfSome result (λ f. f.finder ≡ needle.now) }
+fn reverse_searcher_of<'p>(needle: &'p str, from: usize, to: usize) -> TextSearcher<'p>
+    ensures front { (t : List ℕ) → from ≤ length t → FindsAhead needle.now result t from }
+    ensures back { (t : List ℕ) → to ≤ length t → FindsBehind needle.now result t to }
 {
     let wanted = needle.as_bytes();
-    if wanted.len() <= 1 {
-        return None;
+    let marks = marks_of(wanted, from, to);
+    let reverse_finder = if marks.is_none() {
+        Some(FinderRev::new(wanted))
+    } else {
+        None
+    };
+    TextSearcher {
+        marks,
+        finder: None,
+        reverse_finder,
     }
-    Some(PreparedBack {
-        finder: FinderRev::new(wanted),
-        sign: wanted.iter().rposition(|byte| byte.is_ascii_punctuation()),
-    })
 }
 
-// The first place of `hay` where the bytes of `needle` stand, by its prepared search if there is one.
-#[inline]
-fn place_by(finder: &Option<Prepared<'_>>, hay: &[u8], needle: &[u8]) -> Option<usize>
-    requires { IfSome finder.now (λ f. f.finder ≡ needle.now) }
+// The first place of `hay` where the bytes of `needle` stand, by its prepared search if there is one. It is tried first where the search
+// begins.
+#[inline(never)]
+fn first_place(finder: &Option<Finder<'_>>, hay: &[u8], needle: &[u8]) -> Option<usize>
+    requires { IfSome finder.now (λ f. f ≡ needle.now) }
     ensures { FindsNeedle hay.now needle.now 0 result }
 {
+    if is_prefix(hay, needle) {
+        return Some(0);
+    }
     match finder {
-        Some(prepared) => prepared.finder.find(hay),
+        Some(finder) => finder.find(hay),
         None => memmem::find(hay, needle),
     }
 }
 
-// Like `place_by`, but tries first where the needle's byte at `sign` first stands. Where the needle isn't there, the search goes on behind
-// that place.
-#[inline]
-fn near_place(
-    finder: &Option<Prepared<'_>>,
-    hay: &[u8],
-    needle: &[u8],
-    sign: usize,
-) -> Option<usize>
-    requires within { sign < length needle.now }
-    requires prepared { IfSome finder.now (λ f. f.finder ≡ needle.now) }
-    ensures { FindsNeedle hay.now needle.now 0 result }
-{
-    let at = memchr(needle[sign], hay)?;
-    if at >= sign && is_prefix(&hay[at - sign..], needle) {
-        return Some(at - sign);
-    }
-    let past = (at + 1).saturating_sub(sign);
-    Some(past + place_by(finder, &hay[past..], needle)?)
-}
-
-// The first place of `hay` where the two bytes of `needle` stand.
-#[inline]
-fn pair_place(hay: &[u8], needle: &[u8]) -> Option<usize>
-    requires { length needle.now ≡ 2 }
-    ensures { FindsNeedle hay.now needle.now 0 result }
-{
-    let pair = Pair::with_indices(needle, 0, 1)?;
-    packedpair::Finder::with_pair(needle, pair).find_prefilter(hay)
-}
-
-// The first place of `hay` where the bytes of `needle` stand, of which there are none or more than one. Two bytes are searched for as a
-// pair; a longer needle is tried first at its byte at `sign`, or where the search begins. It is a function apart, so that the search for
-// one byte is short enough to be inlined.
+// Like `first_place`, but the last place, which is tried first at the end.
 #[inline(never)]
-fn first_wide_place(finder: &Option<Prepared<'_>>, hay: &[u8], needle: &[u8]) -> Option<usize>
-    requires { IfSome finder.now (λ f. f.finder ≡ needle.now) }
-    ensures { FindsNeedle hay.now needle.now 0 result }
-{
-    if needle.len() == 2 {
-        return pair_place(hay, needle);
-    }
-    if needle.len() <= 2 {
-        return place_by(finder, hay, needle);
-    }
-    let last = needle.len() - 1;
-    match finder {
-        Some(
-            Prepared {
-                sign: Some(sign),
-                ..
-            },
-        ) => near_place(finder, hay, needle, (*sign).min(last)),
-        None if last < 4 && needle[0] >= 0x80 => near_place(finder, hay, needle, last),
-        _ if is_prefix(hay, needle) => Some(0),
-        _ => place_by(finder, hay, needle),
-    }
-}
-
-// The first place of `hay` where the bytes of `needle` stand. One byte has a search of its own.
-#[inline(always)]
-fn first_place(finder: &Option<Prepared<'_>>, hay: &[u8], needle: &[u8]) -> Option<usize>
-    requires { IfSome finder.now (λ f. f.finder ≡ needle.now) }
-    ensures { FindsNeedle hay.now needle.now 0 result }
-{
-    if needle.len() == 1 {
-        return memchr(needle[0], hay);
-    }
-    first_wide_place(finder, hay, needle)
-}
-
-// The last place of `hay` where the bytes of `needle` stand, by its prepared search if there is one.
-#[inline]
-fn last_place_by(finder: &Option<PreparedBack<'_>>, hay: &[u8], needle: &[u8]) -> Option<usize>
-    requires { IfSome finder.now (λ f. f.finder ≡ needle.now) }
+fn last_place(finder: &Option<FinderRev<'_>>, hay: &[u8], needle: &[u8]) -> Option<usize>
+    requires { IfSome finder.now (λ f. f ≡ needle.now) }
     ensures { FindsLastNeedle hay.now needle.now result }
 {
+    if is_suffix(hay, needle) {
+        return Some(hay.len() - needle.len());
+    }
     match finder {
-        Some(prepared) => prepared.finder.rfind(hay),
+        Some(finder) => finder.rfind(hay),
         None => memmem::rfind(hay, needle),
     }
 }
 
-// Like `last_place_by`, but tries first where the needle's byte at `sign` last stands.
-#[inline]
-fn last_near_place(
-    finder: &Option<PreparedBack<'_>>,
-    hay: &[u8],
-    needle: &[u8],
-    sign: usize,
-) -> Option<usize>
-    requires within { sign < length needle.now }
-    requires prepared { IfSome finder.now (λ f. f.finder ≡ needle.now) }
-    ensures { FindsLastNeedle hay.now needle.now result }
-{
-    let at = memrchr(needle[sign], hay)?;
-    if at >= sign && is_prefix(&hay[at - sign..], needle) {
-        return Some(at - sign);
-    }
-    last_place_by(finder, hay, needle)
-}
-
-// Like `last_place_by`, but tries first the last two places where the needle's last byte stands.
-#[inline]
-fn last_second_place(finder: &Option<PreparedBack<'_>>, hay: &[u8], needle: &[u8]) -> Option<usize>
-    requires some { 0 < length needle.now }
-    requires prepared { IfSome finder.now (λ f. f.finder ≡ needle.now) }
-    ensures { FindsLastNeedle hay.now needle.now result }
-{
-    let back = needle.len() - 1;
-    let at = memrchr(needle[back], hay)?;
-    if at >= back && is_prefix(&hay[at - back..], needle) {
-        return Some(at - back);
-    }
-    last_near_place(finder, &hay[..at], needle, back)
-}
-
-// The last place of `hay` where a needle of more than four bytes, or of none, stands. It is tried first at its byte at `sign`, or at the
-// end.
-#[inline(never)]
-fn last_long_place(finder: &Option<PreparedBack<'_>>, hay: &[u8], needle: &[u8]) -> Option<usize>
-    requires { IfSome finder.now (λ f. f.finder ≡ needle.now) }
-    ensures { FindsLastNeedle hay.now needle.now result }
-{
-    match finder {
-        Some(
-            PreparedBack {
-                sign: Some(sign),
-                ..
-            },
-        ) if *sign < needle.len() => { last_near_place(finder, hay, needle, *sign) }
-        _ if is_suffix(hay, needle) => Some(hay.len() - needle.len()),
-        _ => last_place_by(finder, hay, needle),
-    }
-}
-
-// The last place of `hay` where the bytes of `needle` stand.
-#[inline]
-fn last_place(finder: &Option<PreparedBack<'_>>, hay: &[u8], needle: &[u8]) -> Option<usize>
-    requires { IfSome finder.now (λ f. f.finder ≡ needle.now) }
-    ensures { FindsLastNeedle hay.now needle.now result }
-{
-    if needle.len() == 1 {
-        return memrchr(needle[0], hay);
-    }
-    if needle.len() >= 2 && needle.len() <= 4 {
-        return last_second_place(finder, hay, needle);
-    }
-    last_long_place(finder, hay, needle)
-}
-
-// The first occurrence of `needle` at or after `from`, by its prepared search if there is one.
+// The first occurrence of `needle` at or after `from`, by its searcher.
 #[tactic(auto, using(crate::proofs::TextLemmas::find_empty))]
 #[inline(always)]
-pub(crate) fn find_text(
+fn find_text(
     text: &str,
     needle: &str,
-    finder: &Option<Prepared<'_>>,
+    searcher: &mut TextSearcher<'_>,
     from: usize,
 ) -> Option<(usize, usize)>
     requires boundary { IsCharBoundary text.now from }
-    requires prepared { IfSome finder.now (λ f. f.finder ≡ needle.now) }
-    ensures { IsNextMatch (text_ends needle.now text.now) from result }
+    requires ready { FindsAhead needle.now searcher.old text.now from }
+    ensures found { IsNextMatch (text_ends needle.now text.now) from result }
+    ensures front { IfSome result (λ m. (k : ℕ) → GoesOnAt m k → FindsAhead needle.now searcher.new text.now k) }
+    ensures back { (to : ℕ) → FindsBehind needle.now searcher.old text.now to → FindsBehind needle.now searcher.new text.now to }
 {
+    let bytes = text.as_bytes();
     let wanted = needle.as_bytes();
+    if let Some(marks) = &mut searcher.marks {
+        let start = marks.front.next(&marks.test, bytes, from)?;
+        let end = start + wanted.len();
+        marks.front.skip_to(end);
+        return Some((start, end));
+    }
     if wanted.is_empty() {
         return Some((from, from));
     }
-    let start = from + first_place(finder, &text.as_bytes()[from..], wanted)?;
+    let start = from + first_place(&searcher.finder, &bytes[from..], wanted)?;
     Some((start, start + wanted.len()))
 }
 
 // The end of the occurrence of `needle` that starts at `at`.
 #[tactic(auto, using(crate::proofs::Rules::text_at))]
 #[inline]
-pub(crate) fn text_at(text: &str, needle: &str, at: usize) -> Option<usize>
+fn text_at(text: &str, needle: &str, at: usize) -> Option<usize>
     requires { IsCharBoundary text.now at }
     ensures { result ≡ text_ends needle.now text.now at }
 {
@@ -274,31 +152,42 @@ pub(crate) fn text_at(text: &str, needle: &str, at: usize) -> Option<usize>
     None
 }
 
-// The last occurrence of `needle` that ends at or before `to`, by its prepared search if there is one.
+// The last occurrence of `needle` that ends at or before `to`, by its searcher.
 #[tactic(auto, using(crate::proofs::TextLemmas::rfind_empty))]
-#[inline]
-pub(crate) fn rfind_text(
+#[inline(always)]
+fn rfind_text(
     text: &str,
     needle: &str,
-    finder: &Option<PreparedBack<'_>>,
+    searcher: &mut TextSearcher<'_>,
     to: usize,
 ) -> Option<(usize, usize)>
     requires boundary { IsCharBoundary text.now to }
-    requires prepared { IfSome finder.now (λ f. f.finder ≡ needle.now) }
-    ensures { IsLastMatch (text_ends needle.now text.now) to result }
+    requires ready { FindsBehind needle.now searcher.old text.now to }
+    ensures found { IsLastMatch (text_ends needle.now text.now) to result }
+    ensures back { IfSome result (λ m. (k : ℕ) → GoesOnBefore m k → FindsBehind needle.now searcher.new text.now k) }
+    ensures front { (from : ℕ) → FindsAhead needle.now searcher.old text.now from → FindsAhead needle.now searcher.new text.now from }
 {
+    let bytes = text.as_bytes();
     let wanted = needle.as_bytes();
+    if let Some(marks) = &mut searcher.marks {
+        let behind = marks.test.reach();
+        let start = marks
+            .back
+            .last(&marks.test, bytes, to.saturating_sub(behind))?;
+        marks.back.skip_to(start.saturating_sub(behind));
+        return Some((start, start + wanted.len()));
+    }
     if wanted.is_empty() {
         return Some((to, to));
     }
-    let start = last_place(finder, &text.as_bytes()[..to], wanted)?;
+    let start = last_place(&searcher.reverse_finder, &bytes[..to], wanted)?;
     Some((start, start + wanted.len()))
 }
 
 // The start of the occurrence of `needle` that ends at `to`.
 #[tactic(auto, using(crate::proofs::Rules::text_before))]
 #[inline]
-pub(crate) fn text_before(text: &str, needle: &str, to: usize) -> Option<usize>
+fn text_before(text: &str, needle: &str, to: usize) -> Option<usize>
     requires { IsCharBoundary text.now to }
     ensures { result ≡ start_of (text_ends needle.now text.now) to }
 {
@@ -309,46 +198,18 @@ pub(crate) fn text_before(text: &str, needle: &str, to: usize) -> Option<usize>
     None
 }
 
-// The first occurrence of the character `c` at or after `from`.
-#[inline(always)]
-pub(crate) fn find_char(text: &str, c: char, from: usize) -> Option<(usize, usize)>
-    requires { IsCharBoundary text.now from }
-    ensures { IsNextMatch (char_ends (λ d. d == c) text.now) from result }
-{
-    let mut room = [0; 4];
-    find_text(text, c.encode_utf8(&mut room), &None, from)
-}
-
-// The last occurrence of the character `c` that ends at or before `to`.
-#[inline]
-pub(crate) fn rfind_char(text: &str, c: char, to: usize) -> Option<(usize, usize)>
-    requires { IsCharBoundary text.now to }
-    ensures { IsLastMatch (char_ends (λ d. d == c) text.now) to result }
-{
-    let mut room = [0; 4];
-    rfind_text(text, c.encode_utf8(&mut room), &None, to)
-}
-
 impl<'p> Pattern for &'p str {
     type Searcher = TextSearcher<'p>;
 
     ghost ends = { λ p. text_ends p.now };
 
-    ghost is_ready = { λ p s _ _. IfSome s.finder (λ f. f.finder ≡ p.now) };
+    ghost is_ready = { λ p s text from. FindsAhead p.now s text from };
 
-    ghost is_ready_back = { λ p s _ _. IfSome s.reverse_finder (λ f. f.finder ≡ p.now) };
-
-    #[inline]
-    fn searcher(&self, _text: &str, _from: usize, _to: usize) -> TextSearcher<'p> {
-        TextSearcher {
-            finder: finder_of(*self),
-            reverse_finder: None,
-        }
-    }
+    ghost is_ready_back = { λ p s text to. FindsBehind p.now s text to };
 
     #[inline]
-    fn next_match(&self, text: &str, from: usize) -> Option<(usize, usize)> {
-        find_text(text, *self, &None, from)
+    fn searcher(&self, _text: &str, from: usize, to: usize) -> TextSearcher<'p> {
+        searcher_of(*self, from, to)
     }
 
     #[inline(always)]
@@ -358,7 +219,7 @@ impl<'p> Pattern for &'p str {
         text: &str,
         from: usize,
     ) -> Option<(usize, usize)> {
-        find_text(text, *self, &searcher.finder, from)
+        find_text(text, *self, searcher, from)
     }
 
     #[inline]
@@ -375,26 +236,18 @@ impl<'p> ClonePattern for &'p str {
 
 impl<'p> ReversePattern for &'p str {
     #[inline]
-    fn reverse_searcher(&self, _text: &str, _from: usize, _to: usize) -> TextSearcher<'p> {
-        TextSearcher {
-            finder: None,
-            reverse_finder: reverse_finder_of(*self),
-        }
+    fn reverse_searcher(&self, _text: &str, from: usize, to: usize) -> TextSearcher<'p> {
+        reverse_searcher_of(*self, from, to)
     }
 
-    #[inline]
-    fn last_match(&self, text: &str, to: usize) -> Option<(usize, usize)> {
-        rfind_text(text, *self, &None, to)
-    }
-
-    #[inline]
+    #[inline(always)]
     fn last_match_by(
         &self,
         searcher: &mut TextSearcher<'p>,
         text: &str,
         to: usize,
     ) -> Option<(usize, usize)> {
-        rfind_text(text, *self, &searcher.reverse_finder, to)
+        rfind_text(text, *self, searcher, to)
     }
 
     #[inline]
@@ -410,21 +263,13 @@ impl<'p, 'q> Pattern for &'q &'p str {
 
     ghost ends = { λ p. text_ends p.now.now };
 
-    ghost is_ready = { λ p s _ _. IfSome s.finder (λ f. f.finder ≡ p.now.now) };
+    ghost is_ready = { λ p s text from. FindsAhead p.now.now s text from };
 
-    ghost is_ready_back = { λ p s _ _. IfSome s.reverse_finder (λ f. f.finder ≡ p.now.now) };
-
-    #[inline]
-    fn searcher(&self, _text: &str, _from: usize, _to: usize) -> TextSearcher<'p> {
-        TextSearcher {
-            finder: finder_of(**self),
-            reverse_finder: None,
-        }
-    }
+    ghost is_ready_back = { λ p s text to. FindsBehind p.now.now s text to };
 
     #[inline]
-    fn next_match(&self, text: &str, from: usize) -> Option<(usize, usize)> {
-        find_text(text, **self, &None, from)
+    fn searcher(&self, _text: &str, from: usize, to: usize) -> TextSearcher<'p> {
+        searcher_of(**self, from, to)
     }
 
     #[inline(always)]
@@ -434,7 +279,7 @@ impl<'p, 'q> Pattern for &'q &'p str {
         text: &str,
         from: usize,
     ) -> Option<(usize, usize)> {
-        find_text(text, **self, &searcher.finder, from)
+        find_text(text, **self, searcher, from)
     }
 
     #[inline]
@@ -451,26 +296,18 @@ impl<'p, 'q> ClonePattern for &'q &'p str {
 
 impl<'p, 'q> ReversePattern for &'q &'p str {
     #[inline]
-    fn reverse_searcher(&self, _text: &str, _from: usize, _to: usize) -> TextSearcher<'p> {
-        TextSearcher {
-            finder: None,
-            reverse_finder: reverse_finder_of(**self),
-        }
+    fn reverse_searcher(&self, _text: &str, from: usize, to: usize) -> TextSearcher<'p> {
+        reverse_searcher_of(**self, from, to)
     }
 
-    #[inline]
-    fn last_match(&self, text: &str, to: usize) -> Option<(usize, usize)> {
-        rfind_text(text, **self, &None, to)
-    }
-
-    #[inline]
+    #[inline(always)]
     fn last_match_by(
         &self,
         searcher: &mut TextSearcher<'p>,
         text: &str,
         to: usize,
     ) -> Option<(usize, usize)> {
-        rfind_text(text, **self, &searcher.reverse_finder, to)
+        rfind_text(text, **self, searcher, to)
     }
 
     #[inline]
@@ -486,21 +323,13 @@ impl<'p> Pattern for &'p String {
 
     ghost ends = { λ p. text_ends (string_bytes p.now) };
 
-    ghost is_ready = { λ p s _ _. IfSome s.finder (λ f. f.finder ≡ string_bytes p.now) };
+    ghost is_ready = { λ p s text from. FindsAhead (string_bytes p.now) s text from };
 
-    ghost is_ready_back = { λ p s _ _. IfSome s.reverse_finder (λ f. f.finder ≡ string_bytes p.now) };
-
-    #[inline]
-    fn searcher(&self, _text: &str, _from: usize, _to: usize) -> TextSearcher<'p> {
-        TextSearcher {
-            finder: finder_of(self.as_str()),
-            reverse_finder: None,
-        }
-    }
+    ghost is_ready_back = { λ p s text to. FindsBehind (string_bytes p.now) s text to };
 
     #[inline]
-    fn next_match(&self, text: &str, from: usize) -> Option<(usize, usize)> {
-        find_text(text, self.as_str(), &None, from)
+    fn searcher(&self, _text: &str, from: usize, to: usize) -> TextSearcher<'p> {
+        searcher_of(self.as_str(), from, to)
     }
 
     #[inline(always)]
@@ -510,7 +339,7 @@ impl<'p> Pattern for &'p String {
         text: &str,
         from: usize,
     ) -> Option<(usize, usize)> {
-        find_text(text, self.as_str(), &searcher.finder, from)
+        find_text(text, self.as_str(), searcher, from)
     }
 
     #[inline]
@@ -527,26 +356,18 @@ impl<'p> ClonePattern for &'p String {
 
 impl<'p> ReversePattern for &'p String {
     #[inline]
-    fn reverse_searcher(&self, _text: &str, _from: usize, _to: usize) -> TextSearcher<'p> {
-        TextSearcher {
-            finder: None,
-            reverse_finder: reverse_finder_of(self.as_str()),
-        }
+    fn reverse_searcher(&self, _text: &str, from: usize, to: usize) -> TextSearcher<'p> {
+        reverse_searcher_of(self.as_str(), from, to)
     }
 
-    #[inline]
-    fn last_match(&self, text: &str, to: usize) -> Option<(usize, usize)> {
-        rfind_text(text, self.as_str(), &None, to)
-    }
-
-    #[inline]
+    #[inline(always)]
     fn last_match_by(
         &self,
         searcher: &mut TextSearcher<'p>,
         text: &str,
         to: usize,
     ) -> Option<(usize, usize)> {
-        rfind_text(text, self.as_str(), &searcher.reverse_finder, to)
+        rfind_text(text, self.as_str(), searcher, to)
     }
 
     #[inline]

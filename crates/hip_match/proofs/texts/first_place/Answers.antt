@@ -1,5 +1,8 @@
-use Rattle.hip_match.proofs.TextLemmas.{FindsNeedle-byte}
+use Rattle.std.proofs.Common.{List, ℕ, subst}
+use Rattle.memchr.specs.Find.{FindsNeedle}
 use Rattle.hip_match.proofs.texts.first_place.Goals as goal
 
-pub returns-then-needle-eq1 : goal.returns-then-needle-eq1
-returns-then-needle-eq1 c = FindsNeedle-byte _ _ _ c.if-needle-eq1.true c.memchr.ensures
+pub returns-in-Some : goal.returns-in-Some
+returns-in-Some c =
+    let P : List ℕ → Type 0 = λ needle. FindsNeedle c.args.hay.now needle 0 c.find.result in
+    subst P (rw c.in-Some.is at c.requires) c.find.ensures

@@ -1,5 +1,8 @@
-use Rattle.hip_match.proofs.TextLemmas.{FindsLastNeedle-byte}
+use Rattle.std.proofs.Common.{List, ℕ, subst}
+use Rattle.memchr.specs.Find.{FindsLastNeedle}
 use Rattle.hip_match.proofs.texts.last_place.Goals as goal
 
-pub returns-then-needle-eq1 : goal.returns-then-needle-eq1
-returns-then-needle-eq1 c = FindsLastNeedle-byte _ _ _ c.if-needle-eq1.true c.memrchr.ensures
+pub returns-in-Some : goal.returns-in-Some
+returns-in-Some c =
+    let P : List ℕ → Type 0 = λ needle. FindsLastNeedle c.args.hay.now needle c.rfind.result in
+    subst P (rw c.in-Some.is at c.requires) c.rfind.ensures

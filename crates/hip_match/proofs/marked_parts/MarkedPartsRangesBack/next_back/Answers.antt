@@ -1,6 +1,6 @@
 use Rattle.std.proofs.Common.{true≢false, ℕ, Option, Some, None, subst, arith, refl}
 use Rattle.memchr.specs.Find.{IsLast, Passes}
-use Rattle.hip_match.specs.Marks.{Behind}
+use Rattle.hip_match.specs.Marks.{Behind, by_byte}
 use Rattle.hip_match.proofs.GapLemmas.{last_cut, last_part, only_behind}
 use Rattle.std.proofs.lemmas.Option.{none-some, same_Some}
 use Rattle.hip_match.proofs.marked_parts.MarkedPartsRangesBack.next_back.Goals as goal
@@ -8,12 +8,12 @@ use Rattle.hip_match.proofs.marked_parts.MarkedPartsRangesBack.next_back.Goals.{
 
 pub returns-in-Some : goal.returns-in-Some
 returns-in-Some g c =
-    let p = g.T.ByteTest.passes c.args.self.now.marks.test in
+    let p = g.T.ByteTest.passes c.args.self.now.marks.test.0 in
     let was = c.requires in
     let at = c.in-Some.at in
     let found = subst (λ l. IsLast (Passes p l) 0 c.args.self.now.to (Some at)) c.as_bytes.ensures.value c.in-Some.ensures.found in
     let cut = last_cut p was.1 _ _ _ was.0 at found in
-    let behind = subst (λ l. Behind p l at c.last.new.self.start c.last.new.self.bits) c.as_bytes.ensures.value c.in-Some.ensures.behind in
+    let behind = subst (λ l. Behind (by_byte p) l at c.last.new.self.start c.last.new.self.bits) c.as_bytes.ensures.value c.in-Some.ensures.behind in
     record {
       last = rw c.if-self.false (last_part p was.1 _ _ _ was.0 at found c.if-self-at.true);
       cut = record { start = cut.end; end = was.0.end; ordered = (let high = found.0.high in omega arith) };
@@ -23,7 +23,7 @@ returns-in-Some g c =
 
 pub returns-in_default-clause-last : goal.returns-in_default-clause-last
 returns-in_default-clause-last g c =
-    let p = g.T.ByteTest.passes c.args.self.now.marks.test in
+    let p = g.T.ByteTest.passes c.args.self.now.marks.test.0 in
     let was = c.requires in
     let last : (r : Option ℕ) → IsLast (Passes p c.as_bytes.result.now) 0 c.args.self.now.to r → IsLast (Passes p c.args.self.now.text.now) 0 c.args.self.now.to r =
     λ r found. subst (λ l. IsLast (Passes p l) 0 c.args.self.now.to r) c.as_bytes.ensures.value found in
