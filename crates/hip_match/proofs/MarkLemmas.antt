@@ -1,7 +1,7 @@
 -- Marks of a test: the bits of one number, and the places that they tell.
 use Rattle.std.proofs.lemmas.Bool.Decides.{nat_tests}
 use Rattle.std.proofs.lemmas.Grind.{common_steps}
-use Rattle.std.proofs.Common.{◌≡◌, ◌≢◌, ◌∙◌, ℕ, ◌+◌, ◌-◌, ◌<◌, ◌≤◌, ◌==◌, min, Bool, true, cond, List, Option, None, Some, length, drop, take, take_all, ap, sym, arith, ⊎_elim, bit_or, get_or-drop, length-drop, slice_index, option_map}
+use Rattle.std.proofs.Common.{◌≡◌, ◌≢◌, ◌∙◌, ℕ, ◌+◌, ◌-◌, ◌<◌, ◌≤◌, Bool, true, cond, List, Option, None, Some, length, drop, take, take_all, ap, sym, arith, ⊎_elim, bit_or, get_or-drop, length-drop, slice_index, option_map}
 use Rattle.std.proofs.lemmas.Bool.{cases_lt, cases_Bool}
 use Rattle.std.proofs.lemmas.Nat.Bits.{bit_at-lt, bit_at-zero, bit_at_above, bit_at_or}
 use Rattle.std.specs.Int.{bit_at}
@@ -67,54 +67,26 @@ module _ (test : List ℕ → ℕ → Bool) (t : List ℕ) where
     -- moved up
     pub moved : (by less n : ℕ) → by + less ≡ end → to ≤ less → ((k : ℕ) → k < by → bit_at n k ≡ 0) → ((k : ℕ) → by ≤ k → k < 64 → bit_at n k ≡ bit_at m (k - by)) → AreMarks test t from to less n
     moved by less n is room below up = record {
-      told = λ k low one. ⊎_elim (λ (lt : k < by). absurd (omega (arith, one, below k lt)))
-          (λ (ge : by ≤ k).
-          let was = h.told (k - by) (omega arith) (sym (up k ge low) ∙ one) in
-          let here : end + (k - by) - 64 ≡ less + k - 64 = omega arith in
-          (omega (arith, was.0), omega (arith, was.1), ap (test t) (sym here) ∙ was.2))
-          (cases_lt k by);
-      marked = λ p lo hi pass.
-          let was = h.marked p lo hi pass in
-          let here : p + 64 - less - by ≡ p + 64 - end = omega arith in
-          (omega (arith, was.0), omega arith, up (p + 64 - less) (omega (arith, was.0)) (omega arith) ∙ ap (bit_at m) here ∙ was.2);
+      told = λ k low one. grind (arith, cases_lt k by, below k, up k, h.told (k - by));
+      marked = λ p lo hi pass. grind (arith, h.marked p lo hi pass, up (p + 64 - less));
     }
 
     -- two stretches that meet are one
     pub joined : (start stop n : ℕ) → from ≤ start → start ≤ to → to ≤ stop → AreMarks test t start stop end n → AreMarks test t from stop end (bit_or m n)
     joined start stop n lo meet hi g = record {
-      told = λ k low one. ⊎_elim
-          (λ (none : bit_at m k < 1). let was = g.told k low (omega (arith, one, bit_at_or m n k)) in (omega (arith, was.0), was.1, was.2))
-          (λ (some : 1 ≤ bit_at m k). let was = h.told k low (omega (arith, bit_at-lt m k)) in (was.0, omega (arith, was.1), was.2))
-          (cases_lt (bit_at m k) 1);
-      marked = λ p low high pass. ⊎_elim
-          (λ (lt : p < to).
-          let was = h.marked p low lt pass in
-          let k = p + 64 - end in
-          (was.0, was.1, omega (arith, was.2, bit_at_or m n k, bit_at-lt n k)))
-          (λ (ge : to ≤ p).
-          let was = g.marked p (omega arith) high pass in
-          let k = p + 64 - end in
-          (was.0, was.1, omega (arith, was.2, bit_at_or m n k, bit_at-lt m k)))
-          (cases_lt p to);
+      told = λ k low one. grind (arith, bit_at_or m n k, bit_at-lt m k, bit_at-lt n k, g.told k, h.told k);
+      marked = λ p low high pass. grind (arith, cases_lt p to, bit_at_or m n (p + 64 - end), bit_at-lt m (p + 64 - end), bit_at-lt n (p + 64 - end), g.marked p, h.marked p);
     }
 
     -- ---- the other end of a walk moves over places that fail
 
     pub front-moved : (later : ℕ) → Nowhere (PassesAt test t) from later → Nowhere (PassesAt test t) later from → AreMarks test t later to end m
-    front-moved later behind before = record {
-      told = λ k low one.
-          let was = h.told k low one in
-          (⊎_elim (λ (lt : end + k < later + 64). absurd (behind (end + k - 64) (omega (arith, was.0)) (omega (arith, was.0)) was.2)) (λ (ge : later + 64 ≤ end + k). ge) (cases_lt (end + k) (later + 64)), was.1, was.2);
-      marked = λ p lo hi pass. ⊎_elim (λ (lt : p < from). absurd (before p lo lt pass)) (λ (ge : from ≤ p). h.marked p ge hi pass) (cases_lt p from);
-    }
+    front-moved later behind before =
+        record { told = λ k low one. grind (arith, h.told k low one, behind (end + k - 64)); marked = λ p lo hi pass. grind (arith, cases_lt p from, before p, h.marked p) }
 
     pub back-moved : (earlier : ℕ) → Nowhere (PassesAt test t) earlier to → Nowhere (PassesAt test t) to earlier → AreMarks test t from earlier end m
-    back-moved earlier before behind = record {
-      told = λ k low one.
-          let was = h.told k low one in
-          (was.0, ⊎_elim (λ (lt : end + k < earlier + 64). lt) (λ (ge : earlier + 64 ≤ end + k). absurd (before (end + k - 64) (omega arith) (omega (arith, was.1, was.0)) was.2)) (cases_lt (end + k) (earlier + 64)), was.2);
-      marked = λ p lo hi pass. ⊎_elim (λ (lt : p < to). h.marked p lo lt pass) (λ (ge : to ≤ p). absurd (behind p ge hi pass)) (cases_lt p to);
-    }
+    back-moved earlier before behind =
+        record { told = λ k low one. grind (arith, h.told k low one, before (end + k - 64)); marked = λ p lo hi pass. grind (arith, cases_lt p to, behind p, h.marked p) }
 
     -- ---- the lowest mark
     module _ (r : ℕ) (low : IsLowest m r) where
@@ -126,14 +98,8 @@ module _ (test : List ℕ → ℕ → Bool) (t : List ℕ) where
 
       pub first-passed : (n : ℕ) → bit_at n r ≡ 0 → ((k : ℕ) → k ≢ r → bit_at n k ≡ bit_at m k) → AreMarks test t (end + r - 64 + 1) to end n
       first-passed n gone others = record {
-        told = λ k bound one.
-            let apart : k ≢ r = λ e. absurd (omega (arith, one, gone, ap (bit_at n) e)) in
-            let set = sym (others k apart) ∙ one in
-            let was = h.told k bound set in
-            (⊎_elim (λ (lt : k < r). absurd (omega (arith, set, low.below k lt))) (λ (ge : r ≤ k). omega (arith, first.0)) (cases_lt k r), was.1, was.2);
-        marked = λ p lo hi pass.
-            let was = h.marked p (omega (arith, first.0)) hi pass in
-            (was.0, was.1, others (p + 64 - end) (λ e. absurd (omega (arith, first.0))) ∙ was.2);
+        told = λ k bound one. grind (arith, first, others k, low.below k, h.told k bound);
+        marked = λ p lo hi pass. grind (arith, first, others (p + 64 - end), h.marked p);
       }
 
     -- ---- the highest mark
@@ -146,14 +112,8 @@ module _ (test : List ℕ → ℕ → Bool) (t : List ℕ) where
 
       pub last-passed : (n : ℕ) → bit_at n r ≡ 0 → ((k : ℕ) → k ≢ r → bit_at n k ≡ bit_at m k) → AreMarks test t from (end + r - 64) end n
       last-passed n gone others = record {
-        told = λ k bound one.
-            let apart : k ≢ r = λ e. absurd (omega (arith, one, gone, ap (bit_at n) e)) in
-            let set = sym (others k apart) ∙ one in
-            let was = h.told k bound set in
-            (was.0, ⊎_elim (λ (lt : r < k). absurd (omega (arith, set, top.above k lt))) (λ (ge : k ≤ r). omega (arith, last.0)) (cases_lt r k), was.2);
-        marked = λ p lo hi pass.
-            let was = h.marked p lo (omega (arith, last.1)) pass in
-            (was.0, was.1, others (p + 64 - end) (λ e. absurd (omega (arith, last.0, was.0))) ∙ was.2);
+        told = λ k bound one. grind (arith, last, others k, top.above k, h.told k bound);
+        marked = λ p lo hi pass. grind (arith, last, others (p + 64 - end), h.marked p);
       }
 
   -- ---- the windows of a walk
@@ -162,32 +122,17 @@ module _ (test : List ℕ → ℕ → Bool) (t : List ℕ) where
     pub ahead-none : m ≡ 0 → Nowhere (PassesAt test t) from next
     ahead-none = none from next next m h.marks
 
-    module _ (clear : m ≡ 0) where
-      -- no place is left behind those whose bytes are read
-      pub ahead-end : (reach : ℕ) → length t - next ≤ reach → ((k : ℕ) → k < length t → PassesAt test t k → k + reach < length t) → Nowhere (PassesAt test t) from (length t)
-      ahead-end reach few fits k lo hi pass =
-          ⊎_elim (λ (lt : k < next). ahead-none clear k lo lt pass) (λ (ge : next ≤ k). absurd (omega (arith, fits k hi pass))) (cases_lt k next)
+    -- marks are read from `start` on
+    module _ (clear : m ≡ 0) (start : ℕ) (le : next ≤ start) (fail : Nowhere (PassesAt test t) next start) where
+      pub ahead-end : Nowhere (PassesAt test t) from start
+      ahead-end k lo hi = ⊎_elim (λ (lt : k < next). ahead-none clear k lo lt) (λ (ge : next ≤ k). fail k ge hi) (cases_lt k next)
 
-      -- a search for the byte whose places are those that pass
-      pub ahead-only : (byte : ℕ) → ((k : ℕ) → k < length t → test t k ≡ (slice_index t k == byte)) → (r : Option ℕ) → IsFirst (Passes (λ b. b == byte) t) next (length t) r → IsFirst (PassesAt test t) from (length t) r
-      ahead-only byte same None none = λ k lo hi pass.
-          ⊎_elim (λ (lt : k < next). ahead-none clear k lo lt pass) (λ (ge : next ≤ k). absurd (none k ge hi (sym (same k hi) ∙ pass))) (cases_lt k next)
-      ahead-only byte same (Some i) found = (
-        record {
-          low = ⊎_elim (λ (lt : i < from). absurd (h.beyond i found.0.low lt (same i found.0.high ∙ found.1))) (λ (ge : from ≤ i). ge) (cases_lt i from);
-          high = found.0.high;
-          before = λ k lo hi pass.
-              ⊎_elim (λ (lt : k < next). ahead-none clear k lo lt pass) (λ (ge : next ≤ k). found.0.before k ge hi (sym (same k (let high = found.0.high in omega arith)) ∙ pass)) (cases_lt k next);
-        },
-        same i found.0.high ∙ found.1,
-      )
-
-    pub ahead-loaded : (later n : ℕ) → m ≡ 0 → next ≤ later → later ≤ length t → AreMarks test t next later later n → Ahead test t from later n
-    ahead-loaded later n clear le within marks = record {
-      within = within;
-      beyond = λ k lo hi. h.beyond k (omega arith) hi;
-      marks = front-moved next later later n marks from h.beyond (ahead-none clear);
-    }
+      pub ahead-loaded : (later n : ℕ) → start ≤ later → later ≤ length t → AreMarks test t start later later n → Ahead test t from later n
+      ahead-loaded later n up within marks = record {
+        within = within;
+        beyond = λ k lo hi. h.beyond k (omega arith) hi;
+        marks = front-moved start later later n marks from (λ k lo hi. h.beyond k (omega arith) hi) ahead-end;
+      }
 
     module _ (r : ℕ) (low : IsLowest m r) where
       pub ahead-found : IsFirst (PassesAt test t) from (length t) (Some (next + r - 64))
@@ -208,39 +153,17 @@ module _ (test : List ℕ → ℕ → Bool) (t : List ℕ) where
     pub behind-none : m ≡ 0 → Nowhere (PassesAt test t) start to
     behind-none = none start to (start + 64) m h.marks
 
-    -- the places up to `stop`, whose bytes are there to be read
-    module _ (clear : m ≡ 0) (reach stop : ℕ) (is : stop ≡ min start (length t - reach)) (fits : (k : ℕ) → k < length t → PassesAt test t k → k + reach < length t) where
-      beyond-stop : Nowhere (PassesAt test t) stop to
-      beyond-stop k lo hi pass =
-          let within = h.within in
-          ⊎_elim (λ (lt : k < start). absurd (omega (arith, is, fits k (omega arith) pass))) (λ (ge : start ≤ k). behind-none clear k ge hi pass) (cases_lt k start)
-
-      pub behind-end : stop ≡ 0 → Nowhere (PassesAt test t) 0 to
-      behind-end zero k lo hi = beyond-stop k (omega (arith, zero)) hi
+    -- marks are read before `stop`
+    module _ (clear : m ≡ 0) (stop : ℕ) (le : stop ≤ start) (fail : Nowhere (PassesAt test t) stop start) where
+      pub behind-end : Nowhere (PassesAt test t) stop to
+      behind-end k lo hi = ⊎_elim (λ (lt : k < start). fail k lo lt) (λ (ge : start ≤ k). behind-none clear k ge hi) (cases_lt k start)
 
       pub behind-loaded : (earlier n : ℕ) → earlier ≤ stop → AreMarks test t earlier stop (earlier + 64) n → Behind test t to earlier n
-      behind-loaded earlier n le marks = record {
-        within = (let within = h.within in omega (arith, is));
-        beyond = λ k lo hi. h.beyond k lo (omega (arith, is));
-        marks = back-moved earlier stop (earlier + 64) n marks to (λ k lo hi. h.beyond k lo (omega (arith, is))) beyond-stop;
+      behind-loaded earlier n down marks = record {
+        within = (let within = h.within in omega arith);
+        beyond = λ k lo hi. h.beyond k lo (omega arith);
+        marks = back-moved earlier stop (earlier + 64) n marks to (λ k lo hi. h.beyond k lo (omega arith)) behind-end;
       }
-
-      pub behind-only : (byte : ℕ) → ((k : ℕ) → k < length t → test t k ≡ (slice_index t k == byte)) → (r : Option ℕ) → IsLast (Passes (λ b. b == byte) t) 0 stop r → IsLast (PassesAt test t) 0 to r
-      behind-only byte same None none = λ k lo hi pass.
-          let within = h.within in
-          ⊎_elim (λ (lt : k < stop). absurd (none k lo lt (sym (same k (omega (arith, is))) ∙ pass))) (λ (ge : stop ≤ k). beyond-stop k ge hi pass) (cases_lt k stop)
-      behind-only byte same (Some i) found =
-          let within = h.within in
-          let high : i < stop = found.0.high in
-          let here = same i (omega (arith, is)) ∙ found.1 in (
-            record {
-              low = omega arith;
-              high = ⊎_elim (λ (lt : i < to). lt) (λ (ge : to ≤ i). absurd (h.beyond i ge (omega (arith, is)) here)) (cases_lt i to);
-              after = λ k lo hi pass.
-                  ⊎_elim (λ (lt : k < stop). found.0.after k lo lt (sym (same k (omega (arith, is))) ∙ pass)) (λ (ge : stop ≤ k). beyond-stop k ge hi pass) (cases_lt k stop);
-            },
-            here,
-          )
 
     module _ (r : ℕ) (top : IsHighest m r) where
       here : start + 64 + r - 64 ≡ start + r

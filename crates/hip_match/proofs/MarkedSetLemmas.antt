@@ -27,18 +27,14 @@ module _ (belongs : ℕ → Bool) (places : List ℕ → ℕ → Bool) (first : 
 
   pub starts_first : (from past a b : ℕ) → from ≤ past → NoneStarts (char_ends belongs t) from past → IsFirst (PassesAt places t) past (length t) (Some a) → char_ends belongs t a ≡ Some b
       → StartsFirst (char_ends belongs t) from (a, b)
-  starts_first from past a b le none found is = record {
-    after = omega (arith, found.0.low);
-    occurs = is;
-    first = λ k lo hi. ⊎_elim (λ (lt : k < past). none k lo lt) (λ (ge : past ≤ k). no_start past a found.0.before k ge hi) (cases_lt k past);
-  }
+  starts_first from past a b le none found is =
+      record { after = omega (arith, found.0.low); occurs = is; first = λ k lo hi. grind (arith, cases_lt k past, no_start past a found.0.before k, none k) }
 
   pub none_up_to : (from past a : ℕ) → NoneStarts (char_ends belongs t) from past → IsFirst (PassesAt places t) past (length t) (Some a) → char_ends belongs t a ≡ None → NoneStarts (char_ends belongs t) from (a + 1)
-  none_up_to from past a none found here =
-      none_more (char_ends belongs t) from a (λ k lo hi. ⊎_elim (λ (lt : k < past). none k lo lt) (λ (ge : past ≤ k). no_start past a found.0.before k ge hi) (cases_lt k past)) here
+  none_up_to from past a none found here = none_more (char_ends belongs t) from a (λ k lo hi. grind (arith, cases_lt k past, no_start past a found.0.before k, none k)) here
 
   pub none_left : (from past : ℕ) → NoneStarts (char_ends belongs t) from past → IsFirst (PassesAt places t) past (length t) None → (k : ℕ) → from ≤ k → char_ends belongs t k ≡ None
-  none_left from past none found = none_past belongs t from (λ k lo hi. ⊎_elim (λ (lt : k < past). none k lo lt) (λ (ge : past ≤ k). no_start past (length t) found k ge hi) (cases_lt k past))
+  none_left from past none found = none_past belongs t from (λ k lo hi. grind (arith, cases_lt k past, no_start past (length t) found k, none k))
 
   -- ---- from the end
 
@@ -46,34 +42,23 @@ module _ (belongs : ℕ → Bool) (places : List ℕ → ℕ → Bool) (first : 
   beyond-new to c d is le = let holds : c < d = (char_ends-one_char belongs t c d utf8 is).holds in omega arith
 
   module _ (to past : ℕ) (beyond : (c d : ℕ) → char_ends belongs t c ≡ Some d → past ≤ c → to < d) where
+    -- an occurrence that starts behind the last place that passes ends beyond
+    late : (a c d : ℕ) → Nowhere (PassesAt places t) (a + 1) past → char_ends belongs t c ≡ Some d → a < c → to < d
+    late a c d none is lt = ⊎_elim (λ (near : c < past). absurd (none c (omega arith) near (first.leads t c d utf8 is))) (λ (far : past ≤ c). beyond c d is far) (cases_lt c past)
+
     pub ends_last : (a b : ℕ) → IsCharBoundary t to → past ≤ to → IsLast (PassesAt places t) 0 past (Some a) → char_ends belongs t a ≡ Some b → EndsLast (char_ends belongs t) to (a, b)
     ends_last a b cut le found is =
         let high = found.0.high in
         let one = char_ends-one_char belongs t a b utf8 is in
+        let start = (char_ends-spans belongs t a b utf8 is).start in
         record {
           before = ⊎_elim (λ (over : to < b). absurd (one.one to (omega arith) over cut)) (λ (ge : b ≤ to). ge) (cases_lt to b);
           occurs = is;
-          last = λ c d other past_it. ⊎_elim
-              (λ (lt : c < a).
-              let whole = char_ends-one_char belongs t c d utf8 other in
-              let start = (char_ends-spans belongs t a b utf8 is).start in
-              let holds : a < b = one.holds in
-              absurd (whole.one a lt (omega arith) start))
-              (λ (ge : a ≤ c). ⊎_elim
-              (λ (gt : a < c). ⊎_elim (λ (near : c < past). absurd (found.0.after c (omega arith) near (first.leads t c d utf8 other))) (λ (far : past ≤ c). beyond c d other far) (cases_lt c past))
-              (λ (level : c ≤ a).
-              let same : c ≡ a = omega arith in
-              let both : b ≡ d = same_Some _ _ (sym is ∙ ap (char_ends belongs t) (sym same) ∙ other) in
-              absurd (omega arith))
-              (cases_lt a c))
-              (cases_lt c a);
+          last = λ c d other past_it. grind (arith, cases_lt c a, cases_lt a c, same_Some, char_ends-one_char belongs t c d utf8 other, one, late a c d found.0.after other);
         }
 
     pub beyond_it : (a : ℕ) → IsLast (PassesAt places t) 0 past (Some a) → char_ends belongs t a ≡ None → (c d : ℕ) → char_ends belongs t c ≡ Some d → a ≤ c → to < d
-    beyond_it a found here c d is le = ⊎_elim
-        (λ (gt : a < c). ⊎_elim (λ (near : c < past). absurd (found.0.after c (omega arith) near (first.leads t c d utf8 is))) (λ (far : past ≤ c). beyond c d is far) (cases_lt c past))
-        (λ (level : c ≤ a). let same : c ≡ a = omega arith in absurd (none-some d (sym here ∙ ap (char_ends belongs t) (sym same) ∙ is)))
-        (cases_lt a c)
+    beyond_it a found here c d is le = grind (arith, cases_lt a c, none-some, late a c d found.0.after is)
 
     pub none_before : IsLast (PassesAt places t) 0 past None → (c d : ℕ) → char_ends belongs t c ≡ Some d → to < d
-    none_before found c d is = ⊎_elim (λ (near : c < past). absurd (found c (omega arith) near (first.leads t c d utf8 is))) (λ (far : past ≤ c). beyond c d is far) (cases_lt c past)
+    none_before found c d is = grind (arith, cases_lt c past, found c, first.leads t c d utf8 is, beyond c d is)

@@ -1,6 +1,6 @@
 -- Where the characters of a set start, by the places that pass a test.
 use Rattle.std.proofs.lemmas.Grind.{common_steps}
-use Rattle.std.proofs.Common.{◌≡◌, ℕ, ◌+◌, ◌<◌, ◌≤◌, ◌==◌, Bool, true, false, List, Option, Some, None, IfSome, length, slice_index, ap, sym, ◌∙◌, arith, ⊎_elim, add-zero, get_or-drop}
+use Rattle.std.proofs.Common.{◌≡◌, ℕ, ◌+◌, ◌<◌, ◌≤◌, ◌==◌, Bool, true, false, List, Option, Some, None, IfSome, MatchOption, length, take, take_all, slice_index, ap, sym, ◌∙◌, arith, ⊎_elim, add-zero, get_or-drop}
 use Rattle.std.specs.Char.{IsScalar, encode_utf8, len_utf8}
 use Rattle.std.specs.Str.{IsUtf8}
 use Rattle.std.proofs.lemmas.Bool.Decides.{nat_tests}
@@ -61,6 +61,6 @@ module _ (c : ℕ) (good : IsScalar c) where
   }
 
   -- the needle of a character, if there is one
-  pub char_found : (o : Option Needle) → IfSome o (λ n. bytes_of n ≡ encode_utf8 c) → IfSome o (λ n. AreStarts (λ d. d == c) (len_utf8 c) (stands (bytes_of n)))
-  char_found None h = h
-  char_found (Some n) h = char_starts (stands (bytes_of n)) (ap stands h)
+  pub char_found : (o : Option Needle) → MatchOption o (length (encode_utf8 c) ≡ 0) (λ n. bytes_of n ≡ take 4 (encode_utf8 c)) → IfSome o (λ n. AreStarts (λ d. d == c) (len_utf8 c) (stands (bytes_of n)))
+  char_found None empty = tt
+  char_found (Some n) h = char_starts (stands (bytes_of n)) (ap stands (h ∙ take_all 4 (encode_utf8 c) (omega (arith, length-encode c, len_utf8_bounds c))))

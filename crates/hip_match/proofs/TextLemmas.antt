@@ -1,10 +1,10 @@
 -- Where memchr finds the bytes of a text, the text occurs.
-use Rattle.std.proofs.Common.{◌≡◌, ℕ, ◌+◌, ◌-◌, ◌<◌, ◌≤◌, false, ⊎_elim, List, Some, None, length, take, drop, arith, length-drop, length-take-le, get_or-drop, get_or-take, take_all, add-zero, ◌==◌, eq-eqb, IsUtf8, IsCharBoundary}
+use Rattle.std.proofs.Common.{◌≡◌, ℕ, ◌+◌, ◌-◌, ◌<◌, ◌≤◌, false, ⊎_elim, List, Option, Some, None, length, take, drop, arith, length-drop, length-take, length-take-le, get_or-drop, get_or-take, option_map, take_all, add-zero, ◌==◌, eq-eqb, IsUtf8, IsCharBoundary}
 use Rattle.std.proofs.lemmas.Bool.{cases_lt, false≢true}
 use Rattle.std.proofs.lemmas.List.{nil_from_length}
-use Rattle.memchr.specs.Find.{OccursAt, FindsNeedle, FindsLastNeedle, IsFirst, IsLast}
+use Rattle.memchr.specs.Find.{OccursAt, FindsNeedle, FindsLastNeedle, IsFirst, IsLast, NoneAfter, NoneBefore, Nowhere}
 use Rattle.memchr.proofs.lemmas.MatchLemmas.{OccursAt-part, OccursAt-from_part}
-use Rattle.hip_match.specs.Occurrence.{StartsFirst, EndsLast, start_of}
+use Rattle.hip_match.specs.Occurrence.{EndsLast, IsLastMatch, IsNextMatch, StartsFirst, start_of}
 use Rattle.hip_match.specs.Marks.{PassesAt, stands}
 use Rattle.hip_match.specs.Texts.{text_ends}
 use Rattle.hip_match.specs.TextLaws.{text_ends-some, text_ends-is, text_ends-one_start, Stands-boundaries}
@@ -31,6 +31,47 @@ module _ (t p : List ℕ) where
   pub OccursAt-in_take : (to k : ℕ) → to ≤ length t → k + length p ≤ to → OccursAt t p k → OccursAt (take to t) p k
   OccursAt-in_take to k le fits h = grind (arith, length-take-le, get_or-take)
 
+  -- ---- the places where its first four bytes stand
+
+  abbrev Fronts : ℕ → Type 0
+  Fronts = PassesAt (stands (take 4 p)) t
+
+  front-stands : (k : ℕ) → OccursAt t p k → Fronts k
+  front-stands k h = occurs-stands (take 4 p) t k (record { fits = (let fits = h.fits in omega (arith, length-take 4 p)); reads = λ j lt. grind (arith, get_or-take, length-take, h.reads j) })
+
+  pub whole_front : (k : ℕ) → length p ≤ 4 → Fronts k → OccursAt t p k
+  whole_front k short here = rw (take_all 4 p short) at (stands-occurs (take 4 p) t k here)
+
+  pub none-whole : (i j : ℕ) → Nowhere Fronts i j → Nowhere (OccursAt t p) i j
+  none-whole i j none k lo hi h = none k lo hi (front-stands k h)
+
+  -- p is not where its first bytes first stand, and is searched for behind that, or before that from the back
+  module _ (start : ℕ) (off : ¬ OccursAt t p start) (some : 0 < length p) where
+    off-here : (k : ℕ) → k ≡ start → ¬ OccursAt t p k
+    off-here k same h = off (rw same at h)
+
+    early : (from : ℕ) → Nowhere Fronts from start → Nowhere (OccursAt t p) from (start + 1)
+    early from none k lo hi h = ⊎_elim (λ (lt : k < start). none k lo lt (front-stands k h)) (λ (ge : start ≤ k). off-here k (omega arith) h) (cases_lt k start)
+
+    pub first-behind : (from : ℕ) (r : Option ℕ) → NoneBefore Fronts from (length t) start → FindsNeedle (drop (start + 1) t) p 0 r → IsFirst (OccursAt t p) from (length t) (option_map (λ i. start + 1 + i) r)
+    first-behind from None found none = λ k lo hi h. grind (arith, cases_lt k (start + 1), early from found.before k, h.fits, length-drop (start + 1) t, OccursAt-in_drop (start + 1) k, none (k - (start + 1)))
+    first-behind from (Some i) found next =
+        let here = OccursAt-drop (start + 1) i (let high = found.high in omega arith) next.1 in
+        let before : Nowhere (OccursAt t p) from (start + 1 + i) =
+        λ k lo hi h. grind (arith, cases_lt k (start + 1), early from found.before k, OccursAt-in_drop (start + 1) k, next.0.before (k - (start + 1))) in
+        (record { low = omega (arith, found.low); high = omega (arith, here.fits); before = before }, here)
+
+    late : (stop : ℕ) → Nowhere Fronts (start + 1) stop → Nowhere (OccursAt t p) start stop
+    late stop none k lo hi h = ⊎_elim (λ (gt : start < k). none k (omega arith) hi (front-stands k h)) (λ (le : k ≤ start). off-here k (omega arith) h) (cases_lt start k)
+
+    pub last-before : (stop : ℕ) (r : Option ℕ) → start + (length p - 1) ≤ length t → NoneAfter Fronts 0 stop start → FindsLastNeedle (take (start + (length p - 1)) t) p r → IsLast (OccursAt t p) 0 stop r
+    last-before stop None room found none = λ k lo hi h. grind (arith, cases_lt k start, late stop found.after k, length-take-le (start + (length p - 1)) t room, OccursAt-in_take (start + (length p - 1)) k room, none k)
+    last-before stop (Some i) room found next =
+        let here = OccursAt-take (start + (length p - 1)) i room next.1 in
+        let after : Nowhere (OccursAt t p) (i + 1) stop =
+        λ k lo hi h. grind (arith, cases_lt k start, late stop found.after k, length-take-le (start + (length p - 1)) t room, OccursAt-in_take (start + (length p - 1)) k room, next.0.after k) in
+        (record { low = omega arith; high = (let high = found.high in omega (arith, here.1)); after = after }, here.0)
+
   pub text_ends-occurs : (a b : ℕ) → text_ends p t a ≡ Some b → OccursAt t p a × (b ≡ a + length p)
   text_ends-occurs a b is = grind (arith, text_ends-is p t a b is, OccursAt-from_part)
 
@@ -38,44 +79,26 @@ module _ (t p : List ℕ) where
     pub occurs-text_ends : (a : ℕ) → 0 < length p → OccursAt t p a → text_ends p t a ≡ Some (a + length p)
     occurs-text_ends a some h = grind (arith, OccursAt-part, Stands-boundaries, text_ends-some)
 
-    -- the search from the front
-    pub find_text-none : (from : ℕ) → from ≤ length t → FindsNeedle (drop from t) p 0 None → (k : ℕ) → from ≤ k → text_ends p t k ≡ None
-    find_text-none from le none k lo = option_cases (text_ends p t k) (λ empty. empty) (λ b is. grind (arith, text_ends-occurs k b is, length-drop from t, OccursAt-in_drop from k lo, none (k - from)))
-
-    pub find_text-some : (from k : ℕ) → from ≤ length t → 0 < length p → FindsNeedle (drop from t) p 0 (Some k) → StartsFirst (text_ends p t) from (from + k, from + k + length p)
-    find_text-some from k le some h =
-        record {
-          after = omega arith;
-          occurs = occurs-text_ends (from + k) some (OccursAt-drop from k le h.1);
-          first = λ j lo hi. option_cases (text_ends p t j) (λ empty. empty) (λ b is. absurd (h.0.before (j - from) (omega arith) (omega arith) (OccursAt-in_drop from j lo (text_ends-occurs j b is).0)));
-        }
-
-    -- the search by marks
-    pub marks-none : (from : ℕ) → 0 < length p → IsFirst (PassesAt (stands p) t) from (length t) None → (k : ℕ) → from ≤ k → text_ends p t k ≡ None
-    marks-none from some none k lo = option_cases (text_ends p t k) (λ empty. empty) (λ b is. let h = (text_ends-occurs k b is).0 in absurd (none k lo (omega (arith, h.fits)) (occurs-stands p t k h)))
-
-    pub marks-some : (from k : ℕ) → 0 < length p → IsFirst (PassesAt (stands p) t) from (length t) (Some k) → StartsFirst (text_ends p t) from (k, k + length p)
-    marks-some from k some found = record {
+    -- where its bytes stand it occurs, from the front and from the back
+    pub next_match : (from : ℕ) → 0 < length p → (r : Option ℕ) → IsFirst (OccursAt t p) from (length t) r → IsNextMatch (text_ends p t) from (option_map (λ k. (k, k + length p)) r)
+    next_match from some None none = λ k lo. option_cases (text_ends p t k) (λ empty. empty) (λ b is. let h = (text_ends-occurs k b is).0 in absurd (none k lo (omega (arith, h.fits)) h))
+    next_match from some (Some k) found = record {
       after = found.0.low;
-      occurs = occurs-text_ends k some (stands-occurs p t k found.1);
-      first = λ j lo hi. option_cases (text_ends p t j) (λ empty. empty) (λ b is. absurd (found.0.before j lo hi (occurs-stands p t j (text_ends-occurs j b is).0)));
+      occurs = occurs-text_ends k some found.1;
+      first = λ j lo hi. option_cases (text_ends p t j) (λ empty. empty) (λ b is. absurd (found.0.before j lo hi (text_ends-occurs j b is).0));
     }
 
-    pub marks_back-none : (to : ℕ) → 0 < length p → IsLast (PassesAt (stands p) t) 0 (to - (length p - 1)) None → (a b : ℕ) → text_ends p t a ≡ Some b → to < b
-    marks_back-none to some none a b is =
+    pub last_match : (to : ℕ) → 0 < length p → (r : Option ℕ) → IsLast (OccursAt t p) 0 (to - (length p - 1)) r → IsLastMatch (text_ends p t) to (option_map (λ k. (k, k + length p)) r)
+    last_match to some None none = λ a b is.
         let h = text_ends-occurs a b is in
-        ⊎_elim (λ (lt : to < b). lt) (λ (ge : b ≤ to). absurd (none a (omega arith) (omega (arith, h.1)) (occurs-stands p t a h.0))) (cases_lt to b)
-
-    pub marks_back-some : (to k : ℕ) → 0 < length p → IsLast (PassesAt (stands p) t) 0 (to - (length p - 1)) (Some k) → EndsLast (text_ends p t) to (k, k + length p)
-    marks_back-some to k some found =
-        let high = found.0.high in
-        record {
-          before = omega arith;
-          occurs = occurs-text_ends k some (stands-occurs p t k found.1);
-          last = λ a b is lt.
-              let h = text_ends-occurs a b is in
-              ⊎_elim (λ (over : to < b). over) (λ (ge : b ≤ to). absurd (found.0.after a (omega (arith, h.1)) (omega (arith, h.1)) (occurs-stands p t a h.0))) (cases_lt to b);
-        }
+        ⊎_elim (λ (lt : to < b). lt) (λ (ge : b ≤ to). absurd (none a (omega arith) (omega (arith, h.1)) h.0)) (cases_lt to b)
+    last_match to some (Some k) found = record {
+      before = (let high = found.0.high in omega arith);
+      occurs = occurs-text_ends k some found.1;
+      last = λ a b is lt.
+          let h = text_ends-occurs a b is in
+          ⊎_elim (λ (over : to < b). over) (λ (ge : b ≤ to). absurd (found.0.after a (omega (arith, h.1)) (omega (arith, h.1)) h.0)) (cases_lt to b);
+    }
 
     -- an empty text occurs at once
     empty_text : (a : ℕ) → length p ≡ 0 → IsCharBoundary t a → text_ends p t a ≡ Some a
@@ -93,19 +116,6 @@ module _ (t p : List ℕ) where
 
     pub text_at-no : (a : ℕ) → ¬ OccursAt (drop a t) p 0 → text_ends p t a ≡ None
     text_at-no a off = option_cases (text_ends p t a) (λ empty. empty) (λ b is. grind (arith, OccursAt-in_drop a a, text_ends-occurs a b is))
-
-    -- the search from the back
-    pub rfind_text-none : (to : ℕ) → to ≤ length t → FindsLastNeedle (take to t) p None → (a b : ℕ) → text_ends p t a ≡ Some b → to < b
-    rfind_text-none to le none a b is = grind (arith, text_ends-occurs a b is, length-take-le to t le, OccursAt-in_take to a le, none a)
-
-    pub rfind_text-some : (to k : ℕ) → to ≤ length t → 0 < length p → FindsLastNeedle (take to t) p (Some k) → EndsLast (text_ends p t) to (k, k + length p)
-    rfind_text-some to k le some h =
-        let found = OccursAt-take to k le h.1 in
-        record {
-          before = found.1;
-          occurs = occurs-text_ends k some found.0;
-          last = λ a b is lt. grind (arith, text_ends-occurs a b is, length-take-le to t le, OccursAt-in_take to a le, h.0.after a);
-        }
 
     pub text_before-yes : (to : ℕ) → IsCharBoundary t to → length p ≤ length (take to t) → OccursAt (take to t) p (length (take to t) - length p) → start_of (text_ends p t) to ≡ Some (to - length p)
     text_before-yes to cut short h =

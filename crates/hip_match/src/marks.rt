@@ -1,8 +1,8 @@
 //! The places of a text that pass a test, found 64 at a time from either end.
 //!
 //! Functions that aren't inlined take a test by value, so that a walk's own fields stay in registers.
-ghost use Rattle.std.specs.Prelude.{◌≡◌, ◌+◌, ◌-◌, ◌<◌, ◌≤◌, ℕ, Bool, List, length, IfSome};
-ghost use Rattle.memchr.specs.Find.{IsFirst, IsLast};
+ghost use Rattle.std.specs.Prelude.{◌≡◌, ◌+◌, ◌-◌, ◌<◌, ◌≤◌, ℕ, Bool, List, length, IfSome, MatchOption};
+ghost use Rattle.memchr.specs.Find.{IsFirst, IsLast, Nowhere};
 ghost use Rattle.hip_match.specs.Marks.{Ahead, AreMarks, Behind, PassesAt};
 
 use crate::bits::{bits_below, bits_from, highest, lowest, shifted_up, without, without_lowest};
@@ -102,6 +102,51 @@ fn block_before<T: PlaceTest>(test: &T, bytes: &[u8], to: usize) -> (usize, u64)
     (0, few(*test, &bytes[..to + test.reach()]))
 }
 
+// The first place from which marks are to be read, of which none is at or after `from` before it. Where the last mark was far, the byte
+// that a test knows is searched for.
+#[inline(always)]
+fn seek<T: PlaceTest>(test: &T, bytes: &[u8], from: usize, is_far: bool) -> Option<usize>
+    requires { from ≤ length bytes.now }
+    ensures { MatchOption result (Nowhere (PassesAt (T.places test.now) bytes.now) from (length bytes.now)) (λ start. (from ≤ start)
+        × (start + T.reach test.now < length bytes.now) × Nowhere (PassesAt (T.places test.now) bytes.now) from start) }
+{
+    let reach = test.reach();
+    if bytes.len() - from <= reach {
+        return None;
+    }
+    if is_far {
+        if let Some(byte) = test.last_byte() {
+            return Some(byte_from(byte, bytes, from + reach)? - reach);
+        }
+    }
+    Some(from)
+}
+
+// The place before which marks are to be read, of which none is from there on before `to`. It searches as `seek` does.
+#[inline(always)]
+fn seek_back<T: PlaceTest>(test: &T, bytes: &[u8], to: usize, is_far: bool) -> Option<usize>
+    requires { to ≤ length bytes.now }
+    ensures { MatchOption result (Nowhere (PassesAt (T.places test.now) bytes.now) 0 to) (λ stop. (0 < stop) × (stop ≤ to)
+        × (stop + T.reach test.now ≤ length bytes.now) × Nowhere (PassesAt (T.places test.now) bytes.now) stop to) }
+{
+    let reach = test.reach();
+    let stop = to.min(bytes.len().saturating_sub(reach));
+    if stop == 0 {
+        return None;
+    }
+    if is_far {
+        if let Some(byte) = test.last_byte() {
+            let at = byte_before(byte, bytes, stop + reach)?;
+            return if at < reach {
+                None
+            } else {
+                Some(at - reach + 1)
+            };
+        }
+    }
+    Some(stop)
+}
+
 /// The marks that are left of a block of 64 places, from its front.
 #[derive(Clone, Copy)]
 pub(crate) struct FrontMarks {
@@ -109,12 +154,12 @@ pub(crate) struct FrontMarks {
     next: usize,
     // The marks that are left of the 64 places before that.
     bits: u64,
-    // The last mark was more than a block ahead.
+    // The last block had no mark, or lay more than a block ahead.
     is_far: bool,
 }
 
 impl FrontMarks {
-    // The first place that is left, which is passed. Where the last one was far and one byte alone passes, that byte is searched for.
+    // The first place that is left, which is passed.
     #[inline(always)]
     pub(crate) fn next<T: PlaceTest>(
         &mut self,
@@ -131,21 +176,11 @@ impl FrontMarks {
                 self.bits = without_lowest(self.bits);
                 return Some(self.next + k as usize - BLOCK);
             }
-            if bytes.len() - self.next <= test.reach() {
-                return None;
-            }
-            if self.is_far {
-                if let Some(byte) = test.only() {
-                    let at = byte_from(byte, bytes, self.next)?;
-                    self.is_far = BLOCK <= at - self.next;
-                    self.next = at + 1;
-                    return Some(at);
-                }
-            }
-            let (next, bits) = block_from(test, bytes, self.next);
+            let start = seek(test, bytes, self.next, self.is_far)?;
+            let (next, bits) = block_from(test, bytes, start);
+            self.is_far = bits == 0 || BLOCK <= start - self.next;
             self.next = next;
             self.bits = bits;
-            self.is_far = bits == 0;
         }
     }
 
@@ -171,7 +206,7 @@ pub(crate) struct BackMarks {
     start: usize,
     // The marks that are left of the 64 places from there on.
     bits: u64,
-    // The last mark was more than a block behind.
+    // The last block had no mark, or lay more than a block behind.
     is_far: bool,
 }
 
@@ -188,22 +223,11 @@ impl BackMarks {
                 self.bits = without(self.bits, k);
                 return Some(self.start + k as usize);
             }
-            let to = self.start.min(bytes.len().saturating_sub(test.reach()));
-            if to == 0 {
-                return None;
-            }
-            if self.is_far {
-                if let Some(byte) = test.only() {
-                    let at = byte_before(byte, bytes, to)?;
-                    self.is_far = BLOCK <= to - at;
-                    self.start = at;
-                    return Some(at);
-                }
-            }
-            let (start, bits) = block_before(test, bytes, to);
+            let stop = seek_back(test, bytes, self.start, self.is_far)?;
+            let (start, bits) = block_before(test, bytes, stop);
+            self.is_far = bits == 0 || BLOCK <= self.start - stop;
             self.start = start;
             self.bits = bits;
-            self.is_far = bits == 0;
         }
     }
 

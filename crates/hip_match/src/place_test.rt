@@ -1,6 +1,6 @@
 //! Tests of a place of a text, sixteen at a time.
 
-ghost use Rattle.std.specs.Prelude.{◌≡◌, ◌==◌, ◌+◌, ◌<◌, ◌≤◌, ℕ, Bool, List, length, slice_index, IfSome};
+ghost use Rattle.std.specs.Prelude.{◌≡◌, ◌==◌, ◌+◌, ◌<◌, ◌≤◌, ℕ, Bool, List, length, slice_index, take, IfSome, MatchOption};
 ghost use Rattle.hip_match.specs.Marks.{AreMarks, PassesAt, by_byte, stands};
 ghost use Rattle.hip_match.specs.Needles.{bytes_of, reach_of};
 
@@ -27,9 +27,9 @@ pub trait PlaceTest: Copy {
         requires { at + 16 + reach self.now ≤ length bytes.now }
         ensures { AreMarks (places self.now) bytes.now at (at + 16) (at + 64) result };
 
-    /// The byte whose places are those that pass, if there is one. A search for it passes long stretches.
-    fn only(&self) -> Option<u8>
-        ensures { IfSome result (λ byte. (t : List ℕ) (k : ℕ) → k < length t → places self.now t k ≡ (slice_index t k == byte)) };
+    /// The last byte that is read at each place that passes, if it is always the same. A search for it passes long stretches.
+    fn last_byte(&self) -> Option<u8>
+        ensures { IfSome result (λ byte. (t : List ℕ) (k : ℕ) → PassesAt (places self.now) t k → slice_index t (k + reach self.now) ≡ byte) };
 }
 
 /// The places whose byte passes a test.
@@ -52,7 +52,7 @@ impl<T: ByteTest> PlaceTest for Bytes<T> {
     }
 
     #[inline(always)]
-    fn only(&self) -> Option<u8> {
+    fn last_byte(&self) -> Option<u8> {
         self.0.only()
     }
 }
@@ -67,17 +67,17 @@ pub enum Needle {
 }
 
 impl Needle {
-    /// The needle of these bytes, if they are one to four.
+    /// The needle of the first four of these bytes, or of all where they are fewer.
     #[inline]
     pub fn new(bytes: &[u8]) -> Option<Self>
-        ensures { IfSome result (λ n. bytes_of n ≡ bytes.now) }
+        ensures { MatchOption result (length bytes.now ≡ 0) (λ n. bytes_of n ≡ take 4 bytes.now) }
     {
         match bytes.len() {
+            0 => None,
             1 => Some(Needle::One(bytes[0])),
             2 => Some(Needle::Two(bytes[0], bytes[1])),
             3 => Some(Needle::Three(bytes[0], bytes[1], bytes[2])),
-            4 => Some(Needle::Four(bytes[0], bytes[1], bytes[2], bytes[3])),
-            _ => None,
+            _ => Some(Needle::Four(bytes[0], bytes[1], bytes[2], bytes[3])),
         }
     }
 }
@@ -115,10 +115,12 @@ impl PlaceTest for Needle {
     }
 
     #[inline(always)]
-    fn only(&self) -> Option<u8> {
+    fn last_byte(&self) -> Option<u8> {
         match *self {
             Needle::One(a) => Some(a),
-            _ => None,
+            Needle::Two(_, b) => Some(b),
+            Needle::Three(_, _, c) => Some(c),
+            Needle::Four(_, _, _, d) => Some(d),
         }
     }
 }

@@ -1,120 +1,143 @@
-//! Texts found in texts: up to four bytes by the marks of their places, more by the vector searches of `memchr`.
+//! Texts found in texts: by the marks of the places of their first four bytes, and where those mislead by the searches of `memchr`.
 
 ghost use Rattle.std.proofs.Common.{rules};
-ghost use Rattle.std.specs.Prelude.{◌≡◌, ◌≤◌, ◌-◌, ℕ, List, length, string_bytes, IfSome};
+ghost use Rattle.std.specs.Prelude.{◌≡◌, ◌↔◌, ◌+◌, ◌-◌, ◌<◌, ◌≤◌, ℕ, IsTrue, List, length, string_bytes, take, IfSome, MatchOption};
 ghost use Rattle.std.specs.Str.{IsCharBoundary};
-ghost use Rattle.memchr.specs.Find.{FindsNeedle, FindsLastNeedle};
+ghost use Rattle.memchr.specs.Find.{FindsNeedle, FindsLastNeedle, IsFirst, IsLast, OccursAt};
 ghost use Rattle.hip_match.specs.Occurrence.{GoesOnAt, GoesOnBefore, IsNextMatch, IsLastMatch, start_of};
+ghost use Rattle.hip_match.specs.Marks.{Ahead, Behind, PassesAt, stands};
 ghost use Rattle.hip_match.specs.Needles.{bytes_of};
-ghost use Rattle.hip_match.specs.Marks.{Ahead, Behind, stands};
 ghost use Rattle.hip_match.specs.Searchers.{FindsAhead, FindsBehind};
 ghost use Rattle.hip_match.specs.Texts.{text_ends};
 ghost use Rattle.hip_match.specs.TextLaws.{text_ends-spans, text_ends-one_start};
 
-use crate::marks::Marks;
+use crate::marks::{BackMarks, FrontMarks, Marks};
 use crate::pattern::{ClonePattern, Pattern, ReversePattern};
-use crate::place_test::{Needle, PlaceTest};
+use crate::place_test::Needle;
 use memchr::arch::all::{is_prefix, is_suffix};
 use memchr::memmem;
-use memchr::memmem::{Finder, FinderRev};
+use memchr::memmem::Finder;
 
-/// The searcher of a text: the marks of a short one, or a prepared search for a longer one from the front or from the end.
+/// The searcher of a text: the marks of its first bytes, and a search by `memchr` that is prepared when those first mislead.
 #[derive(Drop)]
 pub struct TextSearcher<'p> {
     marks: Option<Marks<Needle>>,
     finder: Option<Finder<'p>>,
-    reverse_finder: Option<FinderRev<'p>>,
 }
 
-// The marks of a needle of one to four bytes, over what lies between two places.
-#[inline]
-fn marks_of(needle: &[u8], from: usize, to: usize) -> Option<Marks<Needle>>
-    ensures needle { IfSome result (λ m. bytes_of m.test ≡ needle.now) }
-    ensures ahead { IfSome result (λ m. (t : List ℕ) → from ≤ length t → Ahead (stands needle.now) t from m.front.next m.front.bits) }
-    ensures behind { IfSome result (λ m. (t : List ℕ) → to ≤ length t → Behind (stands needle.now) t (to - (length needle.now - 1)) m.back.start m.back.bits) }
-{
-    let test = Needle::new(needle)?;
-    Some(Marks::new(test, from, to.saturating_sub(test.reach())))
-}
+// The number of bytes by whose marks a text is found.
+const MARKED: usize = 4;
 
-// The searcher of `needle` over what lies between two places, prepared for a search from the front.
+// The searcher of `needle` over what lies between two places.
 #[inline]
 fn searcher_of<'p>(needle: &'p str, from: usize, to: usize) -> TextSearcher<'p>
     ensures front { (t : List ℕ) → from ≤ length t → FindsAhead needle.now result t from }
     ensures back { (t : List ℕ) → to ≤ length t → FindsBehind needle.now result t to }
 {
     let wanted = needle.as_bytes();
-    let marks = marks_of(wanted, from, to);
-    let finder = if marks.is_none() {
-        Some(Finder::new(wanted))
-    } else {
-        None
-    };
-    TextSearcher {
-        marks,
-        finder,
-        reverse_finder: None,
-    }
-}
-
-// Like `searcher_of`, but prepared for a search from the end.
-#[inline]
-fn reverse_searcher_of<'p>(needle: &'p str, from: usize, to: usize) -> TextSearcher<'p>
-    ensures front { (t : List ℕ) → from ≤ length t → FindsAhead needle.now result t from }
-    ensures back { (t : List ℕ) → to ≤ length t → FindsBehind needle.now result t to }
-{
-    let wanted = needle.as_bytes();
-    let marks = marks_of(wanted, from, to);
-    let reverse_finder = if marks.is_none() {
-        Some(FinderRev::new(wanted))
-    } else {
-        None
+    let stop = to.saturating_sub(wanted.len().saturating_sub(1));
+    let marks = match Needle::new(wanted) {
+        Some(test) => Some(Marks::new(test, from, stop)),
+        None => None,
     };
     TextSearcher {
         marks,
         finder: None,
-        reverse_finder,
     }
 }
 
-// The first place of `hay` where the bytes of `needle` stand, by its prepared search if there is one. It is tried first where the search
-// begins.
-#[inline(never)]
-fn first_place(finder: &Option<Finder<'_>>, hay: &[u8], needle: &[u8]) -> Option<usize>
-    requires { IfSome finder.now (λ f. f ≡ needle.now) }
-    ensures { FindsNeedle hay.now needle.now 0 result }
+// Whether `needle` stands at a place where its first four bytes do.
+#[tactic(auto, using(crate::proofs::TextLemmas::whole_front))]
+#[inline(always)]
+fn stands_whole(bytes: &[u8], at: usize, needle: &[u8]) -> bool
+    requires within { at ≤ length bytes.now }
+    requires front { PassesAt (stands (take 4 needle.now)) bytes.now at }
+    ensures { IsTrue result ↔ OccursAt bytes.now needle.now at }
 {
-    if is_prefix(hay, needle) {
-        return Some(0);
+    needle.len() <= MARKED || is_prefix(&bytes[at..], needle)
+}
+
+// The first place of `hay` where the bytes of `needle` stand, by a search that is prepared once.
+#[inline(never)]
+fn find_by<'p>(finder: &mut Option<Finder<'p>>, hay: &[u8], needle: &'p [u8]) -> Option<usize>
+    requires { IfSome finder.old (λ f. f ≡ needle.now) }
+    ensures found { FindsNeedle hay.now needle.now 0 result }
+    ensures kept { IfSome finder.new (λ f. f ≡ needle.now) }
+{
+    if finder.is_none() {
+        *finder = Some(Finder::new(needle));
     }
     match finder {
         Some(finder) => finder.find(hay),
-        None => memmem::find(hay, needle),
+        None => None,
     }
 }
 
-// Like `first_place`, but the last place, which is tried first at the end.
-#[inline(never)]
-fn last_place(finder: &Option<FinderRev<'_>>, hay: &[u8], needle: &[u8]) -> Option<usize>
-    requires { IfSome finder.now (λ f. f ≡ needle.now) }
-    ensures { FindsLastNeedle hay.now needle.now result }
-{
-    if is_suffix(hay, needle) {
-        return Some(hay.len() - needle.len());
-    }
-    match finder {
-        Some(finder) => finder.rfind(hay),
-        None => memmem::rfind(hay, needle),
-    }
-}
-
-// The first occurrence of `needle` at or after `from`, by its searcher.
-#[tactic(auto, using(crate::proofs::TextLemmas::find_empty))]
+// The first place at or after `from` where the bytes of `needle` stand. Where its first bytes mislead, its prepared search goes on.
 #[inline(always)]
-fn find_text(
+fn first_place<'p>(
+    front: &mut FrontMarks,
+    test: &Needle,
+    finder: &mut Option<Finder<'p>>,
+    bytes: &[u8],
+    needle: &'p [u8],
+    from: usize,
+) -> Option<usize>
+    requires some { 0 < length needle.now }
+    requires test { bytes_of test.now ≡ take 4 needle.now }
+    requires ready { Ahead (stands (take 4 needle.now)) bytes.now from front.old.next front.old.bits }
+    requires finder { IfSome finder.old (λ f. f ≡ needle.now) }
+    ensures found { IsFirst (OccursAt bytes.now needle.now) from (length bytes.now) result }
+    ensures kept { IfSome finder.new (λ f. f ≡ needle.now) }
+    ensures ahead { IfSome result (λ k. Ahead (stands (take 4 needle.now)) bytes.now (k + length needle.now) front.new.next front.new.bits) }
+{
+    let start = front.next(test, bytes, from)?;
+    if stands_whole(bytes, start, needle) {
+        let end = start + needle.len();
+        front.skip_to(end);
+        return Some(start);
+    }
+    let past = start + 1;
+    let start = past + find_by(finder, &bytes[past..], needle)?;
+    front.skip_to(start + needle.len());
+    Some(start)
+}
+
+// The last place where the bytes of `needle` stand and end at or before `to`.
+#[inline(always)]
+fn last_place(
+    back: &mut BackMarks,
+    test: &Needle,
+    bytes: &[u8],
+    needle: &[u8],
+    to: usize,
+) -> Option<usize>
+    requires some { 0 < length needle.now }
+    requires within { to ≤ length bytes.now }
+    requires test { bytes_of test.now ≡ take 4 needle.now }
+    requires ready { Behind (stands (take 4 needle.now)) bytes.now (to - (length needle.now - 1)) back.old.start back.old.bits }
+    ensures found { IsLast (OccursAt bytes.now needle.now) 0 (to - (length needle.now - 1)) result }
+    ensures behind { IfSome result (λ k. Behind (stands (take 4 needle.now)) bytes.now (k - (length needle.now - 1)) back.new.start back.new.bits) }
+{
+    let rest = needle.len() - 1;
+    let start = back.last(test, bytes, to.saturating_sub(rest))?;
+    if stands_whole(bytes, start, needle) {
+        let before = start.saturating_sub(rest);
+        back.skip_to(before);
+        return Some(start);
+    }
+    let start = memmem::rfind(&bytes[..start + rest], needle)?;
+    back.skip_to(start.saturating_sub(rest));
+    Some(start)
+}
+
+// The first occurrence of `needle` at or after `from`, by its searcher. An empty one has no marks.
+#[tactic(auto, using(crate::proofs::TextLemmas::find_empty, crate::proofs::TextLemmas::next_match))]
+#[inline(always)]
+fn find_text<'p>(
     text: &str,
-    needle: &str,
-    searcher: &mut TextSearcher<'_>,
+    needle: &'p str,
+    searcher: &mut TextSearcher<'p>,
     from: usize,
 ) -> Option<(usize, usize)>
     requires boundary { IsCharBoundary text.now from }
@@ -123,18 +146,18 @@ fn find_text(
     ensures front { IfSome result (λ m. (k : ℕ) → GoesOnAt m k → FindsAhead needle.now searcher.new text.now k) }
     ensures back { (to : ℕ) → FindsBehind needle.now searcher.old text.now to → FindsBehind needle.now searcher.new text.now to }
 {
-    let bytes = text.as_bytes();
     let wanted = needle.as_bytes();
-    if let Some(marks) = &mut searcher.marks {
-        let start = marks.front.next(&marks.test, bytes, from)?;
-        let end = start + wanted.len();
-        marks.front.skip_to(end);
-        return Some((start, end));
-    }
-    if wanted.is_empty() {
+    let Some(marks) = &mut searcher.marks else {
         return Some((from, from));
-    }
-    let start = from + first_place(&searcher.finder, &bytes[from..], wanted)?;
+    };
+    let start = first_place(
+        &mut marks.front,
+        &marks.test,
+        &mut searcher.finder,
+        text.as_bytes(),
+        wanted,
+        from,
+    )?;
     Some((start, start + wanted.len()))
 }
 
@@ -152,8 +175,8 @@ fn text_at(text: &str, needle: &str, at: usize) -> Option<usize>
     None
 }
 
-// The last occurrence of `needle` that ends at or before `to`, by its searcher.
-#[tactic(auto, using(crate::proofs::TextLemmas::rfind_empty))]
+// The last occurrence of `needle` that ends at or before `to`, by its searcher. An empty one has no marks.
+#[tactic(auto, using(crate::proofs::TextLemmas::rfind_empty, crate::proofs::TextLemmas::last_match))]
 #[inline(always)]
 fn rfind_text(
     text: &str,
@@ -167,20 +190,11 @@ fn rfind_text(
     ensures back { IfSome result (λ m. (k : ℕ) → GoesOnBefore m k → FindsBehind needle.now searcher.new text.now k) }
     ensures front { (from : ℕ) → FindsAhead needle.now searcher.old text.now from → FindsAhead needle.now searcher.new text.now from }
 {
-    let bytes = text.as_bytes();
     let wanted = needle.as_bytes();
-    if let Some(marks) = &mut searcher.marks {
-        let behind = marks.test.reach();
-        let start = marks
-            .back
-            .last(&marks.test, bytes, to.saturating_sub(behind))?;
-        marks.back.skip_to(start.saturating_sub(behind));
-        return Some((start, start + wanted.len()));
-    }
-    if wanted.is_empty() {
+    let Some(marks) = &mut searcher.marks else {
         return Some((to, to));
-    }
-    let start = last_place(&searcher.reverse_finder, &bytes[..to], wanted)?;
+    };
+    let start = last_place(&mut marks.back, &marks.test, text.as_bytes(), wanted, to)?;
     Some((start, start + wanted.len()))
 }
 
@@ -235,11 +249,6 @@ impl<'p> ClonePattern for &'p str {
 }
 
 impl<'p> ReversePattern for &'p str {
-    #[inline]
-    fn reverse_searcher(&self, _text: &str, from: usize, to: usize) -> TextSearcher<'p> {
-        reverse_searcher_of(*self, from, to)
-    }
-
     #[inline(always)]
     fn last_match_by(
         &self,
@@ -295,11 +304,6 @@ impl<'p, 'q> ClonePattern for &'q &'p str {
 }
 
 impl<'p, 'q> ReversePattern for &'q &'p str {
-    #[inline]
-    fn reverse_searcher(&self, _text: &str, from: usize, to: usize) -> TextSearcher<'p> {
-        reverse_searcher_of(**self, from, to)
-    }
-
     #[inline(always)]
     fn last_match_by(
         &self,
@@ -355,11 +359,6 @@ impl<'p> ClonePattern for &'p String {
 }
 
 impl<'p> ReversePattern for &'p String {
-    #[inline]
-    fn reverse_searcher(&self, _text: &str, from: usize, to: usize) -> TextSearcher<'p> {
-        reverse_searcher_of(self.as_str(), from, to)
-    }
-
     #[inline(always)]
     fn last_match_by(
         &self,
