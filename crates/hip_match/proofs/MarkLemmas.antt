@@ -1,7 +1,7 @@
 -- Marks of a test: the bits of one number, and the places that they tell.
 use Rattle.std.proofs.lemmas.Bool.Decides.{nat_tests}
 use Rattle.std.proofs.lemmas.Grind.{common_steps}
-use Rattle.std.proofs.Common.{◌≡◌, ◌≢◌, ◌∙◌, ℕ, ◌+◌, ◌-◌, ◌<◌, ◌≤◌, Bool, true, cond, List, Option, None, Some, length, drop, take, take_all, ap, sym, arith, ⊎_elim, bit_or, get_or-drop, length-drop, slice_index, option_map}
+use Rattle.std.proofs.Common.{◌≡◌, ◌≢◌, ◌∙◌, ℕ, ◌+◌, ◌-◌, ◌<◌, ◌≤◌, Bool, cond, List, Option, None, Some, length, drop, take, take_all, ap, sym, arith, ⊎_elim, bit_or, get_or-drop, length-drop, slice_index, option_map}
 use Rattle.std.proofs.lemmas.Bool.{cases_lt, cases_Bool}
 use Rattle.std.proofs.lemmas.Nat.Bits.{bit_at-lt, bit_at-zero, bit_at_above, bit_at_or}
 use Rattle.std.specs.Int.{bit_at}
@@ -42,22 +42,8 @@ module _ (test : List ℕ → ℕ → Bool) (t : List ℕ) where
   -- the lanes of one load
   pub lanes-are : (at m : ℕ) → m < 65536 → ((k : ℕ) → k < 16 → bit_at m k ≡ cond (test t (at + k)) 1 0) → AreMarks test t at (at + 16) (at + 64) m
   lanes-are at m few bits = record {
-    told = λ k low one. ⊎_elim
-        (λ (in_it : k < 16).
-        let here : at + 64 + k - 64 ≡ at + k = omega arith in (
-          omega arith,
-          omega arith,
-          ⊎_elim
-              (λ (pass : test t (at + k) ≡ true). ap (test t) here ∙ pass)
-              (λ fail. absurd (omega (arith, one, bits k in_it, ap {B = ℕ} (λ b. cond b 1 0) fail)))
-              (cases_Bool (test t (at + k))),
-        ))
-        (λ (out : 16 ≤ k). absurd (omega (arith, one, bit_at_above m 16 k few out)))
-        (cases_lt k 16);
-    marked = λ p lo hi pass.
-        let there : at + (p - at) ≡ p = omega arith in
-        let here : p + 64 - (at + 64) ≡ p - at = omega arith in
-        (omega arith, omega arith, ap (bit_at m) here ∙ bits (p - at) (omega arith) ∙ ap (λ i. cond (test t i) 1 0) there ∙ ap (λ b. cond b 1 0) pass);
+    told = λ k low one. grind (arith, bits k, bit_at_above m 16 k few, cases_Bool (test t (at + k)));
+    marked = λ p lo hi pass. grind (arith, bits (p - at));
   }
 
   module _ (from to end m : ℕ) (h : AreMarks test t from to end m) where
@@ -143,11 +129,8 @@ module _ (test : List ℕ → ℕ → Bool) (t : List ℕ) where
 
     -- the walk goes on behind places that fail
     pub ahead-skipped : (later : ℕ) → from ≤ later → Nowhere (PassesAt test t) from later → Ahead test t later next m
-    ahead-skipped later le fail = record {
-      within = h.within;
-      beyond = λ k lo hi. ⊎_elim (λ (lt : k < from). h.beyond k lo lt) (λ (ge : from ≤ k). fail k ge hi) (cases_lt k from);
-      marks = front-moved from next next m h.marks later fail (λ k lo hi. absurd (omega arith));
-    }
+    ahead-skipped later le fail =
+        record { within = h.within; beyond = λ k lo hi. grind (arith, cases_lt k from, h.beyond k lo, fail k); marks = front-moved from next next m h.marks later fail (λ k lo hi. absurd (omega arith)) }
 
   module _ (to start m : ℕ) (h : Behind test t to start m) where
     pub behind-none : m ≡ 0 → Nowhere (PassesAt test t) start to

@@ -1,6 +1,6 @@
 -- Where the characters of a set start, by the places that pass a test.
 use Rattle.std.proofs.lemmas.Grind.{common_steps}
-use Rattle.std.proofs.Common.{◌≡◌, ℕ, ◌+◌, ◌<◌, ◌≤◌, ◌==◌, Bool, true, false, List, Option, Some, None, IfSome, MatchOption, length, take, take_all, slice_index, ap, sym, ◌∙◌, arith, ⊎_elim, add-zero, get_or-drop}
+use Rattle.std.proofs.Common.{◌≡◌, ℕ, ◌+◌, ◌<◌, ◌≤◌, ◌==◌, Bool, true, false, List, Option, Some, None, IfSome, MatchOption, length, take, take_all, slice_index, ap, sym, ◌∙◌, refl, arith, ⊎_elim, add-zero, get_or-drop}
 use Rattle.std.specs.Char.{IsScalar, encode_utf8, len_utf8}
 use Rattle.std.specs.Str.{IsUtf8}
 use Rattle.std.proofs.lemmas.Bool.Decides.{nat_tests}
@@ -10,12 +10,15 @@ use Rattle.std.proofs.lemmas.Str.{IsUtf8-encode, byte_from_char, IsCharBoundary-
 use Rattle.hip_match.specs.Occurrence.{is_boundary}
 use Rattle.hip_match.specs.Characters.{char_ends}
 use Rattle.hip_match.specs.CharLaws.{is_boundary-true, is_boundary-is, starts_char, char_at-ascii, char_at-end, char_at-off, char_at-starts, char_ends-no, char_ends-none, char_ends-spans, char_ends-yes}
-use Rattle.hip_match.specs.Marks.{stands}
+use Rattle.hip_match.specs.AsciiSets.{in_set}
+use Rattle.hip_match.specs.Marks.{by_byte, stands}
+use Rattle.hip_match.specs.declared.ascii_set.AsciiSet.{AsciiSet}
 use Rattle.hip_match.specs.Needles.{bytes_of}
 use Rattle.hip_match.specs.declared.place_test.Needle.{Needle}
 use Rattle.hip_match.specs.MarkedSets.{AreStarts}
 use Rattle.hip_match.proofs.CharTextLemmas.{same_ends}
 use Rattle.hip_match.proofs.NeedleLemmas.{occurs-stands, stands-occurs}
+use Rattle.hip_match.proofs.TableLemmas.{in_rows-low}
 use Rattle.hip_match.proofs.TextLemmas.{occurs-text_ends, text_ends-occurs}
 
 -- ---- characters of ASCII: no byte of another character is one of ASCII
@@ -40,6 +43,13 @@ ascii_starts belongs places same low = record {
   };
   ends = λ t k utf8 within pass. ascii-some belongs low t utf8 k within (sym (same t k) ∙ pass);
 }
+
+-- the characters of a set, and of a list that has the same
+pub set_starts : (s : AsciiSet) → AreStarts (in_set s) 1 (by_byte (in_set s))
+set_starts s = ascii_starts (in_set s) (by_byte (in_set s)) (λ t k. refl) (in_rows-low s.rows)
+
+pub list_starts : (s : AsciiSet) (belongs : ℕ → Bool) → ((d : ℕ) → in_set s d ≡ belongs d) → AreStarts belongs 1 (by_byte (in_set s))
+list_starts s belongs same = ascii_starts belongs (by_byte (in_set s)) (λ t k. same (slice_index t k)) (λ d high. sym (same d) ∙ in_rows-low s.rows d high)
 
 -- ---- one character: it starts where its UTF-8 stands
 

@@ -20,7 +20,7 @@ pub record FindsAhead (needle : List ℕ) (s : TextSearcher) (text : List ℕ) (
   pub marks : MatchOption s.marks (length needle ≡ 0) (λ m. (bytes_of m.test ≡ take 4 needle) × Ahead (stands (take 4 needle)) text from m.front.next m.front.bits)
   pub finder : IfSome s.finder (λ f. f ≡ needle)
 
--- like `FindsAhead`, but what ends at or before a place, for which no search is prepared
-abbrev pub FindsBehind : List ℕ → TextSearcher → List ℕ → ℕ → Type 0
-FindsBehind needle s text to = MatchOption s.marks (length needle ≡ 0) (λ m. (bytes_of m.test ≡ take 4 needle)
-    × Behind (stands (take 4 needle)) text (to - (length needle - 1)) m.back.start m.back.bits)
+-- like `FindsAhead`, but what ends at or before a place
+pub record FindsBehind (needle : List ℕ) (s : TextSearcher) (text : List ℕ) (to : ℕ) : Type 0 where
+  pub marks : MatchOption s.marks (length needle ≡ 0) (λ m. (bytes_of m.test ≡ take 4 needle) × Behind (stands (take 4 needle)) text (to - (length needle - 1)) m.back.start m.back.bits)
+  pub finder : IfSome s.reverse_finder (λ f. f ≡ needle)

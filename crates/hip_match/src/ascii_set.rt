@@ -11,7 +11,7 @@ ghost use Rattle.hip_match.specs.MarkedSets.{AreStarts};
 
 use crate::byte_test::{ASCII_COLUMNS, ByteTest, has_nibbles, nibble_lanes};
 use crate::chars::{CharSet, end_of, start_before};
-use crate::marked_set::{MarkedSet, last_marked, marked_searcher, next_marked};
+use crate::marked_set::{MarkedSet, last_marked, next_marked};
 use crate::marks::{Marks, block};
 use crate::pattern::{ClonePattern, DoubleEndedPattern, OneChar, Pattern, ReversePattern};
 use crate::place_test::{Bytes, PlaceTest};
@@ -140,11 +140,6 @@ impl MarkedSet for AsciiSet {
 
     ghost first_places = { λ _ _ found. found.first };
 
-    #[inline]
-    fn test(&self) -> Option<Bytes<AsciiSet>> {
-        Some(Bytes(*self))
-    }
-
     #[inline(always)]
     fn end_at_mark(&self, _test: &Bytes<AsciiSet>, _text: &str, at: usize) -> Option<usize> {
         Some(at + 1)
@@ -162,7 +157,7 @@ impl Pattern for AsciiSet {
 
     #[inline]
     fn searcher(&self, _text: &str, from: usize, to: usize) -> Option<Marks<Bytes<AsciiSet>>> {
-        marked_searcher(self, from, to)
+        Some(Marks::new(Bytes(*self), from, to))
     }
 
     #[inline(always)]

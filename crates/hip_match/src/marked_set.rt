@@ -20,10 +20,6 @@ pub(crate) trait MarkedSet: CharSet + Drop {
     /// The characters are found by the places that pass such a test.
     ghost is_found_by: { Self → (List ℕ → ℕ → Bool) → Type 0 };
 
-    /// The test by which the characters are found, if there is one.
-    fn test(&self) -> Option<Self::Test>
-        ensures { IfSome result (λ t. is_found_by self.now (⟦<Self::Test as PlaceTest>⟧.places t)) };
-
     /// Where the character at `at` ends, if it belongs. The place passes.
     fn end_at_mark(&self, test: &Self::Test, text: &str, at: usize) -> Option<usize>
         requires can { Self.can_test self.now }
@@ -35,19 +31,6 @@ pub(crate) trait MarkedSet: CharSet + Drop {
 
     /// The places by which the characters are found are where they start.
     ghost first_places: { (s : Self) (places : List ℕ → ℕ → Bool) → is_found_by s places → AreFirstPlaces (Self.belongs s) places };
-}
-
-// The searcher of a walk over what lies between two places.
-#[inline]
-pub(crate) fn marked_searcher<S: MarkedSet>(
-    set: &S,
-    from: usize,
-    to: usize,
-) -> Option<Marks<S::Test>>
-    ensures front { (t : List ℕ) → from ≤ length t → AreAhead (S.is_found_by set.now) (⟦<S::Test as PlaceTest>⟧.places) result t from }
-    ensures back { (t : List ℕ) → to ≤ length t → AreBehind (S.is_found_by set.now) (⟦<S::Test as PlaceTest>⟧.places) result t to }
-{
-    Some(Marks::new(set.test()?, from, to))
 }
 
 // The first character of a set at or after `from`, by a walk's searcher.

@@ -154,7 +154,7 @@ pub(crate) struct FrontMarks {
     next: usize,
     // The marks that are left of the 64 places before that.
     bits: u64,
-    // The last block had no mark, or lay more than a block ahead.
+    // The last block had no mark.
     is_far: bool,
 }
 
@@ -178,7 +178,7 @@ impl FrontMarks {
             }
             let start = seek(test, bytes, self.next, self.is_far)?;
             let (next, bits) = block_from(test, bytes, start);
-            self.is_far = bits == 0 || BLOCK <= start - self.next;
+            self.is_far = bits == 0;
             self.next = next;
             self.bits = bits;
         }
@@ -206,7 +206,7 @@ pub(crate) struct BackMarks {
     start: usize,
     // The marks that are left of the 64 places from there on.
     bits: u64,
-    // The last block had no mark, or lay more than a block behind.
+    // The last block had no mark.
     is_far: bool,
 }
 
@@ -225,7 +225,7 @@ impl BackMarks {
             }
             let stop = seek_back(test, bytes, self.start, self.is_far)?;
             let (start, bits) = block_before(test, bytes, stop);
-            self.is_far = bits == 0 || BLOCK <= self.start - stop;
+            self.is_far = bits == 0;
             self.start = start;
             self.bits = bits;
         }

@@ -11,7 +11,7 @@ ghost use Rattle.hip_match.specs.Searchers.{AreAhead, AreBehind};
 
 use crate::ascii_set::AsciiSet;
 use crate::chars::{CharSet, end_of, start_before};
-use crate::marked_set::{MarkedSet, last_marked, marked_searcher, next_marked};
+use crate::marked_set::{MarkedSet, last_marked, next_marked};
 use crate::marks::Marks;
 use crate::pattern::{ClonePattern, DoubleEndedPattern, OneChar, Pattern, ReversePattern};
 use crate::place_test::{Bytes, Needle, PlaceTest};
@@ -40,11 +40,6 @@ impl MarkedSet for char {
 
     ghost first_places = { λ _ _ found. found.first };
 
-    #[inline]
-    fn test(&self) -> Option<Needle> {
-        needle_of(*self)
-    }
-
     #[inline(always)]
     fn end_at_mark(&self, _test: &Needle, _text: &str, at: usize) -> Option<usize> {
         Some(at + self.len_utf8())
@@ -62,7 +57,7 @@ impl Pattern for char {
 
     #[inline]
     fn searcher(&self, _text: &str, from: usize, to: usize) -> Option<Marks<Needle>> {
-        marked_searcher(self, from, to)
+        Some(Marks::new(needle_of(*self)?, from, to))
     }
 
     #[inline(always)]
@@ -151,11 +146,6 @@ impl<'a> MarkedSet for &'a [char] {
 
     ghost first_places = { λ _ _ found. found.first };
 
-    #[inline]
-    fn test(&self) -> Option<Bytes<AsciiSet>> {
-        Some(Bytes(ascii_set(*self)?))
-    }
-
     #[inline(always)]
     fn end_at_mark(&self, _test: &Bytes<AsciiSet>, _text: &str, at: usize) -> Option<usize> {
         Some(at + 1)
@@ -173,7 +163,7 @@ impl<'a> Pattern for &'a [char] {
 
     #[inline]
     fn searcher(&self, _text: &str, from: usize, to: usize) -> Option<Marks<Bytes<AsciiSet>>> {
-        marked_searcher(self, from, to)
+        Some(Marks::new(Bytes(ascii_set(*self)?), from, to))
     }
 
     #[inline(always)]

@@ -15,14 +15,14 @@ use crate::marks::{BackMarks, FrontMarks, Marks};
 use crate::pattern::{ClonePattern, Pattern, ReversePattern};
 use crate::place_test::Needle;
 use memchr::arch::all::{is_prefix, is_suffix};
-use memchr::memmem;
-use memchr::memmem::Finder;
+use memchr::memmem::{Finder, FinderRev};
 
 /// The searcher of a text: the marks of its first bytes, and a search by `memchr` that is prepared when those first mislead.
 #[derive(Drop)]
 pub struct TextSearcher<'p> {
     marks: Option<Marks<Needle>>,
     finder: Option<Finder<'p>>,
+    reverse_finder: Option<FinderRev<'p>>,
 }
 
 // The number of bytes by whose marks a text is found.
@@ -43,6 +43,7 @@ fn searcher_of<'p>(needle: &'p str, from: usize, to: usize) -> TextSearcher<'p>
     TextSearcher {
         marks,
         finder: None,
+        reverse_finder: None,
     }
 }
 
@@ -69,6 +70,22 @@ fn find_by<'p>(finder: &mut Option<Finder<'p>>, hay: &[u8], needle: &'p [u8]) ->
     }
     match finder {
         Some(finder) => finder.find(hay),
+        None => None,
+    }
+}
+
+// Like `find_by`, but the last place.
+#[inline(never)]
+fn rfind_by<'p>(finder: &mut Option<FinderRev<'p>>, hay: &[u8], needle: &'p [u8]) -> Option<usize>
+    requires { IfSome finder.old (λ f. f ≡ needle.now) }
+    ensures found { FindsLastNeedle hay.now needle.now result }
+    ensures kept { IfSome finder.new (λ f. f ≡ needle.now) }
+{
+    if finder.is_none() {
+        *finder = Some(FinderRev::new(needle));
+    }
+    match finder {
+        Some(finder) => finder.rfind(hay),
         None => None,
     }
 }
@@ -105,18 +122,21 @@ fn first_place<'p>(
 
 // The last place where the bytes of `needle` stand and end at or before `to`.
 #[inline(always)]
-fn last_place(
+fn last_place<'p>(
     back: &mut BackMarks,
     test: &Needle,
+    finder: &mut Option<FinderRev<'p>>,
     bytes: &[u8],
-    needle: &[u8],
+    needle: &'p [u8],
     to: usize,
 ) -> Option<usize>
     requires some { 0 < length needle.now }
     requires within { to ≤ length bytes.now }
     requires test { bytes_of test.now ≡ take 4 needle.now }
     requires ready { Behind (stands (take 4 needle.now)) bytes.now (to - (length needle.now - 1)) back.old.start back.old.bits }
+    requires finder { IfSome finder.old (λ f. f ≡ needle.now) }
     ensures found { IsLast (OccursAt bytes.now needle.now) 0 (to - (length needle.now - 1)) result }
+    ensures kept { IfSome finder.new (λ f. f ≡ needle.now) }
     ensures behind { IfSome result (λ k. Behind (stands (take 4 needle.now)) bytes.now (k - (length needle.now - 1)) back.new.start back.new.bits) }
 {
     let rest = needle.len() - 1;
@@ -126,7 +146,7 @@ fn last_place(
         back.skip_to(before);
         return Some(start);
     }
-    let start = memmem::rfind(&bytes[..start + rest], needle)?;
+    let start = rfind_by(finder, &bytes[..start + rest], needle)?;
     back.skip_to(start.saturating_sub(rest));
     Some(start)
 }
@@ -178,10 +198,10 @@ fn text_at(text: &str, needle: &str, at: usize) -> Option<usize>
 // The last occurrence of `needle` that ends at or before `to`, by its searcher. An empty one has no marks.
 #[tactic(auto, using(crate::proofs::TextLemmas::rfind_empty, crate::proofs::TextLemmas::last_match))]
 #[inline(always)]
-fn rfind_text(
+fn rfind_text<'p>(
     text: &str,
-    needle: &str,
-    searcher: &mut TextSearcher<'_>,
+    needle: &'p str,
+    searcher: &mut TextSearcher<'p>,
     to: usize,
 ) -> Option<(usize, usize)>
     requires boundary { IsCharBoundary text.now to }
@@ -194,7 +214,14 @@ fn rfind_text(
     let Some(marks) = &mut searcher.marks else {
         return Some((to, to));
     };
-    let start = last_place(&mut marks.back, &marks.test, text.as_bytes(), wanted, to)?;
+    let start = last_place(
+        &mut marks.back,
+        &marks.test,
+        &mut searcher.reverse_finder,
+        text.as_bytes(),
+        wanted,
+        to,
+    )?;
     Some((start, start + wanted.len()))
 }
 

@@ -15,7 +15,7 @@ use crate::ascii_set::AsciiSet;
 use crate::byte_test::SpaceLeads;
 use crate::chars::{CharSet, end_of, start_before};
 use crate::marked_parts::MarkedParts;
-use crate::marked_set::{MarkedSet, last_marked, marked_searcher, next_marked};
+use crate::marked_set::{MarkedSet, last_marked, next_marked};
 use crate::marks::Marks;
 use crate::pattern::{ClonePattern, DoubleEndedPattern, OneChar, Pattern, ReversePattern};
 use crate::place_test::{Bytes, PlaceTest};
@@ -47,11 +47,6 @@ impl MarkedSet for WhiteSpace {
 
     ghost first_places = { λ _ _ found. found };
 
-    #[inline]
-    fn test(&self) -> Option<Bytes<SpaceLeads>> {
-        Some(Bytes(SpaceLeads))
-    }
-
     #[inline(always)]
     fn end_at_mark(&self, _test: &Bytes<SpaceLeads>, text: &str, at: usize) -> Option<usize> {
         end_of(self, text, at)
@@ -69,7 +64,7 @@ impl Pattern for WhiteSpace {
 
     #[inline]
     fn searcher(&self, _text: &str, from: usize, to: usize) -> Option<Marks<Bytes<SpaceLeads>>> {
-        marked_searcher(self, from, to)
+        Some(Marks::new(Bytes(SpaceLeads), from, to))
     }
 
     #[inline(always)]

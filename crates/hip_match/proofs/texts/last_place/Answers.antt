@@ -15,9 +15,9 @@ pub returns-in_err-start-2-clause-found : goal.returns-in_err-start-2-clause-fou
 returns-in_err-start-2-clause-found c =
     let found = rw (c.requires.test, c.saturating_sub.ensures) at c.in_ok-start.ensures.found in
     rw c.from_residual-in_err-start-2.ensures
-    (last-before c.args.bytes.now c.args.needle.now _ (λ h. true≢false (sym (c.stands_whole.ensures.1 h) ∙ c.if-stands_whole.false)) c.requires.some _ None (let high = found.0.high in omega (arith, c.requires.within)) found.0 c.in_err-start-2.ensures)
+    (last-before c.args.bytes.now c.args.needle.now _ (λ h. true≢false (sym (c.stands_whole.ensures.1 h) ∙ c.if-stands_whole.false)) c.requires.some _ None (let high = found.0.high in omega (arith, c.requires.within)) found.0 c.in_err-start-2.ensures.found)
 
 pub returns-clause-found : goal.returns-clause-found
 returns-clause-found c =
     let found = rw (c.requires.test, c.saturating_sub.ensures) at c.in_ok-start.ensures.found in
-    last-before c.args.bytes.now c.args.needle.now _ (λ h. true≢false (sym (c.stands_whole.ensures.1 h) ∙ c.if-stands_whole.false)) c.requires.some _ (Some _) (let high = found.0.high in omega (arith, c.requires.within)) found.0 c.in_ok-start-2.ensures
+    last-before c.args.bytes.now c.args.needle.now _ (λ h. true≢false (sym (c.stands_whole.ensures.1 h) ∙ c.if-stands_whole.false)) c.requires.some _ (Some _) (let high = found.0.high in omega (arith, c.requires.within)) found.0 c.in_ok-start-2.ensures.found
