@@ -28,8 +28,9 @@ fn one_match(rt: &impl Abort, len: usize, at: usize, needle: &'static str) {
     let Ok(text) = str::from_utf8(part) else {
         return;
     };
-    let all = [(at, at.saturating_add(needle.len()))];
-    let want = if all[0].1 <= len { &all[..] } else { &[] };
+    let end = at.saturating_add(needle.len());
+    let all = [(at, end)];
+    let want = &all[..(end <= len) as usize];
     lists(rt, Matches::new(text, needle), want);
     lists(rt, RMatches::new(text, needle), want);
     let mut chars = needle.chars();
