@@ -17,8 +17,7 @@ module _ (f : ℕ → Option ℕ) where
   unfolding leftmost_from
   scan_occur s i zero = tt
   scan_occur (suc s) i (suc n) = scan_occur s (i + 1) n
-  scan_occur zero i (suc n) =
-      option_cases (f i) (λ none. grind (arith, scan_occur 0 (i + 1) n)) (λ b some. grind (arith, scan_occur (b - i - 1) (i + 1) n))
+  scan_occur zero i (suc n) = option_cases (f i) (λ none. grind (arith, scan_occur 0 (i + 1) n)) (λ b some. grind (arith, scan_occur (b - i - 1) (i + 1) n))
 
   scan_order : (s i n j : ℕ) → j ≤ i + s → BeginInOrder j (leftmost_from f s i n)
   unfolding leftmost_from

@@ -1,23 +1,16 @@
 -- Where the bytes of a needle stand, and the marks of such places.
 use Rattle.std.proofs.lemmas.Bool.Decides.{nat_tests}
 use Rattle.std.proofs.lemmas.Grind.{common_steps}
-use Rattle.std.proofs.Common.{◌≡◌, ◌∙◌, ℕ, zero, suc, ◌+◌, ◌-◌, ◌<◌, ◌≤◌, ◌==◌, ◌&&◌, true, List, [], ◌∷◌, length, slice_index, bit_and, add-zero, eqb-true, eq-eqb, ap, arith}
+use Rattle.std.proofs.Common.{◌≡◌, ◌∙◌, ℕ, zero, suc, ◌+◌, ◌-◌, ◌<◌, ◌≤◌, ◌==◌, ◌&&◌, true, List, [], ◌∷◌, Option, None, Some, sym, length, slice_index, bit_and, add-zero, eqb-true, eq-eqb, ap, arith}
 use Rattle.std.proofs.lemmas.Bool.{and_from, and_parts}
 use Rattle.std.proofs.lemmas.Nat.Bits.{bit_at-lt, bit_at_and}
 use Rattle.std.specs.Int.{bit_at}
-use Rattle.memchr.specs.Find.{OccursAt}
-use Rattle.hip_match.specs.Marks.{AreMarks, by_byte, stands}
+use Rattle.memchr.specs.Find.{IsFirst, IsLast, OccursAt}
+use Rattle.hip_match.specs.Marks.{Ahead, AreMarks, Behind, PassesAt, by_byte, stands}
 use Rattle.hip_match.specs.Needles.{bytes_of, reach_of}
 use Rattle.hip_match.specs.declared.place_test.Needle.{Needle}
 use Rattle.hip_match.specs.declared.place_test.Needle.TheVariants.{One, Two, Three, Four}
 use Rattle.hip_match.proofs.MarkLemmas.{alike}
-
--- a needle is a byte and those behind it
-pub reach_is : (n : Needle) (p : List ℕ) → bytes_of n ≡ p → length p ≡ reach_of n + 1
-reach_is (One a) p is = omega (arith, ap length is)
-reach_is (Two a b) p is = omega (arith, ap length is)
-reach_is (Three a b c) p is = omega (arith, ap length is)
-reach_is (Four a b c d) p is = omega (arith, ap length is)
 
 -- one byte more before a needle
 cons-occurs : (b : ℕ) (bs t : List ℕ) (k : ℕ) → slice_index t k ≡ b → OccursAt t bs (k + 1) → OccursAt t (b ∷ bs) k
@@ -38,13 +31,6 @@ occurs-stands [] t k h = let fits = h.fits in grind (arith, nat_tests)
 occurs-stands (b ∷ bs) t k h =
     and_from _ _ (eq-eqb _ _ (ap (λ i. slice_index t i) (omega arith) ∙ h.reads 0 (omega arith)))
     (occurs-stands bs t (k + 1) (record { fits = (let fits = h.fits in omega arith); reads = λ j lt. ap (λ i. slice_index t i) (omega arith) ∙ h.reads (suc j) (omega arith) }))
-
-pub stands-alike : (p t u : List ℕ) (k : ℕ) → k + length p ≤ length t → k + length p ≤ length u → ((i : ℕ) → k ≤ i → i < k + length p → slice_index t i ≡ slice_index u i) → stands p t k ≡ stands p u k
-stands-alike [] t u k in_t in_u same = grind (arith, nat_tests)
-stands-alike (b ∷ bs) t u k in_t in_u same =
-    let rest = stands-alike bs t u (k + 1) (omega arith) (omega arith) (λ i lo hi. same i (omega arith) (omega arith)) in
-    let here = same k (omega arith) (omega arith) in
-    ap (λ x. x == b && stands bs t (k + 1)) here ∙ ap (λ y. slice_index u k == b && y) rest
 
 -- ---- marks
 
@@ -67,3 +53,23 @@ more_lanes b bs t at next m n is h g = record {
       let there : p + 1 + 64 - (next + 64) ≡ p + 64 - (at + 64) = omega arith in
       (here.0, here.1, bit_at_and m n _ ∙ omega (arith, here.2, rest.2, ap (bit_at n) there));
 }
+
+-- ---- a single byte, by a test of it alone
+
+module _ (b : ℕ) (t : List ℕ) where
+  same : (k : ℕ) → k < length t → by_byte (λ x. x == b) t k ≡ stands (b ∷ []) t k
+  same k lt = grind (arith, nat_tests, common_steps)
+
+  pub ahead_one : (from next m : ℕ) → from ≤ length t → Ahead (by_byte (λ x. x == b)) t from next m → Ahead (stands (b ∷ [])) t from next m
+  ahead_one from next m le h = record { within = h.within; beyond = λ k lo hi pass. h.beyond k lo hi (same k (omega arith) ∙ pass); marks = alike (by_byte (λ x. x == b)) (stands (b ∷ [])) t t from next next m (λ k lt. sym (same k (omega (arith, h.within)))) h.marks }
+
+  pub first_one : (from : ℕ) (r : Option ℕ) → IsFirst (PassesAt (by_byte (λ x. x == b)) t) from (length t) r → IsFirst (PassesAt (stands (b ∷ [])) t) from (length t) r
+  first_one from None h = λ k lo hi pass. h k lo hi (same k hi ∙ pass)
+  first_one from (Some a) h = (record { low = h.0.low; high = h.0.high; before = λ k lo hi pass. h.0.before k lo hi (same k (let high = h.0.high in omega arith) ∙ pass) }, sym (same a h.0.high) ∙ h.1)
+
+  pub behind_one : (to start m : ℕ) → to ≤ length t → Behind (by_byte (λ x. x == b)) t to start m → Behind (stands (b ∷ [])) t to start m
+  behind_one to start m le h = record { within = h.within; beyond = λ k lo hi pass. h.beyond k lo hi (same k (omega (arith, h.within)) ∙ pass); marks = alike (by_byte (λ x. x == b)) (stands (b ∷ [])) t t start to (start + 64) m (λ k lt. sym (same k (omega arith))) h.marks }
+
+  pub last_one : (to : ℕ) (r : Option ℕ) → to ≤ length t → IsLast (PassesAt (by_byte (λ x. x == b)) t) 0 to r → IsLast (PassesAt (stands (b ∷ [])) t) 0 to r
+  last_one to None le h = λ k lo hi pass. h k lo hi (same k (omega arith) ∙ pass)
+  last_one to (Some a) le h = let high = h.0.high in (record { low = h.0.low; high = high; after = λ k lo hi pass. h.0.after k lo hi (same k (omega arith) ∙ pass) }, sym (same a (omega arith)) ∙ h.1)

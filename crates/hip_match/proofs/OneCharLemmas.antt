@@ -23,8 +23,7 @@ module _ (t : List ℕ) (e : ℕ → Option ℕ) (h : HasCharOccurrences t e) wh
   nonempty a b is = (h.one a b is).holds
 
   pub apart : (a b c d : ℕ) → e a ≡ Some b → e c ≡ Some d → a < c → b ≤ c
-  apart a b c d first second lt =
-      ⊎_elim (λ (inside : c < b). absurd ((h.one a b first).one c lt inside (h.spans c d second).start)) (λ (le : b ≤ c). le) (cases_lt c b)
+  apart a b c d first second lt = ⊎_elim (λ (inside : c < b). absurd ((h.one a b first).one c lt inside (h.spans c d second).start)) (λ (le : b ≤ c). le) (cases_lt c b)
 
   pub clear : (i : ℕ) → IsCharBoundary t i → NoneCrosses e i
   clear i cut a b is lt = grind (arith, nat_tests, common_steps, cases_lt)

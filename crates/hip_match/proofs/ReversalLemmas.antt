@@ -156,5 +156,4 @@ module _ (e : ℕ → Option ℕ)
     rightmost_between-no_next h = sym (reverse-reverse (rightmost_between e from to)) ∙ ap reverse (sym same ∙ leftmost_between-none e from to h)
 
     pub rightmost_between-next_past : (a b : ℕ) → StartsFirst e from (a, b) → to < b → rightmost_between e from to ≡ []
-    rightmost_between-next_past a b h lt =
-        sym (reverse-reverse (rightmost_between e from to)) ∙ ap reverse (sym same ∙ leftmost_between-past e from to a b h lt end sorted)
+    rightmost_between-next_past a b h lt = sym (reverse-reverse (rightmost_between e from to)) ∙ ap reverse (sym same ∙ leftmost_between-past e from to a b h lt end sorted)

@@ -19,8 +19,7 @@ module _ (e s : ℕ → Option ℕ) (is_start : (j a : ℕ) → s j ≡ Some a �
   unfolding rightmost_from
   scan_order k zero j le = tt
   scan_order (suc k) (suc n) j le = scan_order k n j (omega arith)
-  scan_order zero (suc n) j le =
-      option_cases (s n) (λ none. grind (arith, scan_order 0 n j)) (λ a some. grind (arith, scan_order (n - a - 1) n (min n (a + 1))))
+  scan_order zero (suc n) j le = option_cases (s n) (λ none. grind (arith, scan_order 0 n j)) (λ a some. grind (arith, scan_order (n - a - 1) n (min n (a + 1))))
 
   scan_all : (k n a b : ℕ) → e a ≡ Some b → b + k < n → IsListed a b (rightmost_from s k n) ⊎ EndsWithin b (rightmost_from s k n)
   unfolding rightmost_from

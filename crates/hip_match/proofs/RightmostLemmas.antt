@@ -31,8 +31,7 @@ module _ (e : ℕ → Option ℕ) where
       (cases_Bool (ends_at (e (from + n)) j))
 
   pub start_among-none : (from n j : ℕ) → ((a : ℕ) → from ≤ a → a < from + n → ¬ (e a ≡ Some j)) → start_among e from n j ≡ None
-  start_among-none from n j none =
-      option_cases (start_among e from n j) (λ is. is) (λ a is. grind (arith, start_among-is from n j a is))
+  start_among-none from n j none = option_cases (start_among e from n j) (λ is. is) (λ a is. grind (arith, start_among-is from n j a is))
 
 -- ---- the list
 
@@ -115,8 +114,7 @@ module _ (s : ℕ → Option ℕ) (from : ℕ) (spans : (j a : ℕ) → s j ≡ 
   unfolding rightmost_from
   rightmost_from-InOrder skip zero j high low = low
   rightmost_from-InOrder (suc skip) (suc n) j high low = rightmost_from-InOrder skip n j (omega arith) low
-  rightmost_from-InOrder zero (suc n) j high low =
-      option_cases (s n) (λ none. grind (arith, rightmost_from-InOrder 0 n j)) (λ a some. grind (arith, rightmost_from-InOrder (n - a - 1) n a))
+  rightmost_from-InOrder zero (suc n) j high low = option_cases (s n) (λ none. grind (arith, rightmost_from-InOrder 0 n j)) (λ a some. grind (arith, rightmost_from-InOrder (n - a - 1) n a))
 
 pub rightmost_between-InOrder : (e : ℕ → Option ℕ) (from to : ℕ) → ((k m : ℕ) → e k ≡ Some m → k ≤ m) → from ≤ to → InOrderBack from (rightmost_between e from to) to
 rightmost_between-InOrder e from to ordered le = grind (arith, rightmost_from-InOrder, start_among-is)

@@ -1,6 +1,6 @@
 -- Where the characters of a set start, by the places that pass a test.
 use Rattle.std.proofs.lemmas.Grind.{common_steps}
-use Rattle.std.proofs.Common.{◌≡◌, ℕ, ◌+◌, ◌<◌, ◌≤◌, ◌==◌, Bool, true, false, List, Option, Some, None, IfSome, MatchOption, length, take, take_all, slice_index, ap, sym, ◌∙◌, refl, arith, ⊎_elim, add-zero, get_or-drop}
+use Rattle.std.proofs.Common.{◌≡◌, ℕ, ◌+◌, ◌<◌, ◌≤◌, ◌==◌, Bool, true, false, List, Option, Some, None, IfSome, MatchOption, length, take, take_all, slice_index, ap, sym, ◌∙◌, refl, arith, ⊎_elim, add-zero, get_or-drop, unwrap_or}
 use Rattle.std.specs.Char.{IsScalar, encode_utf8, len_utf8}
 use Rattle.std.specs.Str.{IsUtf8}
 use Rattle.std.proofs.lemmas.Bool.Decides.{nat_tests}
@@ -15,6 +15,7 @@ use Rattle.hip_match.specs.Marks.{by_byte, stands}
 use Rattle.hip_match.specs.declared.ascii_set.AsciiSet.{AsciiSet}
 use Rattle.hip_match.specs.Needles.{bytes_of}
 use Rattle.hip_match.specs.declared.place_test.Needle.{Needle}
+use Rattle.hip_match.specs.declared.place_test.Needle.TheVariants.{One}
 use Rattle.hip_match.specs.MarkedSets.{AreStarts}
 use Rattle.hip_match.proofs.CharTextLemmas.{same_ends}
 use Rattle.hip_match.proofs.NeedleLemmas.{occurs-stands, stands-occurs}
@@ -56,21 +57,18 @@ list_starts s belongs same = ascii_starts belongs (by_byte (in_set s)) (λ t k. 
 module _ (c : ℕ) (good : IsScalar c) where
   char-ends : (t : List ℕ) (k : ℕ) → IsUtf8 t → stands (encode_utf8 c) t k ≡ true → char_ends (λ d. d == c) t k ≡ Some (k + len_utf8 c)
   char-ends t k utf8 pass =
-      ap (λ e. e k) (sym (same_ends c t good utf8)) ∙ occurs-text_ends t (encode_utf8 c) (IsUtf8-encode c good) utf8 k (omega (arith, length-encode c, len_utf8_bounds c)) (stands-occurs (encode_utf8 c) t k pass)
-      ∙ ap (λ n. Some (k + n)) (length-encode c)
+      ap (λ e. e k) (sym (same_ends c t good utf8)) ∙ occurs-text_ends t (encode_utf8 c) (IsUtf8-encode c good) utf8 k (omega (arith, length-encode c, len_utf8_bounds c)) (stands-occurs (encode_utf8 c) t k pass) ∙ ap (λ n. Some (k + n)) (length-encode c)
 
-  char_starts : (places : List ℕ → ℕ → Bool) → places ≡ stands (encode_utf8 c) → AreStarts (λ d. d == c) (len_utf8 c) places
-  char_starts places same = record {
+  char_starts : AreStarts (λ d. d == c) (len_utf8 c) (stands (encode_utf8 c))
+  char_starts = record {
     first = record {
-      leads = λ t a b utf8 is.
-          ap (λ p. p t a) same ∙ occurs-stands (encode_utf8 c) t a (text_ends-occurs t (encode_utf8 c) a b (ap (λ e. e a) (same_ends c t good utf8) ∙ is)).0;
-      begins = λ t k utf8 fits within pass.
-          (char_ends-spans (λ d. d == c) t k _ utf8 (char-ends t k utf8 (sym (ap (λ p. p t k) same) ∙ pass))).start;
+      leads = λ t a b utf8 is. occurs-stands (encode_utf8 c) t a (text_ends-occurs t (encode_utf8 c) a b (ap (λ e. e a) (same_ends c t good utf8) ∙ is)).0;
+      begins = λ t k utf8 fits within pass. (char_ends-spans (λ d. d == c) t k _ utf8 (char-ends t k utf8 pass)).start;
     };
-    ends = λ t k utf8 within pass. char-ends t k utf8 (sym (ap (λ p. p t k) same) ∙ pass);
+    ends = λ t k utf8 within pass. char-ends t k utf8 pass;
   }
 
-  -- the needle of a character, if there is one
-  pub char_found : (o : Option Needle) → MatchOption o (length (encode_utf8 c) ≡ 0) (λ n. bytes_of n ≡ take 4 (encode_utf8 c)) → IfSome o (λ n. AreStarts (λ d. d == c) (len_utf8 c) (stands (bytes_of n)))
-  char_found None empty = tt
-  char_found (Some n) h = char_starts (stands (bytes_of n)) (ap stands (h ∙ take_all 4 (encode_utf8 c) (omega (arith, length-encode c, len_utf8_bounds c))))
+  -- the needle of a character
+  pub char_found : (o : Option Needle) → MatchOption o (length (encode_utf8 c) ≡ 0) (λ n. bytes_of n ≡ take 4 (encode_utf8 c)) → AreStarts (λ d. d == c) (len_utf8 c) (stands (bytes_of (unwrap_or o (One 0))))
+  char_found None empty = absurd (omega (arith, empty, length-encode c, len_utf8_bounds c))
+  char_found (Some n) h = rw (h, take_all 4 (encode_utf8 c) (omega (arith, length-encode c, len_utf8_bounds c))) char_starts

@@ -65,8 +65,7 @@ other_bit : (b : ℕ) → b < 2 → ((b + 1) % 2 == 1) ≡ not (b == 1)
 other_bit b two = grind arith
 
 flipped : (n k : ℕ) → k < 8 → (bit_at (bit_xor n 255) k == 1) ≡ not (bit_at n k == 1)
-flipped n k low =
-    ap (λ b. b == 1) (bit_at_xor n 255 k) ∙ ap (λ d. (bit_at n k + d) % 2 == 1) (bit_at_ones 8 k low) ∙ other_bit (bit_at n k) (bit_at-lt n k)
+flipped n k low = ap (λ b. b == 1) (bit_at_xor n 255 k) ∙ ap (λ d. (bit_at n k + d) % 2 == 1) (bit_at_ones 8 k low) ∙ other_bit (bit_at n k) (bit_at-lt n k)
 
 -- the bits of the other characters
 pub others : (rows : List ℕ) (c : ℕ) → length rows ≡ 16 → in_rows (zip2 bit_xor rows (replicate 16 255)) c ≡ (nat_lt c 128 && not (in_rows rows c))

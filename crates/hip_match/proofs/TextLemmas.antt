@@ -129,6 +129,3 @@ module _ (t p : List ℕ) where
     text_before-no to cut off =
         start_among-none (text_ends p t) 0 (to + 1) to (λ a lo hi is.
         grind (arith, text_ends-occurs a to is, length-take-le to t cut.0, OccursAt-in_take to a cut.0))
-
-pub positive : (n : ℕ) → (n == 0) ≡ false → 0 < n
-positive n h = grind (arith, false≢true, eq-eqb, cases_lt)

@@ -7,9 +7,12 @@ ghost use Rattle.hip_match.specs.AsciiSets.{in_set};
 ghost use Rattle.hip_match.specs.Characters.{char_ends};
 ghost use Rattle.hip_match.specs.CharLaws.{char_ends-spans, char_ends-one_start, char_ends-one_char};
 ghost use Rattle.hip_match.specs.MarkedSets.{AreStarts};
+ghost use Rattle.hip_match.specs.Marks.{Ahead, Behind, stands};
+ghost use Rattle.hip_match.specs.Needles.{bytes_of};
 ghost use Rattle.hip_match.specs.Searchers.{AreAhead, AreBehind};
 
 use crate::ascii_set::AsciiSet;
+use crate::byte_test::OneByte;
 use crate::chars::{CharSet, end_of, start_before};
 use crate::marked_set::{MarkedSet, last_marked, next_marked};
 use crate::marks::Marks;
@@ -17,11 +20,11 @@ use crate::pattern::{ClonePattern, DoubleEndedPattern, OneChar, Pattern, Reverse
 use crate::place_test::{Bytes, Needle, PlaceTest};
 
 // The bytes of a character.
-fn needle_of(c: char) -> Option<Needle>
-    ensures { IfSome result (λ n. AreStarts (λ d. d == c) (len_utf8 c) (⟦<Needle as PlaceTest>⟧.places n)) }
+fn needle_of(c: char) -> Needle
+    ensures { AreStarts (λ d. d == c) (len_utf8 c) (stands (bytes_of result)) }
 {
     let mut room = [0; 4];
-    Needle::new(c.encode_utf8(&mut room).as_bytes())
+    Needle::new(c.encode_utf8(&mut room).as_bytes()).unwrap_or(Needle::One(0))
 }
 
 impl CharSet for char {
@@ -33,41 +36,35 @@ impl CharSet for char {
     }
 }
 
-impl MarkedSet for char {
-    type Test = Needle;
-
-    ghost is_found_by = { λ c. AreStarts (λ d. d == c) (len_utf8 c) };
-
-    ghost first_places = { λ _ _ found. found.first };
-
-    #[inline(always)]
-    fn end_at_mark(&self, _test: &Needle, _text: &str, at: usize) -> Option<usize> {
-        Some(at + self.len_utf8())
-    }
-}
-
 impl Pattern for char {
-    type Searcher = Option<Marks<Needle>>;
+    type Searcher = Marks<Needle>;
 
     ghost ends = { λ c. char_ends (λ d. d == c) };
 
-    ghost is_ready = { λ c m text from. AreAhead (AreStarts (λ d. d == c) (len_utf8 c)) (⟦<Needle as PlaceTest>⟧.places) m text from };
+    ghost is_ready = { λ c m text from. AreStarts (λ d. d == c) (len_utf8 c) (stands (bytes_of m.test)) × Ahead (stands (bytes_of m.test)) text from m.front.next m.front.bits };
 
-    ghost is_ready_back = { λ c m text to. AreBehind (AreStarts (λ d. d == c) (len_utf8 c)) (⟦<Needle as PlaceTest>⟧.places) m text to };
+    ghost is_ready_back = { λ c m text to. AreStarts (λ d. d == c) (len_utf8 c) (stands (bytes_of m.test)) × Behind (stands (bytes_of m.test)) text to m.back.start m.back.bits };
 
     #[inline]
-    fn searcher(&self, _text: &str, from: usize, to: usize) -> Option<Marks<Needle>> {
-        Some(Marks::new(needle_of(*self)?, from, to))
+    fn searcher(&self, _text: &str, from: usize, to: usize) -> Marks<Needle> {
+        Marks::new(needle_of(*self), from, to)
     }
 
     #[inline(always)]
     fn next_match_by(
         &self,
-        searcher: &mut Option<Marks<Needle>>,
+        searcher: &mut Marks<Needle>,
         text: &str,
         from: usize,
     ) -> Option<(usize, usize)> {
-        next_marked(self, searcher, text, from)
+        let (test, bytes) = (searcher.test, text.as_bytes());
+        // A single byte has a loop of its own.
+        if let Needle::One(byte) = test {
+            let at = searcher.front.next(&Bytes(OneByte(byte)), bytes, from)?;
+            return Some((at, at + self.len_utf8()));
+        }
+        let at = searcher.front.next(&test, bytes, from)?;
+        Some((at, at + self.len_utf8()))
     }
 
     #[inline]
@@ -82,11 +79,17 @@ impl ReversePattern for char {
     #[inline(always)]
     fn last_match_by(
         &self,
-        searcher: &mut Option<Marks<Needle>>,
+        searcher: &mut Marks<Needle>,
         text: &str,
         to: usize,
     ) -> Option<(usize, usize)> {
-        last_marked(self, searcher, text, to)
+        let (test, bytes) = (searcher.test, text.as_bytes());
+        if let Needle::One(byte) = test {
+            let at = searcher.back.last(&Bytes(OneByte(byte)), bytes, to)?;
+            return Some((at, at + self.len_utf8()));
+        }
+        let at = searcher.back.last(&test, bytes, to)?;
+        Some((at, at + self.len_utf8()))
     }
 
     #[inline]

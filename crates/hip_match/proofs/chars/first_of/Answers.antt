@@ -20,8 +20,7 @@ loop-at-preserved g c =
     (found.1, omega (arith, found.0, c.loop-at.invariant.1), first_step _ c.args.text.now c.utf8.text _ _ _ _ c.wide_char_from-c.ensures (sym c.has-in-loop-at.ensures ∙ c.if-has-2.false) c.loop-at.invariant.2)
 
 pub loop-at-smaller : goal.loop-at-smaller
-loop-at-smaller g c =
-    omega (arith, c.loop-at-test.true, c.as_bytes-bytes.ensures.len, (moved c.args.text.now _ _ _ c.utf8.text c.wide_char_from-c.ensures).0)
+loop-at-smaller g c = omega (arith, c.loop-at-test.true, c.as_bytes-bytes.ensures.len, (moved c.args.text.now _ _ _ c.utf8.text c.wide_char_from-c.ensures).0)
 
 pub returns : goal.returns
 returns g c = grind (arith, nat_tests, common_steps, first_done, char_at-end)

@@ -9,17 +9,15 @@ pub returns-in-Some-end_at_mark-clause-found : goal.returns-in-Some-end_at_mark-
 returns-in-Some-end_at_mark-clause-found g c =
     let inv = c.loop-at.invariant in
     let at = c.in-Some-last.at in
-    let first = g.met.S.MarkedSet.first_places _ _ inv.0 in
     let found = subst (λ (l : List ℕ). IsLast (PassesAt (g.S.Test.PlaceTest.places c.loop-at.marks.test) l) 0 c.loop-at.past (Some at)) c.as_bytes-bytes.ensures.value c.in-Some-last.ensures.found in
-    ends_last _ _ first c.args.text.now c.utf8.text c.args.to c.loop-at.past inv.3 at c.in-Some-end_at_mark.end c.requires.boundary inv.2 found (sym c.in-Some-end_at_mark.ensures)
+    ends_last _ _ (g.met.S.MarkedSet.first_places _ _ inv.0) c.args.text.now c.utf8.text c.args.to c.loop-at.past inv.3 at c.in-Some-end_at_mark.end c.requires.boundary inv.2 found (sym c.in-Some-end_at_mark.ensures)
 
 pub returns-in-Some-end_at_mark-clause-back : goal.returns-in-Some-end_at_mark-clause-back
 returns-in-Some-end_at_mark-clause-back g c k goes =
     let at = c.in-Some-last.at in
     let one = char_ends-one_char (g.S.CharSet.belongs c.args.set.now) c.args.text.now at c.in-Some-end_at_mark.end c.utf8.text (sym c.in-Some-end_at_mark.ensures) in
-    let same : k ≡ at = goes.1 one.holds in
     let behind = subst (λ (l : List ℕ). Behind (g.S.Test.PlaceTest.places c.loop-at.marks.test) l at c.last.new.self.start c.last.new.self.bits) c.as_bytes-bytes.ensures.value c.in-Some-last.ensures.behind in
-    (c.loop-at.invariant.0, rw same behind)
+    (c.loop-at.invariant.0, rw (goes.1 one.holds) behind)
 
 pub returns-clause-found : goal.returns-clause-found
 returns-clause-found g c =
@@ -35,8 +33,7 @@ loop-at-preserved g c =
     let same = c.as_bytes-bytes.ensures.value in
     let found = subst (λ (l : List ℕ). IsLast (PassesAt places l) 0 c.loop-at.past (Some at)) same c.in-Some-last.ensures.found in
     let behind = subst (λ (l : List ℕ). Behind places l at c.last.new.self.start c.last.new.self.bits) same c.in-Some-last.ensures.behind in
-    let past = beyond_it _ _ (g.met.S.MarkedSet.first_places _ _ inv.0) c.args.text.now c.utf8.text c.args.to c.loop-at.past inv.3 at found (sym c.end_at_mark.ensures ∙ c.in_default-end_at_mark.is) in
-    (inv.0, behind, omega (arith, inv.2, found.0.high), past, inv.4)
+    (inv.0, behind, omega (arith, inv.2, found.0.high), beyond_it _ _ (g.met.S.MarkedSet.first_places _ _ inv.0) c.args.text.now c.utf8.text c.args.to c.loop-at.past inv.3 at found (sym c.end_at_mark.ensures ∙ c.in_default-end_at_mark.is), inv.4)
 
 pub returns-in-Some-end_at_mark-clause-front : goal.returns-in-Some-end_at_mark-clause-front
 returns-in-Some-end_at_mark-clause-front g c from ready = c.loop-at.invariant.4 from (rw c.in-Some.is at ready)

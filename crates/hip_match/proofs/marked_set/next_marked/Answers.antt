@@ -8,9 +8,8 @@ pub returns-in-Some-end_at_mark-clause-front : goal.returns-in-Some-end_at_mark-
 returns-in-Some-end_at_mark-clause-front g c k goes =
     let inv = c.loop-at.invariant in
     let at = c.in-Some-next.at in
-    let first = g.met.S.MarkedSet.first_places _ _ inv.0 in
     let ahead = subst (λ (l : List ℕ). Ahead (g.S.Test.PlaceTest.places c.loop-at.marks.test) l (at + 1) c.next.new.self.next c.next.new.self.bits) c.as_bytes-bytes.ensures.value c.in-Some-next.ensures.ahead in
-    (inv.0, past_char _ _ first c.args.text.now c.utf8.text at c.in-Some-end_at_mark.end k _ _ (λ i. (c.type_inv.text i).fits) (sym c.in-Some-end_at_mark.ensures) goes ahead)
+    (inv.0, past_char _ _ (g.met.S.MarkedSet.first_places _ _ inv.0) c.args.text.now c.utf8.text at c.in-Some-end_at_mark.end k _ _ (λ i. (c.type_inv.text i).fits) (sym c.in-Some-end_at_mark.ensures) goes ahead)
 
 pub returns-in-Some-end_at_mark-clause-found : goal.returns-in-Some-end_at_mark-clause-found
 returns-in-Some-end_at_mark-clause-found g c =
@@ -33,8 +32,7 @@ loop-at-preserved g c =
     let same = c.as_bytes-bytes.ensures.value in
     let found = subst (λ (l : List ℕ). IsFirst (PassesAt places l) c.loop-at.past (length l) (Some at)) same c.in-Some-next.ensures.found in
     let ahead = subst (λ (l : List ℕ). Ahead places l (at + 1) c.next.new.self.next c.next.new.self.bits) same c.in-Some-next.ensures.ahead in
-    let free = none_up_to _ _ (g.met.S.MarkedSet.first_places _ _ inv.0) c.args.text.now c.utf8.text c.args.from c.loop-at.past at inv.3 found (sym c.end_at_mark.ensures ∙ c.in_default-end_at_mark.is) in
-    (inv.0, ahead, omega (arith, inv.2, found.0.low), free, inv.4)
+    (inv.0, ahead, omega (arith, inv.2, found.0.low), none_up_to _ _ (g.met.S.MarkedSet.first_places _ _ inv.0) c.args.text.now c.utf8.text c.args.from c.loop-at.past at inv.3 found (sym c.end_at_mark.ensures ∙ c.in_default-end_at_mark.is), inv.4)
 
 pub returns-in-Some-end_at_mark-clause-back : goal.returns-in-Some-end_at_mark-clause-back
 returns-in-Some-end_at_mark-clause-back g c to ready = c.loop-at.invariant.4 to (rw c.in-Some.is at ready)

@@ -18,8 +18,7 @@ loop-end-preserved g c =
     (here.end, sequence_more _ _ _ _ c.loop-end.invariant.1 (sym c.in-Some.ensures) (omega (arith, here.ordered, c.if-end-at.false)))
 
 pub returns-then-end-at-clause-front : goal.returns-then-end-at-clause-front
-returns-then-end-at-clause-front g c =
-    TrimsFront-stuck _ _ c.loop-end.invariant.1 (λ b is. omega (arith, same_Some _ _ (sym is ∙ sym c.in-Some.ensures), c.if-end-at.true))
+returns-then-end-at-clause-front g c = TrimsFront-stuck _ _ c.loop-end.invariant.1 (λ b is. omega (arith, same_Some _ _ (sym is ∙ sym c.in-Some.ensures), c.if-end-at.true))
 
 pub returns-in_default-clause-front : goal.returns-in_default-clause-front
 returns-in_default-clause-front g c = TrimsFront-stuck _ _ c.loop-end.invariant.1 (λ b is. absurd (none-some b (c.in_default.ensures ∙ is)))

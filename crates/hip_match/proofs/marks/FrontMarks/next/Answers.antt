@@ -12,8 +12,7 @@ returns-in-Some-clause-ahead g c =
     ahead-passed (g.T.PlaceTest.places c.args.test.now) c.args.bytes.now _ _ _ c.loop-k.invariant c.in-Some.k low _ (rest.lowest _ low) (λ k apart. rest.others _ k low apart)
 
 pub returns-in_err-start-clause-found : goal.returns-in_err-start-clause-found
-returns-in_err-start-clause-found g c =
-    rw c.from_residual.ensures (ahead-end (g.T.PlaceTest.places c.args.test.now) c.args.bytes.now _ _ _ c.loop-k.invariant c.in_default.ensures _ c.loop-k.invariant.within c.in_err-start.ensures)
+returns-in_err-start-clause-found g c = rw c.from_residual.ensures (ahead-end (g.T.PlaceTest.places c.args.test.now) c.args.bytes.now _ _ _ c.loop-k.invariant c.in_default.ensures _ c.loop-k.invariant.within c.in_err-start.ensures)
 
 pub loop-k-preserved : goal.loop-k-preserved
 loop-k-preserved g c =
