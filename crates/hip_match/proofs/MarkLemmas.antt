@@ -41,10 +41,7 @@ module _ (test : List ℕ → ℕ → Bool) (t : List ℕ) where
 
   -- the lanes of one load
   pub lanes-are : (at m : ℕ) → m < 65536 → ((k : ℕ) → k < 16 → bit_at m k ≡ cond (test t (at + k)) 1 0) → AreMarks test t at (at + 16) (at + 64) m
-  lanes-are at m few bits = record {
-    told = λ k low one. grind (arith, bits k, bit_at_above m 16 k few, cases_Bool (test t (at + k)));
-    marked = λ p lo hi pass. grind (arith, bits (p - at));
-  }
+  lanes-are at m few bits = record { told = λ k low one. grind (arith, bits k, bit_at_above m 16 k few, cases_Bool (test t (at + k))); marked = λ p lo hi pass. grind (arith, bits (p - at)) }
 
   module _ (from to end m : ℕ) (h : AreMarks test t from to end m) where
     pub none : m ≡ 0 → Nowhere (PassesAt test t) from to
@@ -52,10 +49,7 @@ module _ (test : List ℕ → ℕ → Bool) (t : List ℕ) where
 
     -- moved up
     pub moved : (by less n : ℕ) → by + less ≡ end → to ≤ less → ((k : ℕ) → k < by → bit_at n k ≡ 0) → ((k : ℕ) → by ≤ k → k < 64 → bit_at n k ≡ bit_at m (k - by)) → AreMarks test t from to less n
-    moved by less n is room below up = record {
-      told = λ k low one. grind (arith, cases_lt k by, below k, up k, h.told (k - by));
-      marked = λ p lo hi pass. grind (arith, h.marked p lo hi pass, up (p + 64 - less));
-    }
+    moved by less n is room below up = record { told = λ k low one. grind (arith, cases_lt k by, below k, up k, h.told (k - by)); marked = λ p lo hi pass. grind (arith, h.marked p lo hi pass, up (p + 64 - less)) }
 
     -- two stretches that meet are one
     pub joined : (start stop n : ℕ) → from ≤ start → start ≤ to → to ≤ stop → AreMarks test t start stop end n → AreMarks test t from stop end (bit_or m n)
@@ -67,12 +61,10 @@ module _ (test : List ℕ → ℕ → Bool) (t : List ℕ) where
     -- ---- the other end of a walk moves over places that fail
 
     pub front-moved : (later : ℕ) → Nowhere (PassesAt test t) from later → Nowhere (PassesAt test t) later from → AreMarks test t later to end m
-    front-moved later behind before =
-        record { told = λ k low one. grind (arith, h.told k low one, behind (end + k - 64)); marked = λ p lo hi pass. grind (arith, cases_lt p from, before p, h.marked p) }
+    front-moved later behind before = record { told = λ k low one. grind (arith, h.told k low one, behind (end + k - 64)); marked = λ p lo hi pass. grind (arith, cases_lt p from, before p, h.marked p) }
 
     pub back-moved : (earlier : ℕ) → Nowhere (PassesAt test t) earlier to → Nowhere (PassesAt test t) to earlier → AreMarks test t from earlier end m
-    back-moved earlier before behind =
-        record { told = λ k low one. grind (arith, h.told k low one, before (end + k - 64)); marked = λ p lo hi pass. grind (arith, cases_lt p to, behind p, h.marked p) }
+    back-moved earlier before behind = record { told = λ k low one. grind (arith, h.told k low one, before (end + k - 64)); marked = λ p lo hi pass. grind (arith, cases_lt p to, behind p, h.marked p) }
 
     -- ---- the lowest mark
     module _ (r : ℕ) (low : IsLowest m r) where
@@ -129,8 +121,7 @@ module _ (test : List ℕ → ℕ → Bool) (t : List ℕ) where
 
     -- the walk goes on behind places that fail
     pub ahead-skipped : (later : ℕ) → from ≤ later → Nowhere (PassesAt test t) from later → Ahead test t later next m
-    ahead-skipped later le fail =
-        record { within = h.within; beyond = λ k lo hi. grind (arith, cases_lt k from, h.beyond k lo, fail k); marks = front-moved from next next m h.marks later fail (λ k lo hi. absurd (omega arith)) }
+    ahead-skipped later le fail = record { within = h.within; beyond = λ k lo hi. grind (arith, cases_lt k from, h.beyond k lo, fail k); marks = front-moved from next next m h.marks later fail (λ k lo hi. absurd (omega arith)) }
 
   module _ (to start m : ℕ) (h : Behind test t to start m) where
     pub behind-none : m ≡ 0 → Nowhere (PassesAt test t) start to

@@ -12,6 +12,13 @@ use Rattle.hip_match.specs.declared.place_test.Needle.{Needle}
 use Rattle.hip_match.specs.declared.place_test.Needle.TheVariants.{One, Two, Three, Four}
 use Rattle.hip_match.proofs.MarkLemmas.{alike}
 
+-- a needle is a byte and those behind it
+pub reach_is : (n : Needle) (p : List ℕ) → bytes_of n ≡ p → length p ≡ reach_of n + 1
+reach_is (One a) p is = omega (arith, ap length is)
+reach_is (Two a b) p is = omega (arith, ap length is)
+reach_is (Three a b c) p is = omega (arith, ap length is)
+reach_is (Four a b c d) p is = omega (arith, ap length is)
+
 -- one byte more before a needle
 cons-occurs : (b : ℕ) (bs t : List ℕ) (k : ℕ) → slice_index t k ≡ b → OccursAt t bs (k + 1) → OccursAt t (b ∷ bs) k
 cons-occurs b bs t k here rest = record { fits = omega (arith, rest.fits); reads = reads }

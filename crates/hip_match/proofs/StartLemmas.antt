@@ -13,12 +13,12 @@ use Rattle.hip_match.specs.CharLaws.{is_boundary-true, is_boundary-is, starts_ch
 use Rattle.hip_match.specs.AsciiSets.{in_set}
 use Rattle.hip_match.specs.Marks.{by_byte, stands}
 use Rattle.hip_match.specs.declared.ascii_set.AsciiSet.{AsciiSet}
-use Rattle.hip_match.specs.Needles.{bytes_of}
+use Rattle.hip_match.specs.Needles.{bytes_of, reach_of}
 use Rattle.hip_match.specs.declared.place_test.Needle.{Needle}
 use Rattle.hip_match.specs.declared.place_test.Needle.TheVariants.{One}
 use Rattle.hip_match.specs.MarkedSets.{AreStarts}
 use Rattle.hip_match.proofs.CharTextLemmas.{same_ends}
-use Rattle.hip_match.proofs.NeedleLemmas.{occurs-stands, stands-occurs}
+use Rattle.hip_match.proofs.NeedleLemmas.{occurs-stands, reach_is, stands-occurs}
 use Rattle.hip_match.proofs.TableLemmas.{in_rows-low}
 use Rattle.hip_match.proofs.TextLemmas.{occurs-text_ends, text_ends-occurs}
 
@@ -69,6 +69,8 @@ module _ (c : ℕ) (good : IsScalar c) where
   }
 
   -- the needle of a character
-  pub char_found : (o : Option Needle) → MatchOption o (length (encode_utf8 c) ≡ 0) (λ n. bytes_of n ≡ take 4 (encode_utf8 c)) → AreStarts (λ d. d == c) (len_utf8 c) (stands (bytes_of (unwrap_or o (One 0))))
+  pub char_found : (o : Option Needle) → MatchOption o (length (encode_utf8 c) ≡ 0) (λ n. bytes_of n ≡ take 4 (encode_utf8 c)) → AreStarts (λ d. d == c) (reach_of (unwrap_or o (One 0)) + 1) (stands (bytes_of (unwrap_or o (One 0))))
   char_found None empty = absurd (omega (arith, empty, length-encode c, len_utf8_bounds c))
-  char_found (Some n) h = rw (h, take_all 4 (encode_utf8 c) (omega (arith, length-encode c, len_utf8_bounds c))) char_starts
+  char_found (Some n) h =
+      let same = h ∙ take_all 4 (encode_utf8 c) (omega (arith, length-encode c, len_utf8_bounds c)) in
+      rw (sym (reach_is n (encode_utf8 c) same) ∙ length-encode c, same) char_starts

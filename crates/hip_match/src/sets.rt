@@ -1,14 +1,13 @@
 //! The patterns that are characters: one of them, or any of some.
 ghost use Rattle.std.proofs.Common.{rules};
-ghost use Rattle.std.specs.Prelude.{◌≡◌, ◌==◌, ℕ, IfSome};
-ghost use Rattle.std.specs.Char.{len_utf8};
+ghost use Rattle.std.specs.Prelude.{◌≡◌, ◌==◌, ◌+◌, ℕ, IfSome};
 ghost use Rattle.std.specs.List.{list_any};
 ghost use Rattle.hip_match.specs.AsciiSets.{in_set};
 ghost use Rattle.hip_match.specs.Characters.{char_ends};
 ghost use Rattle.hip_match.specs.CharLaws.{char_ends-spans, char_ends-one_start, char_ends-one_char};
 ghost use Rattle.hip_match.specs.MarkedSets.{AreStarts};
 ghost use Rattle.hip_match.specs.Marks.{Ahead, Behind, stands};
-ghost use Rattle.hip_match.specs.Needles.{bytes_of};
+ghost use Rattle.hip_match.specs.Needles.{bytes_of, reach_of};
 ghost use Rattle.hip_match.specs.Searchers.{AreAhead, AreBehind};
 
 use crate::ascii_set::AsciiSet;
@@ -21,7 +20,7 @@ use crate::place_test::{Bytes, Needle, PlaceTest};
 
 // The bytes of a character.
 fn needle_of(c: char) -> Needle
-    ensures { AreStarts (λ d. d == c) (len_utf8 c) (stands (bytes_of result)) }
+    ensures { AreStarts (λ d. d == c) (reach_of result + 1) (stands (bytes_of result)) }
 {
     let mut room = [0; 4];
     Needle::new(c.encode_utf8(&mut room).as_bytes()).unwrap_or(Needle::One(0))
@@ -41,9 +40,9 @@ impl Pattern for char {
 
     ghost ends = { λ c. char_ends (λ d. d == c) };
 
-    ghost is_ready = { λ c m text from. AreStarts (λ d. d == c) (len_utf8 c) (stands (bytes_of m.test)) × Ahead (stands (bytes_of m.test)) text from m.front.next m.front.bits };
+    ghost is_ready = { λ c m text from. AreStarts (λ d. d == c) (reach_of m.test + 1) (stands (bytes_of m.test)) × Ahead (stands (bytes_of m.test)) text from m.front.next m.front.bits };
 
-    ghost is_ready_back = { λ c m text to. AreStarts (λ d. d == c) (len_utf8 c) (stands (bytes_of m.test)) × Behind (stands (bytes_of m.test)) text to m.back.start m.back.bits };
+    ghost is_ready_back = { λ c m text to. AreStarts (λ d. d == c) (reach_of m.test + 1) (stands (bytes_of m.test)) × Behind (stands (bytes_of m.test)) text to m.back.start m.back.bits };
 
     #[inline]
     fn searcher(&self, _text: &str, from: usize, to: usize) -> Marks<Needle> {
@@ -61,10 +60,10 @@ impl Pattern for char {
         // A single byte has a loop of its own.
         if let Needle::One(byte) = test {
             let at = searcher.front.next(&Bytes(OneByte(byte)), bytes, from)?;
-            return Some((at, at + self.len_utf8()));
+            return Some((at, at + 1));
         }
         let at = searcher.front.next(&test, bytes, from)?;
-        Some((at, at + self.len_utf8()))
+        Some((at, at + (test.reach() + 1)))
     }
 
     #[inline]
@@ -86,10 +85,10 @@ impl ReversePattern for char {
         let (test, bytes) = (searcher.test, text.as_bytes());
         if let Needle::One(byte) = test {
             let at = searcher.back.last(&Bytes(OneByte(byte)), bytes, to)?;
-            return Some((at, at + self.len_utf8()));
+            return Some((at, at + 1));
         }
         let at = searcher.back.last(&test, bytes, to)?;
-        Some((at, at + self.len_utf8()))
+        Some((at, at + (test.reach() + 1)))
     }
 
     #[inline]
