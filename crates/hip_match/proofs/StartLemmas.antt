@@ -1,6 +1,6 @@
 -- Where the characters of a set start, by the places that pass a test.
 use Rattle.std.proofs.lemmas.Grind.{common_steps}
-use Rattle.std.proofs.Common.{◌≡◌, ℕ, ◌+◌, ◌<◌, ◌≤◌, ◌==◌, Bool, true, false, List, Option, Some, None, IfSome, MatchOption, length, take, take_all, slice_index, ap, sym, ◌∙◌, refl, arith, ⊎_elim, add-zero, get_or-drop, unwrap_or}
+use Rattle.std.proofs.Common.{◌≡◌, ℕ, ◌+◌, ◌<◌, ◌≤◌, ◌==◌, Bool, true, false, List, Option, Some, None, MatchOption, length, take, take_all, slice_index, ap, sym, ◌∙◌, refl, arith, ⊎_elim, add-zero, get_or-drop, unwrap_or}
 use Rattle.std.specs.Char.{IsScalar, encode_utf8, len_utf8}
 use Rattle.std.specs.Str.{IsUtf8}
 use Rattle.std.proofs.lemmas.Bool.Decides.{nat_tests}

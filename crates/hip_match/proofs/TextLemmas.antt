@@ -1,6 +1,6 @@
 -- Where memchr finds the bytes of a text, the text occurs.
-use Rattle.std.proofs.Common.{◌≡◌, ℕ, ◌+◌, ◌-◌, ◌<◌, ◌≤◌, false, ⊎_elim, List, Option, Some, None, length, take, drop, arith, length-drop, length-take, length-take-le, get_or-drop, get_or-take, option_map, take_all, add-zero, ◌==◌, eq-eqb, IsUtf8, IsCharBoundary}
-use Rattle.std.proofs.lemmas.Bool.{cases_lt, false≢true}
+use Rattle.std.proofs.Common.{◌≡◌, ℕ, ◌+◌, ◌-◌, ◌<◌, ◌≤◌, ⊎_elim, List, Option, Some, None, length, take, drop, arith, length-drop, length-take, length-take-le, get_or-drop, get_or-take, option_map, take_all, add-zero, IsUtf8, IsCharBoundary}
+use Rattle.std.proofs.lemmas.Bool.{cases_lt}
 use Rattle.std.proofs.lemmas.List.{nil_from_length}
 use Rattle.memchr.specs.Find.{OccursAt, FindsNeedle, FindsLastNeedle, IsFirst, IsLast, NoneAfter, NoneBefore, Nowhere}
 use Rattle.memchr.proofs.lemmas.MatchLemmas.{OccursAt-part, OccursAt-from_part}

@@ -1,4 +1,4 @@
-use Rattle.std.proofs.Common.{◌≡◌, ◌∙◌, ℕ, List, None, Some, subst, sym, arith}
+use Rattle.std.proofs.Common.{◌∙◌, ℕ, List, None, Some, subst, sym, arith}
 use Rattle.memchr.specs.Find.{IsLast}
 use Rattle.hip_match.specs.CharLaws.{char_ends-one_char}
 use Rattle.hip_match.specs.Marks.{Behind, PassesAt}
