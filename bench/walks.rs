@@ -71,6 +71,7 @@ fn theirs(walk: Walk, text: &str, by: By) -> u64 {
         (Walk::RSplit, By::Set(p)) => drained(text.rsplit(p.as_slice())),
         (Walk::SplitInclusive, By::Char(p)) => drained(text.split_inclusive(p)),
         (Walk::Matches, By::Text(p)) => drained(text.matches(p)),
+        (Walk::Matches, By::Char(p)) => drained(text.matches(p)),
         (Walk::TrimStart, By::Set(p)) => text.trim_start_matches(p.as_slice()).len() as u64 + 1,
         (Walk::TrimEnd, By::Char(p)) => text.trim_end_matches(p).len() as u64 + 1,
         (Walk::TrimEnd, By::Set(p)) => text.trim_end_matches(|c| c == p[0] || c == p[1]).len() as u64 + 1,
@@ -140,6 +141,31 @@ fn words(letters: &str, count: RangeInclusive<usize>, parts: &[&str]) -> String 
     text
 }
 
+/// A text that is written again and again.
+fn again(unit: &str) -> String {
+    unit.repeat((1 << 20) / unit.len() + 1)
+}
+
+/// English prose: sentences of its most frequent words.
+fn prose() -> String {
+    let common: Vec<&str> = "the of and to in a is that for it as was with be by on not he his but at are this have from they which one you were all her she there would their we him been has when who will no more if out so up said what its about than into them can only other time new some could these two may first then do any like my now over such our man me even most made after also did many".split(' ').collect();
+    let mut numbers = Numbers(0x9E37_79B9_7F4A_7C15);
+    let mut text = String::new();
+    while text.len() < 1 << 20 {
+        for _ in 0..numbers.within(&(4..=20)) {
+            text.push_str(common[numbers.within(&(0..=common.len() - 1)).min(numbers.within(&(0..=common.len() - 1)))]);
+            text.push_str(if numbers.within(&(0..=9)) == 0 { ", " } else { " " });
+        }
+        text.push_str("and so it was. ");
+    }
+    text
+}
+
+/// A needle of so many letters that a run of its first letter nearly matches everywhere.
+fn near_miss(len: usize) -> &'static str {
+    Box::leak(("a".repeat(len - 1) + "b").into_boxed_str())
+}
+
 fn median(mut numbers: Vec<f64>) -> (f64, f64, f64) {
     numbers.sort_by(f64::total_cmp);
     (numbers[numbers.len() / 2], numbers[0], numbers[numbers.len() - 1])
@@ -172,10 +198,13 @@ const RUSSIAN: &str = "абвгдежзийклмнопрстуфхцчшщъы�
 const JAPANESE: &str = "あいうえおかきくけこ日本語文字";
 const RULE: &str = "------------------------------------------";
 const FRENCH: &str = "abcdefghijklmnopqrstuvwxyzéàè";
+const GREEK: &str = "αβγδεζηθικλμνξοπρστυφχψω";
+const KOREAN: &str = "가나다라마바사아자차카타파하";
+const EMOJI: &str = "😀🐀🐈🐕🌍🌊";
 
 fn main() {
     let wanted: Vec<String> = std::env::args().skip(1).collect();
-    let rows: Vec<(&str, Walk, String, By)> = vec![
+    let mut rows: Vec<(String, Walk, String, By)> = [
         ("split_ascii_whitespace, words of 5", Walk::AsciiWords, words(ASCII, 5..=5, &[" "]), By::Nothing),
         ("split_ascii_whitespace, words of 1 to 8", Walk::AsciiWords, words(ASCII, 1..=8, &[" "]), By::Nothing),
         ("split_ascii_whitespace, words of 30", Walk::AsciiWords, words(ASCII, 30..=30, &[" "]), By::Nothing),
@@ -236,11 +265,76 @@ fn main() {
         ("trim_end_matches(&['я', 'ю'])", Walk::TrimEnd, words("яю", 1..=1, &[""]), By::Set(['я', 'ю'])),
         ("trim_end_matches(&['日', '本'])", Walk::TrimEnd, words("日本", 1..=1, &[""]), By::Set(['日', '本'])),
         ("trim_start_matches(&['я', 'ю'])", Walk::TrimStart, words("яю", 1..=1, &[""]), By::Set(['я', 'ю'])),
+        ("split_whitespace, blanks alone", Walk::Words, again(" "), By::Nothing),
+        ("split_whitespace, words of 1", Walk::Words, words(ASCII, 1..=1, &[" "]), By::Nothing),
+        ("matches('é'), French", Walk::Matches, words(FRENCH, 1..=6, &["é"]), By::Char('é')),
+        ("split(RULE) over dashes", Walk::Split, again("-"), By::Text(RULE)),
+    ]
+    .map(|(name, walk, text, by)| (name.to_string(), walk, text, by))
+    .into();
+    // Each text is taken apart from both ends.
+    let characters = [
+        ("Japanese sentences", words(JAPANESE, 5..=30, &["。"]), '。'),
+        ("Japanese clauses", words(JAPANESE, 2..=12, &["、", "、", "。"]), '、'),
+        ("Japanese words", words(JAPANESE, 1..=8, &["\u{3000}"]), '\u{3000}'),
+        ("a character and U+3000 by turns", again("日\u{3000}"), '\u{3000}'),
+        ("U+3000 alone", again("\u{3000}"), '\u{3000}'),
+        ("Korean", words(KOREAN, 1..=6, &[" "]), '라'),
+        ("Korean, each second", again("가라"), '라'),
+        ("Korean, each", again("가"), '가'),
+        ("emoji", words(EMOJI, 1..=6, &[""]), '😀'),
+        ("emoji, each second", again("🐀😀"), '😀'),
+        ("emoji, each", again("😀"), '😀'),
+        ("Greek", words(GREEK, 1..=10, &[" "]), 'α'),
+        ("Russian", words(RUSSIAN, 1..=12, &[" "]), 'о'),
+        ("French, rare", words(ASCII, 20..=60, &["é"]), 'é'),
+        ("a letter and é by turns", words(ASCII, 1..=1, &["é"]), 'é'),
+        ("é alone", again("é"), 'é'),
+        ("none in 1 MiB", again("日本語"), '。'),
+        ("commas alone", again(","), ','),
     ];
+    for (name, text, by) in characters {
+        rows.push((format!("split({by:?}), {name}"), Walk::Split, text.clone(), By::Char(by)));
+        rows.push((format!("rsplit({by:?}), {name}"), Walk::RSplit, text, By::Char(by)));
+    }
+    let texts = [
+        ("over ab", again("ab"), "ab"),
+        ("over acab", again("acab"), "ab"),
+        ("over bbab", again("bbab"), "ab"),
+        ("over abcabd", again("abcabd"), "abc"),
+        ("over xxcabc", again("xxcabc"), "abc"),
+        ("over aa", again("a"), "aa"),
+        ("none in 1 MiB", again("abcdefgh"), "xy"),
+        ("gaps of five", words("vwxyz", 5..=5, &["abc"]), "abc"),
+        ("gaps of five", words("vwxyz", 5..=5, &["abcd"]), "abcd"),
+        ("gaps of five", words("vwxyz", 5..=5, &["abcde"]), "abcde"),
+        ("gaps of five", words("vwxyz", 5..=5, &["abcdefgh"]), "abcdefgh"),
+        ("prose", prose(), "the "),
+        ("prose", prose(), ", "),
+        ("prose", prose(), "and "),
+        ("prose", prose(), "would"),
+        ("prose", prose(), "and so it was. "),
+        ("nearly everywhere", again("a"), near_miss(5)),
+        ("nearly everywhere", again("a"), near_miss(16)),
+        ("nearly everywhere, 100", again("a"), near_miss(100)),
+        ("nearly everywhere, 1,000", again("a"), near_miss(1000)),
+    ];
+    for (name, text, by) in texts {
+        let shown = &by[..by.len().min(16)];
+        rows.push((format!("split({shown:?}), {name}"), Walk::Split, text.clone(), By::Text(by)));
+        rows.push((format!("rsplit({shown:?}), {name}"), Walk::RSplit, text, By::Text(by)));
+    }
+    for part in [", ", " - ", " -> "] {
+        for count in [1, 2, 4, 8, 16, 32, 128] {
+            let text = words(ASCII, count..=count, &[part]);
+            rows.push((format!("split({part:?}), each field of {count}"), Walk::Split, text.clone(), By::Text(part)));
+            rows.push((format!("rsplit({part:?}), each field of {count}"), Walk::RSplit, text, By::Text(part)));
+        }
+    }
     println!("| Walk | ours / Rust | turns | ours | Rust |\n|---|---|---|---|---|");
     for (name, walk, text, by) in rows {
         if wanted.is_empty() || wanted.iter().any(|word| name.contains(word.as_str())) {
-            measure(name, walk, &text, by);
+            measure(&name, walk, &text, by);
         }
     }
 }

@@ -3,7 +3,7 @@ use Rattle.std.proofs.Common.{◌≡◌, ℕ, zero, suc, ◌+◌, ◌<◌, Bool,
 use Rattle.std.proofs.Math.Path.{fun_ext}
 use Rattle.std.proofs.Math.Utf8.{scalar_cases}
 use Rattle.std.specs.Char.{IsScalar}
-use Rattle.hip_match.specs.Characters.{char_ends, end_if}
+use Rattle.hip_match.specs.Characters.{char_ends}
 use Rattle.hip_match.specs.Answers.{answer_at}
 
 -- the answers at the n numbers from i on
@@ -21,23 +21,17 @@ answer_at-from passes i zero c lt = absurd (omega arith)
 answer_at-from passes i (suc n) zero lt = grind arith
 answer_at-from passes i (suc n) (suc c) lt = grind (arith, answer_at-from passes (i + 1) n c (omega arith))
 
-answer_at-of : (passes : ℕ → Bool) (c : ℕ) → c < 1114112 → answer_at (answers_of passes) c ≡ passes c
-unfolding answers_of
-answer_at-of passes c lt = grind (arith, answer_at-from)
-
 pub scalar_below : (c : ℕ) → IsScalar c → c < 1114112
 scalar_below c is = grind (arith, scalar_cases)
 
 module _ (p q : ℕ → Bool) (same : (c : ℕ) → IsScalar c → p c ≡ q c) where
-  same_end : (c : ℕ × ℕ) → end_if p c ≡ end_if q c
-  same_end c = grind arith
-
   pub same_ends : char_ends p ≡ char_ends q
-  same_ends = grind (arith, fun_ext, same_end)
+  same_ends = grind (arith, fun_ext)
 
 -- a list of all answers gives them
 pub answered : (passes : ℕ → Bool) (answers : List Bool) → answers ≡ answers_of passes → (c : ℕ) → IsScalar c → answer_at answers c ≡ passes c
-answered passes answers are c is = grind (arith, answer_at-of, scalar_below)
+unfolding answers_of
+answered passes answers are c is = grind (arith, answer_at-from, scalar_below)
 
 pub answered_ends : (passes : ℕ → Bool) (answers : List Bool) → answers ≡ answers_of passes → char_ends (λ c. answer_at answers c) ≡ char_ends passes
 answered_ends passes answers are = grind (arith, same_ends, answered)

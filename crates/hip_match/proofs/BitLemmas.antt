@@ -24,14 +24,8 @@ less_one : (r m : ℕ) → bit_at m r ≡ 1 → ((k : ℕ) → k < r → bit_at 
 less_one zero m one below = grind (arith, bit_at_lowest, odd)
 less_one (suc r) m one below =
     let is : m % 2 ≡ 0 = sym (bit_at_lowest m) ∙ below 0 (omega arith) in
-    let more = some m (suc r) one in
-    let half = less_one r (m / 2) (sym (bit_at-suc m r) ∙ one) (λ k low. sym (bit_at-suc m k) ∙ below (suc k) (omega arith)) in (
-      even m r is more ∙ half.0,
-      λ k above.
-          let j = k - 1 in
-          let next : k ≡ suc j = omega arith in
-          grind (arith, even, bit_at-suc),
-    )
+    let half = less_one r (m / 2) (sym (bit_at-suc m r) ∙ one) (λ k low. sym (bit_at-suc m k) ∙ below (suc k) (omega arith)) in
+    (grind (arith, even, some), λ k above. grind (arith, even m (k - 1) is, some m (suc r) one, bit_at-suc m (k - 1), half.1 (k - 1)))
 
 abbrev pub cut_low : ℕ → ℕ
 cut_low m = bit_and m ((m + 18446744073709551615) % 18446744073709551616)

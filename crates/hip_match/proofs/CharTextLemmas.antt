@@ -16,10 +16,7 @@ module _ (c : ℕ) (t : List ℕ) (good : IsScalar c) (utf8 : IsUtf8 t) where
   same_at : (k : ℕ) → text_ends (encode_utf8 c) t k ≡ char_ends (λ d. d == c) t k
   same_at k =
       option_cases (text_ends (encode_utf8 c) t k)
-      (λ none. none ∙ sym (option_cases (char_ends (λ d. d == c) t k) (λ empty. empty)
-      (λ b is.
-      let found = char_ends-is (λ d. d == c) t k b utf8 is in
-      grind (arith, eqb-true, take-append_seam, length-encode, none-some, text_ends-some))))
+      (λ none. option_cases (char_ends (λ d. d == c) t k) (λ empty. none ∙ sym empty) (λ b is. grind (arith, char_ends-is (λ d. d == c) t k b utf8 is, eqb-true, take-append_seam, length-encode, none-some, text_ends-some)))
       (λ b is.
       let parts = text_ends-is (encode_utf8 c) t k b is in
       let rest = drop (length (encode_utf8 c)) (drop k t) in

@@ -49,14 +49,11 @@ module _ (t : List ℕ) (i : ℕ) (utf8 : IsUtf8 t) (cut : IsCharBoundary t i) (
     byte : (bs : List ℕ) → encode_utf8 c ≡ bs → (k : ℕ) → slice_index t (i + k) ≡ slice_index (bs ++ rest) k
     byte bs e k = grind (arith, get_or-drop, starts)
 
-    first : (bs : List ℕ) → encode_utf8 c ≡ bs → slice_index t i ≡ slice_index (bs ++ rest) 0
-    first bs e = grind (arith, add-zero, byte)
-
     room : (bs : List ℕ) → encode_utf8 c ≡ bs → (len_utf8 c ≡ length bs) × (i + length bs ≤ length t)
     room bs e = grind (arith, length-encode)
 
     spelt : Two c ⊎ (Three c ⊎ Four c)
-    spelt = grind (arith, nat_tests, common_steps, first, encode_1, encode_2, room, byte, encode_3, encode_4, cases_lt)
+    spelt = grind (arith, nat_tests, common_steps, add-zero, encode_1, encode_2, room, byte, encode_3, encode_4, cases_lt)
 
   here : (c : ℕ) × StartsChar t i c
   here = starts_char t i utf8 cut lt
@@ -111,17 +108,10 @@ module _ (t : List ℕ) (to : ℕ) (utf8 : IsUtf8 t) (cut : IsCharBoundary t to)
   ends c k is = (some_pair_parts _ _ _ _ (sym is ∙ char_at-between t at to utf8 prev.1.boundary cut prev.1.before prev.1.none c k is)).1
 
   wide_at : 128 ≤ slice_index t at
-  wide_at =
-      ⊎_elim (λ (low : slice_index t at < 128).
-      let end : at + 1 ≡ to = ends _ _ (char_at-ascii t at utf8 prev.1.boundary within low) in
-      grind arith)
-      (λ (high : 128 ≤ slice_index t at). high)
-      (cases_lt (slice_index t at) 128)
+  wide_at = grind (arith, cases_lt, ends, char_at-ascii t at utf8 prev.1.boundary within)
 
   stop : (width : ℕ) → len_utf8 (here t at utf8 prev.1.boundary within wide_at).0 ≡ width → at + width ≡ to
-  stop width is =
-      let char = here t at utf8 prev.1.boundary within wide_at in
-      ap (λ k. at + k) (sym is) ∙ ends char.0 _ char.1.at
+  stop width is = grind (arith, ends, here t at utf8 prev.1.boundary within wide_at)
 
   abbrev char : (c : ℕ) × StartsChar t at c
   char = here t at utf8 prev.1.boundary within wide_at
@@ -139,10 +129,7 @@ module _ (t : List ℕ) (to : ℕ) (utf8 : IsUtf8 t) (cut : IsCharBoundary t to)
   room_2 = grind (arith, stop, spelt_before)
 
   pub before_two : 192 ≤ slice_index t (to - 2) → IsCharBefore t to (slice_index t (to - 2) * 64 + slice_index t (to - 1) - 12416, to - 2)
-  before_two lead =
-      ⊎_elim (λ h. grind (arith, stop 2 h.0, starts 2, read at (to - 2), read (at + 1) (to - 1)))
-      (λ r. ⊎_elim (λ h. grind (arith, stop 3 h.0, read (at + 1) (to - 2))) (λ h. grind (arith, stop 4 h.0, read (at + 2) (to - 2))) r)
-      spelt_before
+  before_two lead = grind (arith, spelt_before, stop, starts 2, read at (to - 2), read (at + 1) (to - 1), read (at + 1) (to - 2), read (at + 2) (to - 2))
 
   pub room_3 : slice_index t (to - 2) < 192 → 3 ≤ to
   room_3 low = grind (arith, spelt_before)
@@ -150,13 +137,7 @@ module _ (t : List ℕ) (to : ℕ) (utf8 : IsUtf8 t) (cut : IsCharBoundary t to)
   pub before_three : slice_index t (to - 2) < 192 → 192 ≤ slice_index t (to - 3)
       → (925824 ≤ (slice_index t (to - 3) * 64 + slice_index t (to - 2)) * 64 + slice_index t (to - 1))
       × IsCharBefore t to ((slice_index t (to - 3) * 64 + slice_index t (to - 2)) * 64 + slice_index t (to - 1) - 925824, to - 3)
-  before_three low lead =
-      ⊎_elim (λ h. grind (arith, stop 2 h.0, read at (to - 2)))
-      (λ r. ⊎_elim
-      (λ h.
-      grind (arith, stop 3 h.0, read at (to - 3), read (at + 1) (to - 2), read (at + 2) (to - 1), starts 3))
-      (λ h. grind (arith, stop 4 h.0, read (at + 1) (to - 3))) r)
-      spelt_before
+  before_three low lead = grind (arith, spelt_before, stop, starts 3, read at (to - 2), read at (to - 3), read (at + 1) (to - 2), read (at + 2) (to - 1), read (at + 1) (to - 3))
 
   pub before_four : slice_index t (to - 2) < 192 → slice_index t (to - 3) < 192
       → (4 ≤ to) × (63447168 ≤ ((slice_index t (to - 4) * 64 + slice_index t (to - 3)) * 64 + slice_index t (to - 2)) * 64 + slice_index t (to - 1))

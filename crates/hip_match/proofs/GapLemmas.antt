@@ -5,45 +5,37 @@ use Rattle.memchr.specs.Find.{IsFirst, IsLast, Passes}
 use Rattle.hip_match.specs.Characters.{char_ends}
 use Rattle.hip_match.specs.CharLaws.{char_ends-spans, char_ends-one_char}
 use Rattle.hip_match.specs.Leftmost.{leftmost_between, end_within}
-use Rattle.hip_match.specs.Marks.{marked_parts}
-use Rattle.hip_match.specs.FirstBytes.{ascii-some, ascii_first_bytes}
-use Rattle.hip_match.specs.MarkedSets.{AreFirstBytes}
+use Rattle.hip_match.specs.Marks.{by_byte, marked_parts}
+use Rattle.hip_match.specs.MarkedSets.{AreStarts}
 use Rattle.hip_match.specs.Occurrence.{IsCut, IsLastMatch, IsNextMatch}
 use Rattle.hip_match.specs.Pieces.{gaps}
 use Rattle.hip_match.specs.Ready.{IsWindow}
 use Rattle.hip_match.proofs.LeftmostLemmas.{leftmost_between-some, leftmost_from-none, end_within-none, end_within-past}
-use Rattle.hip_match.proofs.MarkedSetLemmas.{beyond-new, ends_last, none_before, none_left, starts_first}
+use Rattle.hip_match.proofs.MarkedSetLemmas.{last_start, next_start}
 use Rattle.hip_match.proofs.OneCharLemmas.{HasCharOccurrences, back_match}
+use Rattle.hip_match.proofs.OccurrenceLemmas.{option_cases}
 use Rattle.hip_match.proofs.PiecesLemmas.{gaps-append}
+use Rattle.hip_match.proofs.StartLemmas.{ascii_starts}
 
 module _ (p : ℕ → Bool) (low : (c : ℕ) → 128 ≤ c → p c ≡ false) (t : List ℕ) (from to : ℕ) (w : IsWindow t from to) where
   abbrev e : ℕ → Option ℕ
   e = char_ends p t
 
-  first : AreFirstBytes p p
-  first = ascii_first_bytes p p (record { same = λ c. refl; ascii = low })
+  starts : AreStarts p 1 (by_byte p)
+  starts = ascii_starts p (by_byte p) (λ t k. refl) low
 
   next-match : (r : Option ℕ) → IsFirst (Passes p t) from (length t) r → IsNextMatch e from (option_map (λ i. (i, i + 1)) r)
-  next-match None found = none_left p p first t w.utf8 from from (λ k lo hi. absurd (omega arith)) found
-  next-match (Some i) found = starts_first p p first t w.utf8 from from i (i + 1) (omega arith) (λ k lo hi. absurd (omega arith)) found (ascii-some p low t w.utf8 i found.0.high found.1)
+  next-match = next_start p 1 (by_byte p) starts t w.utf8 from
 
   last-match : (r : Option ℕ) → IsLast (Passes p t) 0 to r → IsLastMatch e to (option_map (λ i. (i, i + 1)) r)
-  last-match None found = none_before p p first t w.utf8 to to (beyond-new p p first t w.utf8 to) found
-  last-match (Some i) found =
-      let high = found.0.high in
-      let within = w.end.0 in
-      ends_last p p first t w.utf8 to to (beyond-new p p first t w.utf8 to) i (i + 1) w.end (omega arith) found (ascii-some p low t w.utf8 i (omega arith) found.1)
+  last-match r = last_start p 1 (by_byte p) starts t w.utf8 to r w.end
 
   chars : HasCharOccurrences t e
   chars = record { spans = λ a b. char_ends-spans p t a b w.utf8; one = λ a b. char_ends-one_char p t a b w.utf8 }
 
   -- one part, where each occurrence from its start on ends behind its end
   only : ((a b : ℕ) → e a ≡ Some b → from ≤ a → to < b) → marked_parts p t from to ≡ (from, to) ∷ []
-  only quiet = ap (λ l. gaps from l to) (leftmost_from-none (λ k. end_within to (e k)) from (to + 1 - from) (λ k lo hi. ends k lo (e k) refl))
-    where
-      ends : (k : ℕ) → from ≤ k → (o : Option ℕ) → e k ≡ o → end_within to (e k) ≡ None
-      ends k lo None is = end_within-none to (e k) is
-      ends k lo (Some m) is = end_within-past to m (e k) is (quiet k m is lo)
+  only quiet = ap (λ l. gaps from l to) (leftmost_from-none (λ k. end_within to (e k)) from (to + 1 - from) (λ k lo hi. grind (arith, option_cases, end_within-none, end_within-past)))
 
   module _ (at : ℕ) (found : IsFirst (Passes p t) from (length t) (Some at)) where
     pub first_cut : IsCut t (at, at + 1)

@@ -3,7 +3,7 @@ use Rattle.std.proofs.Common.{◌≡◌, ℕ, suc, ◌+◌, ◌/◌, ◌%◌, �
 use Rattle.std.proofs.lemmas.Nat.{and_le_r}
 use Rattle.std.proofs.lemmas.Simd.{Each1-all, Each1-zip2, Each2-splat, SwzOk, SwzOk-from_below, bit_mask_l, get_or-chunk, get_or-swz_l_below, length-chunk, length-swz_l, length-zip2, map-map, mask_l-lt, mask_l-mod, swz_l}
 use Rattle.std.proofs.lemmas.List.{ext_get_or, length-map, get_or-map}
-use Rattle.hip_match.specs.Marks.{AreMarks}
+use Rattle.hip_match.specs.Marks.{AreMarks, by_byte}
 use Rattle.hip_match.proofs.MarkLemmas.{lanes-are}
 use lib.Lanes.{Each1, chunk, mask_l, top, zip2}
 
@@ -14,14 +14,14 @@ few_lanes v z f long is = grind (arith, length-map, mask_l-lt, mask_l-mod)
 -- lane by lane, z is f of the sixteen bytes from i on, and its lanes are set just where the bytes pass the test
 pub marked : (test : ℕ → Bool) (xs : List ℕ) (i : ℕ) (z : List ℕ) (f : ℕ → ℕ) → i + 16 ≤ length xs
     → ((k : ℕ) → Fits w8 (get_or xs k 0)) → z ≡ map f (chunk i 16 xs) → ((x : ℕ) → x < 256 → top 7 (f x) ≡ test x)
-    → AreMarks test xs i (i + 16) (i + 64) (mask_l (map (top 7) z) % 2 ^ 64)
+    → AreMarks (by_byte test) xs i (i + 16) (i + 64) (mask_l (map (top 7) z) % 2 ^ 64)
 marked test xs i z f room fits lanes all =
     let set : ℕ → Bool = λ x. top 7 (f x) in
     let v = chunk i 16 xs in
     let long : length v ≡ 16 = length-chunk i 16 xs room in
     let mask_is : mask_l (map (top 7) z) % 2 ^ 64 ≡ mask_l (map set v) =
     grind (arith, mask_l, top 7, map-map (top 7) f v, mask_l-mod (map set v) 64, length-map v set) in
-    lanes-are test xs i _ (few_lanes v z f long lanes) (λ k inside.
+    lanes-are (by_byte test) xs i _ (few_lanes v z f long lanes) (λ k inside.
     grind (arith, get_or-map set v k 0 false, get_or-chunk i 16 xs k 0 inside, bit_mask_l (map set v) k))
 
 -- a lane of a comparison
@@ -37,6 +37,9 @@ each_from P (x ∷ xs) all = (all 0 (omega arith), each_from P xs (λ i low. all
 abbrev pub low_half : ℕ → ℕ
 low_half x = bit_and x 15
 
+abbrev pub down : ℕ → ℕ → ℕ
+down a b = a / 2 ^ b
+
 abbrev pub high_half : ℕ → ℕ
 high_half x = x / 16
 
@@ -46,9 +49,6 @@ module _ (v : List ℕ) (long : length v ≡ 16) (fits : (i : ℕ) → i < 16 �
       let small = Each1-all (λ a. bit_and a 15 < 16) (λ a. omega (arith, and_le_r a 15)) v in
       SwzOk-from_below w8 16 1 16 0 (zip2 bit_and v (replicate 16 15)) refl (omega (arith, length-zip2 bit_and v (replicate 16 15) long))
       (Each1-zip2 bit_and (λ j. j < 16) v (replicate 16 15) (Each2-splat (λ a b. bit_and a b < 16) v 16 15 small))
-
-  abbrev down : ℕ → ℕ → ℕ
-  down a b = a / 2 ^ b
 
   pub high_ok : SwzOk w8 16 16 0 (zip2 down v (replicate 16 4))
   high_ok =

@@ -1,5 +1,5 @@
 -- The scan gives the leftmost list, no other list is leftmost, and joining undoes splitting.
-use Rattle.std.proofs.Common.{◌≡◌, ℕ, zero, suc, ◌+◌, ◌-◌, ◌<◌, ◌≤◌, List, [], ◌∷◌, ◌++◌, Option, Some, refl, arith, ⊎_elim, length, drop, take, sym, ap, ◌∙◌, drop-drop, take_all, le_refl, ◌⊎◌, max, slice_range, eq-eqb, ne_eqb, take-add, append-nil, IsUtf8}
+use Rattle.std.proofs.Common.{◌≡◌, ℕ, zero, suc, ◌+◌, ◌-◌, ◌<◌, ◌≤◌, List, [], ◌∷◌, ◌++◌, Option, Some, refl, arith, ⊎_elim, length, drop, drop-drop, take_all, le_refl, ◌⊎◌, max, slice_range, eq-eqb, ne_eqb, take-add, append-nil, IsUtf8}
 use Rattle.std.specs.Prelude.{⊤}
 use Rattle.std.proofs.lemmas.Bool.{cases_lt, cond-true, cond-false, cases_eq}
 use Rattle.std.proofs.lemmas.Option.{none-some, same_Some}
@@ -17,8 +17,7 @@ module _ (f : ℕ → Option ℕ) where
   unfolding leftmost_from
   scan_occur s i zero = tt
   scan_occur (suc s) i (suc n) = scan_occur s (i + 1) n
-  scan_occur zero i (suc n) =
-      option_cases (f i) (λ none. grind (arith, scan_occur 0 (i + 1) n)) (λ b some. grind (arith, scan_occur (b - i - 1) (i + 1) n))
+  scan_occur zero i (suc n) = option_cases (f i) (λ none. grind (arith, scan_occur 0 (i + 1) n)) (λ b some. grind (arith, scan_occur (b - i - 1) (i + 1) n))
 
   scan_order : (s i n j : ℕ) → j ≤ i + s → BeginInOrder j (leftmost_from f s i n)
   unfolding leftmost_from
@@ -72,19 +71,12 @@ module _ (e : ℕ → Option ℕ) where
       let order : BeginInOrder s.0 (s ∷ m) = (omega arith, g.in_order.1) in
       ⊎_elim (λ listed. not_listed (s ∷ m) s.0 r.0 r.1 order lt listed) (λ within. not_within (s ∷ m) s.0 r.0 order lt within) (g.no_other r.0 r.1 h.occur.0 h.in_order.0)
 
-  some_none : (from : ℕ) (r : ℕ × ℕ) (l : List (ℕ × ℕ)) → IsLeftmost e from (r ∷ l) → IsLeftmost e from [] → ⊥
-  some_none from r l h g = grind arith
-
   pub leftmost-unique : (l m : List (ℕ × ℕ)) (from : ℕ) → IsLeftmost e from l → IsLeftmost e from m → l ≡ m
   leftmost-unique [] [] from h g = refl
-  leftmost-unique [] (s ∷ m) from h g = absurd (some_none from s m g h)
-  leftmost-unique (r ∷ l) [] from h g = absurd (some_none from r l h g)
+  leftmost-unique [] (s ∷ m) from h g = grind arith
+  leftmost-unique (r ∷ l) [] from h g = grind arith
   leftmost-unique (r ∷ l) (s ∷ m) from h g =
-      let start : r.0 ≡ s.0 =
-      ⊎_elim (λ (lt : r.0 < s.0). absurd (not_before from r l s m h g lt))
-      (λ (ge : s.0 ≤ r.0). ⊎_elim (λ (lt : s.0 < r.0). absurd (not_before from s m r l g h lt)) (λ (le : r.0 ≤ s.0). omega arith) (cases_lt s.0 r.0))
-      (cases_lt r.0 s.0) in
-      grind (arith, same_Some, tail, leftmost-unique l m (place_after r) (tail from r l h), tail from r l h, tail from s m g)
+      grind (arith, not_before from r l s m h g, not_before from s m r l g h, cases_lt r.0 s.0, cases_lt s.0 r.0, same_Some, tail, leftmost-unique l m (place_after r) (tail from r l h), tail from r l h, tail from s m g)
 
 -- ---- joining undoes splitting
 
@@ -94,9 +86,7 @@ AllAre t sep (m ∷ ms) = (slice_range t m.0 m.1 ≡ sep) × AllAre t sep ms
 
 slice_range-append : (t : List ℕ) (i j k : ℕ) → i ≤ j → j ≤ k → slice_range t i j ++ slice_range t j k ≡ slice_range t i k
 slice_range-append t i j k low high =
-    let size : (j - i) + (k - j) ≡ k - i = omega arith in
-    let there : i + (j - i) ≡ j = omega arith in
-    ap (λ n. slice_range t i j ++ take (k - j) (drop n t)) (sym there) ∙ ap (λ l. slice_range t i j ++ take (k - j) l) (sym (drop-drop (j - i) i t)) ∙ sym (take-add (j - i) (k - j) (drop i t)) ∙ ap (λ n. take n (drop i t)) size
+    grind (arith, drop-drop (j - i) i t, take-add (j - i) (k - j) (drop i t))
 
 joined-gaps : (t sep : List ℕ) (ms : List (ℕ × ℕ)) (i n : ℕ) → InOrder i ms n → AllAre t sep ms → rejoined sep (parts_at t (gaps i ms n)) ≡ slice_range t i n
 joined-gaps t sep [] i n order same = refl
@@ -107,9 +97,6 @@ together-ended : (t : List ℕ) (ms : List (ℕ × ℕ)) (i n : ℕ) → InOrder
 together-ended t [] i n order = grind (arith, cond-true, eq-eqb, cond-false, ne_eqb, append-nil, cases_eq)
 together-ended t (m ∷ ms) i n order = grind (arith, InOrder-le, slice_range-append, together-ended t ms m.1 n order.2)
 
-whole : (t : List ℕ) → slice_range t 0 (length t) ≡ t
-whole t = grind (arith, take_all, le_refl)
-
 AllAre-text : (p t : List ℕ) (l : List (ℕ × ℕ)) → AllOccur (text_ends p t) l → AllAre t p l
 AllAre-text p t [] h = tt
 AllAre-text p t (m ∷ l) h = grind (arith, text_ends-is p t m.0 m.1 h.0, AllAre-text p t l h.1)
@@ -119,10 +106,10 @@ module _ (p t : List ℕ) (utf8 : IsUtf8 t) where
   ordered = leftmost_between-InOrder (text_ends p t) 0 (length t) (λ k m is. (text_ends-spans p t k m utf8 is).ordered) (omega arith)
 
   pub split-joined : rejoined p (parts_at t (split (text_ends p t) (length t))) ≡ t
-  split-joined = grind (arith, joined-gaps, ordered, AllAre-text, leftmost-occur, whole)
+  split-joined = grind (arith, joined-gaps, ordered, AllAre-text, leftmost-occur, take_all, le_refl)
 
   pub split_inclusive-together : together (parts_at t (split_inclusive (text_ends p t) (length t))) ≡ t
-  split_inclusive-together = grind (arith, together-ended, ordered, whole)
+  split_inclusive-together = grind (arith, together-ended, ordered, take_all, le_refl)
 
 pub ended-together : (e : ℕ → Option ℕ) (t : List ℕ) → ((k m : ℕ) → e k ≡ Some m → k ≤ m) → together (parts_at t (split_inclusive e (length t))) ≡ t
-ended-together e t sorted = grind (arith, together-ended, leftmost_between-InOrder, whole)
+ended-together e t sorted = grind (arith, together-ended, leftmost_between-InOrder, take_all, le_refl)

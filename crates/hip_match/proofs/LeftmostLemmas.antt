@@ -38,9 +38,7 @@ module _ (e : ℕ → Option ℕ) where
   leftmost_from-to i j n le h = grind (arith, leftmost_from-pass)
 
   pub leftmost_from-none : (i n : ℕ) → ((k : ℕ) → i ≤ k → k < i + n → e k ≡ None) → leftmost_from e 0 i n ≡ []
-  leftmost_from-none i n h =
-      let count : n ≡ n + 0 = omega arith in
-      grind (arith, leftmost_from-pass, leftmost_from-zero)
+  leftmost_from-none i n h = grind (arith, leftmost_from-pass n i 0, leftmost_from-zero)
 
 pub end_within-some : (to b : ℕ) (o : Option ℕ) → o ≡ Some b → b ≤ to → end_within to o ≡ Some b
 end_within-some to b o h le = ap (end_within to) h ∙ cond-true _ _ _ (le-leb _ _ le)
@@ -71,9 +69,8 @@ module _ (e : ℕ → Option ℕ) (from to : ℕ) where
       grind (arith, leftmost_from-to clipped from a (suc (to - a)) after, end_within-none, leftmost_from-hit clipped a (to - a) b (end_within-some to b (e a) h.occurs within), end_within-some to b (e a) h.occurs within, leftmost_from-skip, leftmost_from-to)
 
   -- the next match lies past the window
-  pub leftmost_between-past : (a b : ℕ) → StartsFirst e from (a, b) → to < b → NoneCrosses e to
-      → ((k m : ℕ) → e k ≡ Some m → k ≤ m) → leftmost_between e from to ≡ []
-  leftmost_between-past a b h past whole ordered =
+  pub leftmost_between-past : (a b : ℕ) → StartsFirst e from (a, b) → to < b → NoneCrosses e to → leftmost_between e from to ≡ []
+  leftmost_between-past a b h past whole =
       leftmost_from-none clipped from (to + 1 - from) (λ k lo hi. grind (arith, option_cases, end_within-none, end_within-past, none-some, cases_lt, same_Some))
 
   -- the last match, empty and at the window's end

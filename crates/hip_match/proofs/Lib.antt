@@ -18,6 +18,8 @@ pub mod RunLemmas
 pub mod BitLemmas
 pub mod LaneLemmas
 pub mod MarkLemmas
+pub mod NeedleLemmas
+pub mod StartLemmas
 pub mod MarkedSetLemmas
 pub mod SpaceLemmas
 pub mod GapLemmas

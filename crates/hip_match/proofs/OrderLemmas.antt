@@ -2,7 +2,7 @@
 use Rattle.std.proofs.Common.{◌≡◌, ℕ, zero, suc, ◌≤◌, List, [], ◌∷◌, map, arith, ltb-true, if◌then◌else◌, Bool}
 use Rattle.std.proofs.lemmas.Bool.{cond-true, cond-false, and_parts}
 use Rattle.hip_match.specs.Pieces.{InOrder, InOrderBack, gaps, gaps_back, ended, at_most_to, at_most_from, without_empty_last, without_empty_first}
-use Rattle.hip_match.specs.Runs.{nonempty, without_return, line_of}
+use Rattle.hip_match.specs.Runs.{nonempty, line_of}
 use Rattle.hip_match.proofs.PiecesLemmas.{InOrder-le, InOrderBack-le}
 
 InOrder-from : (l : List (ℕ × ℕ)) (i j n : ℕ) → i ≤ j → InOrder j l n → InOrder i l n
@@ -44,11 +44,8 @@ nonempty-InOrder (r ∷ l) i n h = grind (arith, either, InOrder-from, nonempty-
 abbrev Within : ℕ × ℕ → ℕ × ℕ → Type 0
 Within r s = (s.0 ≡ r.0) × (s.0 ≤ s.1) × (s.1 ≤ r.1)
 
-without_return-Within : (t : List ℕ) (r : ℕ × ℕ) → r.0 ≤ r.1 → Within r (without_return t r)
-without_return-Within t r le = grind (arith, cond-true, ltb-true, and_parts, cond-false)
-
 line_of-Within : (t : List ℕ) (r : ℕ × ℕ) → r.0 ≤ r.1 → Within r (line_of t r)
-line_of-Within t r le = grind (arith, and_parts, cond-false, cond-true, ltb-true, without_return-Within)
+line_of-Within t r le = grind (arith, and_parts, cond-false, cond-true, ltb-true)
 
 pub lines-InOrder : (t : List ℕ) (l : List (ℕ × ℕ)) (i n : ℕ) → InOrder i l n → InOrder i (map (line_of t) l) n
 lines-InOrder t [] i n h = h

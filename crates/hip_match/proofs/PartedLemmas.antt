@@ -1,5 +1,5 @@
 -- The first occurrence of a text in another parts it.
-use Rattle.std.proofs.Common.{◌≡◌, ℕ, zero, suc, ◌+◌, ◌<◌, ◌≤◌, List, [], ◌∷◌, Option, None, Some, length, drop, refl, arith, take-append-drop, drop-drop, length-take-le, slice_range}
+use Rattle.std.proofs.Common.{◌≡◌, ℕ, zero, suc, ◌+◌, ◌<◌, ◌≤◌, List, [], ◌∷◌, Option, None, Some, length, drop, arith, take-append-drop, drop-drop, length-take-le, slice_range}
 use Rattle.std.proofs.lemmas.Bool.{cases_lt}
 use Rattle.std.proofs.lemmas.Option.{none-some}
 use Rattle.hip_match.specs.Leftmost.{leftmost, leftmost_from, end_within}
@@ -9,11 +9,8 @@ use Rattle.hip_match.specs.Texts.{text_ends}
 use Rattle.hip_match.specs.TextLaws.{text_ends-is}
 use Rattle.hip_match.proofs.LawLemmas.{leftmost-occur}
 use Rattle.hip_match.proofs.LeftmostLemmas.{end_within-some}
+use Rattle.hip_match.proofs.OccurrenceLemmas.{option_cases}
 use Rattle.hip_match.proofs.TextLemmas.{rest_slice}
-
-by_option : {R A : Type 0} (o : Option A) → (o ≡ None → R) → ((a : A) → o ≡ Some a → R) → R
-by_option None none some = none refl
-by_option (Some a) none some = some a refl
 
 -- nothing starts before the first of the leftmost list, and nothing at all where that is empty
 FirstIs : (ℕ → Option ℕ) → ℕ → ℕ → List (ℕ × ℕ) → Type 0
@@ -28,11 +25,11 @@ module _ (f : ℕ → Option ℕ) where
   first_is : (i n : ℕ) → FirstIs f i n (leftmost_from f 0 i n)
   unfolding leftmost_from FirstIs
   first_is i zero = λ k low high. absurd (omega arith)
-  first_is i (suc n) = grind (arith, FirstIs, by_option, none_more, first_is (i + 1) n)
+  first_is i (suc n) = grind (arith, FirstIs, option_cases, none_more, first_is (i + 1) n)
 
 -- where the clipped search gives nothing, the pattern doesn't occur: no occurrence ends past the text
 unclipped : (p t : List ℕ) (k : ℕ) → end_within (length t) (text_ends p t k) ≡ None → text_ends p t k ≡ None
-unclipped p t k none = grind (arith, by_option, end_within-some, none-some, text_ends-is)
+unclipped p t k none = grind (arith, option_cases, end_within-some, none-some, text_ends-is)
 
 module _ (p t : List ℕ) where
   abbrev clipped : ℕ → Option ℕ
@@ -40,12 +37,11 @@ module _ (p t : List ℕ) where
 
   pub Lacks-none : leftmost (text_ends p t) (length t) ≡ [] → Lacks p t
   unfolding FirstIs
-  Lacks-none none = grind (arith, FirstIs, first_is, unclipped, by_option, text_ends-is, cases_lt)
+  Lacks-none none = grind (arith, FirstIs, first_is, unclipped, option_cases, text_ends-is, cases_lt)
 
   pub IsParted-first : (m : ℕ × ℕ) (ms : List (ℕ × ℕ)) (front back : List ℕ) → leftmost (text_ends p t) (length t) ≡ m ∷ ms
       → front ≡ slice_range t 0 m.0 → back ≡ slice_range t m.1 (length t) → IsParted p t front back
   unfolding FirstIs
   IsParted-first m ms front back found is_front is_back =
-      let none : NoneStarts clipped 0 m.0 = grind (arith, FirstIs, first_is) in
       let occurs : text_ends p t m.0 ≡ Some m.1 = grind (arith, leftmost-occur) in
-      grind (arith, text_ends-is p t m.0 m.1 occurs, rest_slice t m.1, length-take-le, take-append-drop (length p) (drop m.0 t), drop-drop (length p) m.0 t, take-append-drop m.0 t, unclipped)
+      grind (arith, FirstIs, first_is, text_ends-is p t m.0 m.1 occurs, rest_slice t m.1, length-take-le, take-append-drop (length p) (drop m.0 t), drop-drop (length p) m.0 t, take-append-drop m.0 t, unclipped)

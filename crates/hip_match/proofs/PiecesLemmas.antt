@@ -123,15 +123,12 @@ pub ended-append_end : (l : List (ℕ × ℕ)) (i n : ℕ) (m : ℕ × ℕ) → 
 ended-append_end [] i n m h full same = grind (arith, cond-true, eq-eqb, cond-false, ne_eqb)
 ended-append_end (x ∷ l) i n m h full same = ap (λ r. (i, x.1) ∷ r) (ended-append_end l x.1 n m h.2 full same)
 
-ended-none : (old new : List (ℕ × ℕ)) (i n : ℕ) → new ≡ [] → InOrder i old n → InOrder i new n
-ended-none old new i n none h = grind (arith, InOrder-le)
-
 pub TakesLastCut-before : (old new : List (ℕ × ℕ)) (n : ℕ) (m : ℕ × ℕ) → old ≡ new ++ m ∷ [] → m.0 < m.1 → m.1 < n → TakesLastCut n old (Some m) new
 TakesLastCut-before old new n m is full lt i h = grind (arith, InOrder-append, InOrder-widen, ended-append)
 
 pub TakesLastCut-at : (old mid new : List (ℕ × ℕ)) (n : ℕ) (m : ℕ × ℕ) (r : Option (ℕ × ℕ)) → old ≡ mid ++ m ∷ [] → m.0 < m.1 → n ≤ m.1
     → MatchOption r ((mid ≡ []) × (new ≡ [])) (λ y. mid ≡ new ++ y ∷ []) → IfSome r (λ y. y.0 < y.1) → TakesLastCut n old r new
-TakesLastCut-at old mid new n m r is full ge later some i h = grind (arith, InOrder-append, ended-append_end, ended-none, InOrder-widen, ended-append)
+TakesLastCut-at old mid new n m r is full ge later some i h = grind (arith, InOrder-append, ended-append_end, InOrder-le, InOrder-widen, ended-append)
 
 pub ended-nil : (i n : ℕ) → i ≤ n → n ≤ i → ended i [] n ≡ []
 ended-nil i n low high = cond-true _ _ _ (eq-eqb i n (omega arith))

@@ -1,14 +1,14 @@
 -- For a pattern whose occurrences are never empty, and never start in one another, the rightmost list is the leftmost one reversed.
 use Rattle.std.proofs.lemmas.Bool.Decides.{nat_tests}
 use Rattle.std.proofs.lemmas.Grind.{common_steps}
-use Rattle.std.proofs.Common.{◌≡◌, ℕ, zero, suc, ◌+◌, ◌-◌, ◌<◌, ◌≤◌, [], ◌∷◌, ◌++◌, Option, Some, None, sym, ap, ◌∙◌, arith, ⊎_elim, reverse}
+use Rattle.std.proofs.Common.{◌≡◌, ℕ, zero, suc, ◌+◌, ◌-◌, ◌<◌, ◌≤◌, [], ◌∷◌, ◌++◌, Option, Some, None, ap, ◌∙◌, arith, ⊎_elim, reverse}
 use Rattle.std.proofs.lemmas.Bool.{cases_lt}
-use Rattle.std.proofs.lemmas.List.{reverse-append, reverse-reverse, append-nil}
-use Rattle.std.proofs.lemmas.Option.{none-some, same_Some}
+use Rattle.std.proofs.lemmas.List.{reverse-append, append-nil}
+use Rattle.std.proofs.lemmas.Option.{none-some}
 use Rattle.hip_match.proofs.OccurrenceLemmas.{option_cases}
-use Rattle.hip_match.proofs.LeftmostLemmas.{leftmost_from-zero, leftmost_from-skip, leftmost_from-hit, leftmost_from-none, end_within-some, end_within-none, end_within-is, leftmost_between-some, leftmost_between-none, leftmost_between-past}
-use Rattle.hip_match.proofs.RightmostLemmas.{rightmost_from-skip, rightmost_from-hit, rightmost_from-miss, rightmost_from-none, start_among-is, start_among-found, start_among-none, rightmost_between-some, rightmost_between-none, rightmost_between-past}
-use Rattle.hip_match.specs.Occurrence.{start_among, NoneCrosses, EndsLast, StartsFirst}
+use Rattle.hip_match.proofs.LeftmostLemmas.{leftmost_from-zero, leftmost_from-skip, leftmost_from-hit, leftmost_from-none, end_within-some, end_within-none, end_within-is}
+use Rattle.hip_match.proofs.RightmostLemmas.{rightmost_from-skip, rightmost_from-hit, rightmost_from-miss, rightmost_from-none, start_among-is, start_among-found, start_among-none}
+use Rattle.hip_match.specs.Occurrence.{start_among, NoneCrosses}
 use Rattle.hip_match.specs.Leftmost.{leftmost_from, leftmost_between, end_within}
 use Rattle.hip_match.specs.Rightmost.{rightmost_from, rightmost_between}
 
@@ -62,10 +62,8 @@ module _ (e : ℕ → Option ℕ) (from to : ℕ)
   parted mid end low le clean =
       let count : end - from ≡ (mid - from) + (end - mid) = omega arith in
       let place : from + (mid - from) ≡ mid = omega arith in
-      let within : (i b : ℕ) → clipped i ≡ Some b → from ≤ i → i < from + (mid - from) → b ≤ from + (mid - from) =
-      λ i b is lo hi. grind (arith, end_within-is) in
-      ap (leftmost_from clipped 0 from) count ∙ leftmost_from-split clipped 0 from (mid - from) (end - mid) (omega arith) within
-      ∙ ap (λ i. leftmost_from clipped 0 from (mid - from) ++ leftmost_from clipped 0 i (end - mid)) place
+      let within : (i b : ℕ) → clipped i ≡ Some b → from ≤ i → i < from + (mid - from) → b ≤ from + (mid - from) = λ i b is lo hi. grind (arith, end_within-is) in
+      grind (arith, count, place, leftmost_from-split clipped 0 from (mid - from) (end - mid) (omega arith) within)
 
   none_yet : (k : ℕ) → k ≤ from → leftmost_from clipped 0 from (k - from) ≡ reverse (rightmost_from starts 0 (k + 1))
   none_yet k ge = grind (arith, leftmost_from-zero, rightmost_from-none, start_among-none)
@@ -111,50 +109,3 @@ module _ (e : ℕ → Option ℕ) (from to : ℕ)
       let left = parted to (to + 1) le (omega arith) clean in
       let all = reversed to to (omega arith) le (omega arith) clean in
       grind (arith, append-nil)
-
-module _ (e : ℕ → Option ℕ)
-    (nonempty : (a b : ℕ) → e a ≡ Some b → a < b)
-    (apart : (a b c d : ℕ) → e a ≡ Some b → e c ≡ Some d → a < c → b ≤ c) where
-  clear_at : (a b : ℕ) → e a ≡ Some b → NoneCrosses e a
-  clear_at a b is c d other lt = apart c d a b other is lt
-
-  clear_past : (a b : ℕ) → e a ≡ Some b → NoneCrosses e b
-  clear_past a b is c d other lt = grind (arith, same_Some)
-
-  module _ (from to : ℕ) (start : NoneCrosses e from) (end : NoneCrosses e to) (le : from ≤ to) where
-    same : leftmost_between e from to ≡ reverse (rightmost_between e from to)
-    same = leftmost_between-reverse e from to nonempty apart start le end
-
-    sorted : (k m : ℕ) → e k ≡ Some m → k ≤ m
-    sorted k m is = let up : k < m = nonempty k m is in omega arith
-
-    -- the last of the leftmost matches, and those before it
-    pub leftmost_between-last_match : (a b : ℕ) → EndsLast e to (a, b) → from ≤ a → leftmost_between e from to ≡ leftmost_between e from a ++ (a, b) ∷ []
-    leftmost_between-last_match a b h low =
-        let up : a < b = nonempty a b h.occurs in
-        same
-        ∙ ap reverse (rightmost_between-some e from to sorted (one e from to nonempty apart start) a b h low a up (omega arith) (λ k m is lo mid hi. absurd (omega arith)))
-        ∙ reverse-append ((a, b) ∷ []) (rightmost_between e from a)
-        ∙ ap (λ l. l ++ (a, b) ∷ []) (grind (arith, leftmost_between-reverse, clear_at))
-
-    pub leftmost_between-no_last : ((a b : ℕ) → e a ≡ Some b → to < b) → leftmost_between e from to ≡ []
-    leftmost_between-no_last h = grind (arith, same, rightmost_between-none, sorted, one)
-
-    pub leftmost_between-last_past : (a b : ℕ) → EndsLast e to (a, b) → a < from → leftmost_between e from to ≡ []
-    leftmost_between-last_past a b h lt = same ∙ ap reverse (rightmost_between-past e from to sorted (one e from to nonempty apart start) a b h lt start)
-
-    -- the last of the rightmost matches, and those before it
-    pub rightmost_between-next_match : (a b : ℕ) → StartsFirst e from (a, b) → b ≤ to → rightmost_between e from to ≡ rightmost_between e b to ++ (a, b) ∷ []
-    rightmost_between-next_match a b h within =
-        let up : a < b = nonempty a b h.occurs in
-        sym (reverse-reverse (rightmost_between e from to))
-        ∙ ap reverse (sym same ∙ leftmost_between-some e from to a b b h within up (omega arith) (omega arith) (omega arith) (λ k lo mid hi. absurd (omega arith)))
-        ∙ reverse-append ((a, b) ∷ []) (leftmost_between e b to)
-        ∙ ap (λ l. l ++ (a, b) ∷ []) (grind (arith, leftmost_between-reverse, clear_past, reverse-reverse))
-
-    pub rightmost_between-no_next : ((k : ℕ) → from ≤ k → e k ≡ None) → rightmost_between e from to ≡ []
-    rightmost_between-no_next h = sym (reverse-reverse (rightmost_between e from to)) ∙ ap reverse (sym same ∙ leftmost_between-none e from to h)
-
-    pub rightmost_between-next_past : (a b : ℕ) → StartsFirst e from (a, b) → to < b → rightmost_between e from to ≡ []
-    rightmost_between-next_past a b h lt =
-        sym (reverse-reverse (rightmost_between e from to)) ∙ ap reverse (sym same ∙ leftmost_between-past e from to a b h lt end sorted)

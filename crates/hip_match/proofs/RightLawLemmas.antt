@@ -1,5 +1,5 @@
 -- The scan gives the rightmost list, and no other list is rightmost.
-use Rattle.std.proofs.Common.{◌≡◌, ℕ, zero, suc, ◌+◌, ◌-◌, ◌<◌, ◌≤◌, List, [], ◌∷◌, Option, Some, refl, arith, ⊎_elim, ◌⊎◌, min}
+use Rattle.std.proofs.Common.{◌≡◌, ℕ, zero, suc, ◌+◌, ◌-◌, ◌<◌, ◌≤◌, List, [], ◌∷◌, Option, Some, refl, arith, ◌⊎◌, min}
 use Rattle.std.proofs.lemmas.Bool.{cases_lt}
 use Rattle.std.proofs.lemmas.Option.{none-some, same_Some}
 use Rattle.hip_match.proofs.OccurrenceLemmas.{option_cases}
@@ -19,8 +19,7 @@ module _ (e s : ℕ → Option ℕ) (is_start : (j a : ℕ) → s j ≡ Some a �
   unfolding rightmost_from
   scan_order k zero j le = tt
   scan_order (suc k) (suc n) j le = scan_order k n j (omega arith)
-  scan_order zero (suc n) j le =
-      option_cases (s n) (λ none. grind (arith, scan_order 0 n j)) (λ a some. grind (arith, scan_order (n - a - 1) n (min n (a + 1))))
+  scan_order zero (suc n) j le = option_cases (s n) (λ none. grind (arith, scan_order 0 n j)) (λ a some. grind (arith, scan_order (n - a - 1) n (min n (a + 1))))
 
   scan_all : (k n a b : ℕ) → e a ≡ Some b → b + k < n → IsListed a b (rightmost_from s k n) ⊎ EndsWithin b (rightmost_from s k n)
   unfolding rightmost_from
@@ -35,8 +34,7 @@ pub rightmost-is : (e : ℕ → Option ℕ) (n : ℕ) → ((a b : ℕ) → e a �
 rightmost-is e n spans one =
     let s : ℕ → Option ℕ = λ j. start_among e 0 (j + 1 - 0) j in
     let is_start : (j a : ℕ) → s j ≡ Some a → e a ≡ Some j = λ j a is. (start_among-is e 0 (j + 1 - 0) j a is).2 in
-    let found : (a j : ℕ) → e a ≡ Some j → s j ≡ Some a =
-    λ a j is. grind (arith, start_among-found e 0 (j + 1 - 0) j a) in
+    let found : (a j : ℕ) → e a ≡ Some j → s j ≡ Some a = λ a j is. grind (arith, start_among-found e 0 (j + 1 - 0) j a) in
     record {
       occur = scan_occur e s is_start found 0 (n + 1);
       in_order = scan_order e s is_start found 0 (n + 1) (n + 1) (omega arith);
@@ -60,16 +58,9 @@ module _ (e : ℕ → Option ℕ) (one : (a b c : ℕ) → e a ≡ Some c → e 
       let order : EndInOrder r.1 (s ∷ m) = (lt, g.in_order.1) in
       grind (arith, not_listed (s ∷ m) r.1 r.0 r.1 order, not_within (s ∷ m) r.1 r.1 order)
 
-  some_none : (below : ℕ) (r : ℕ × ℕ) (l : List (ℕ × ℕ)) → IsRightmost e below (r ∷ l) → IsRightmost e below [] → ⊥
-  some_none below r l h g = grind arith
-
   pub rightmost-unique : (l m : List (ℕ × ℕ)) (below : ℕ) → IsRightmost e below l → IsRightmost e below m → l ≡ m
   rightmost-unique [] [] below h g = refl
-  rightmost-unique [] (s ∷ m) below h g = absurd (some_none below s m g h)
-  rightmost-unique (r ∷ l) [] below h g = absurd (some_none below r l h g)
+  rightmost-unique [] (s ∷ m) below h g = grind arith
+  rightmost-unique (r ∷ l) [] below h g = grind arith
   rightmost-unique (r ∷ l) (s ∷ m) below h g =
-      let end : r.1 ≡ s.1 =
-      ⊎_elim (λ (lt : r.1 < s.1). absurd (not_after below s m r l g h lt))
-      (λ (ge : s.1 ≤ r.1). ⊎_elim (λ (lt : s.1 < r.1). absurd (not_after below r l s m h g lt)) (λ (le : r.1 ≤ s.1). omega arith) (cases_lt s.1 r.1))
-      (cases_lt r.1 s.1) in
-      grind (arith, tail, rightmost-unique l m (place_before r) (tail below r l h), tail below r l h, tail below s m g)
+      grind (arith, not_after below s m r l g h, not_after below r l s m h g, cases_lt r.1 s.1, cases_lt s.1 r.1, tail, rightmost-unique l m (place_before r) (tail below r l h), tail below r l h, tail below s m g)

@@ -1,5 +1,5 @@
 -- The runs outside of a set are the gaps between its characters, less the empty ones.
-use Rattle.std.proofs.Common.{◌≡◌, ℕ, ◌<◌, ◌≤◌, ◌⊎◌, inl, inr, List, [], ◌∷◌, Bool, Option, Some, None, length, sym, ◌∙◌, arith, ⊎_elim, IsUtf8, IsCharBoundary}
+use Rattle.std.proofs.Common.{◌≡◌, ℕ, ◌<◌, ◌≤◌, ◌⊎◌, inl, inr, List, [], ◌∷◌, Bool, Option, Some, None, length, arith, ⊎_elim, IsUtf8, IsCharBoundary}
 use Rattle.std.proofs.lemmas.Bool.{cases_lt}
 use Rattle.std.proofs.lemmas.Option.{none-some, same_Some}
 use Rattle.std.proofs.lemmas.Str.{IsCharBoundary-start, IsCharBoundary-end}
@@ -29,9 +29,6 @@ module _ (p : ℕ → Bool) (t : List ℕ) (utf8 : IsUtf8 t) where
   abbrev Stop : ℕ → Type 0
   Stop i = (s : ℕ × ℕ) → IsCut t s → s.0 < i → i < s.1 → NoneStarts (char_ends p t) s.0 s.1 → ⊥
 
-  stop_before : (a b : ℕ) → char_ends p t a ≡ Some b → Stop a
-  stop_before a b is s cut lo hi free = none-some b (sym (free a (omega arith) hi) ∙ is)
-
   stop_after : (a b : ℕ) → char_ends p t a ≡ Some b → Stop b
   stop_after a b is s cut lo hi free = grind (arith, char_ends-one_char, none-some)
 
@@ -49,13 +46,10 @@ module _ (p : ℕ → Bool) (t : List ℕ) (utf8 : IsUtf8 t) where
   chain_after : (ms : List (ℕ × ℕ)) (i a b : ℕ) → Chain i ms → IsListed a b ms → i ≤ a
   chain_after [] i a b chain listed = absurd listed
   chain_after (m ∷ ms) i a b chain listed =
-      let holds = (char_ends-one_char p t m.0 m.1 utf8 chain.1).holds in
-      ⊎_elim (λ same. omega (arith, same.0, chain.0)) (λ r. omega (arith, chain.0, chain_after ms m.1 a b chain.2 r)) listed
+      grind (arith, char_ends-one_char p t m.0 m.1 utf8 chain.1, chain_after ms m.1 a b chain.2)
 
   free_before : (i : ℕ) (m : ℕ × ℕ) (ms : List (ℕ × ℕ)) → Chain i (m ∷ ms) → Covers i (m ∷ ms) → NoneStarts (char_ends p t) i m.0
-  free_before i m ms chain covers k lo hi =
-      let holds = (char_ends-one_char p t m.0 m.1 utf8 chain.1).holds in
-      none_or _ (λ b is. ⊎_elim (λ same. omega (arith, same.0)) (λ r. omega (arith, chain_after ms m.1 k b chain.2 r)) (covers k b is lo))
+  free_before i m ms chain covers k lo hi = none_or _ (λ b is. grind (arith, char_ends-one_char p t m.0 m.1 utf8 chain.1, chain_after ms m.1 k b chain.2, covers k b is lo))
 
   covers_rest : (i : ℕ) (m : ℕ × ℕ) (ms : List (ℕ × ℕ)) → Chain i (m ∷ ms) → Covers i (m ∷ ms) → Covers m.1 ms
   covers_rest i m ms chain covers a b is past = grind (arith, char_ends-one_char)
@@ -87,7 +81,7 @@ module _ (p : ℕ → Bool) (t : List ℕ) (utf8 : IsUtf8 t) where
       let rest = outcome ms m.1 span.end (stop_after m.0 m.1 chain.1) chain.2 (covers_rest i m ms chain covers) in
       kept (Outcome i) (i, m.0) (gaps m.1 ms n)
       (λ lt. record {
-        each = (is_run i m.0 start span.start lt free before (stop_before m.0 m.1 chain.1), rest.each);
+        each = (is_run i m.0 start span.start lt free before (λ s cut lo hi free. grind (arith, none-some)), rest.each);
         rise = (omega arith, rise_from m.0 m.1 _ span.ordered rest.rise);
         all = λ r run le. ⊎_elim (λ h. inl (run.longest (i, m.0) (record { start = start; end = span.start; ordered = omega arith }) le h free)) (λ h. inr (rest.all r run h)) (beside m r chain.1 run);
       })
@@ -100,14 +94,7 @@ module _ (p : ℕ → Bool) (t : List ℕ) (utf8 : IsUtf8 t) where
   within : (ms : List (ℕ × ℕ)) (a b : ℕ) → AllOccur (char_ends p t) ms → char_ends p t a ≡ Some b → BeginsWithin a ms → IsListed a b ms
   within [] a b occur is h = h
   within (m ∷ ms) a b occur is h =
-      ⊎_elim
-      (λ here. ⊎_elim
-      (λ (lt : m.0 < a). absurd ((char_ends-one_char p t m.0 m.1 utf8 occur.0).one a lt here.1 (char_ends-spans p t a b utf8 is).start))
-      (λ (ge : a ≤ m.0).
-      grind (arith, same_Some))
-      (cases_lt m.0 a))
-      (λ r. inr (within ms a b occur.1 is r))
-      h
+      grind (arith, same_Some, cases_lt m.0 a, char_ends-one_char p t m.0 m.1 utf8 occur.0, char_ends-spans p t a b utf8 is, within ms a b occur.1 is)
 
   pub are_runs : AreRuns p t (runs_outside p t)
   are_runs =

@@ -1,9 +1,8 @@
 -- The searches for a character of a set, a character at a time.
-use Rattle.std.proofs.Common.{◌≡◌, ℕ, ◌+◌, ◌<◌, ◌≤◌, Bool, true, false, List, Option, Some, None, length, arith, ⊎_elim, IsUtf8, IsCharBoundary}
+use Rattle.std.proofs.Common.{◌≡◌, ℕ, ◌+◌, ◌<◌, ◌≤◌, Bool, true, false, List, Option, Some, None, length, arith, IsUtf8, IsCharBoundary}
 use Rattle.std.proofs.lemmas.Bool.{cases_lt, cond-true, and_from, false≢true}
 use Rattle.std.proofs.lemmas.Option.{none-some, some_pair_parts}
 use Rattle.std.proofs.lemmas.Str.{len_utf8_bounds}
-use Rattle.std.specs.Char.{len_utf8}
 use Rattle.hip_match.specs.Occurrence.{NoneStarts, start_of}
 use Rattle.hip_match.specs.Characters.{char_at, char_ends, IsCharBefore}
 use Rattle.hip_match.specs.CharLaws.{starts_char, char_at-end, char_at-off, char_at-starts, no_boundary_within, char_ends-is, char_ends-spans, char_ends-one_char, char_ends-one_start, char_ends-yes, char_ends-no, char_ends-none}
@@ -19,14 +18,7 @@ module _ (p : ℕ → Bool) (t : List ℕ) (utf8 : IsUtf8 t) where
   ends_here i c j is passes = grind (arith, cond-true, and_from, char_at-starts)
 
   pub first_step : (from i c j : ℕ) → char_at t i ≡ Some (c, j) → p c ≡ false → NoneStarts (char_ends p t) from i → NoneStarts (char_ends p t) from j
-  first_step from i c j is fails none k lo hi =
-      let found = char_at-starts t i c j utf8 is in
-      ⊎_elim (λ (before : k < i). none k lo before)
-      (λ (ge : i ≤ k). ⊎_elim
-      (λ (past : i < k). char_ends-none p t k (grind (arith, char_at-off, no_boundary_within)))
-      (λ (le : k ≤ i). grind (arith, char_ends-no))
-      (cases_lt i k))
-      (cases_lt k i)
+  first_step from i c j is fails none k lo hi = grind (arith, cases_lt, char_at-starts, char_ends-none, char_at-off, no_boundary_within, char_ends-no)
 
   pub first_done : (from i : ℕ) → IsCharBoundary t i → char_at t i ≡ None → NoneStarts (char_ends p t) from i → (k : ℕ) → from ≤ k → char_ends p t k ≡ None
   first_done from i cut is none k lo = grind (arith, char_at-end, char_ends-none, some_char)
@@ -35,22 +27,18 @@ module _ (p : ℕ → Bool) (t : List ℕ) (utf8 : IsUtf8 t) where
   pub last_step : (to end : ℕ) (r : ℕ × ℕ) → IsCharBefore t end r → p r.0 ≡ false
       → ((a b : ℕ) → char_ends p t a ≡ Some b → end < b → to < b) → (a b : ℕ) → char_ends p t a ≡ Some b → r.1 < b → to < b
   last_step to end r h fails none a b is lt =
-      let here = char_at-starts t r.1 r.0 end utf8 h.is in
-      ⊎_elim (λ (past : end < b). none a b is past)
-      (λ (le : b ≤ end). ⊎_elim
-      (λ (inside : b < end). absurd (no_boundary_within t r.1 r.0 b utf8 here.0 here.1 lt (omega (arith, here.2)) (char_ends-spans p t a b utf8 is).end))
-      (λ (ge : end ≤ b).
-      let there = char_ends-is p t a b utf8 is in
-      let c = there.1.0 in
-      let stop : b ≡ a + len_utf8 c = there.1.3 in
-      let up : a < b = (char_ends-one_char p t a b utf8 is).holds in
-      let one : a ≡ r.1 =
-      ⊎_elim (λ (before : a < r.1). grind (arith, no_boundary_within))
-      (λ (ge' : r.1 ≤ a). grind (arith, no_boundary_within, cases_lt))
-      (cases_lt a r.1) in
-      grind (arith, some_pair_parts, false≢true))
-      (cases_lt b end))
-      (cases_lt end b)
+      grind (
+        arith,
+        none a b is,
+        cases_lt,
+        char_at-starts t r.1 r.0 end utf8 h.is,
+        no_boundary_within,
+        char_ends-is p t a b utf8 is,
+        char_ends-one_char p t a b utf8 is,
+        char_ends-spans p t a b utf8 is,
+        some_pair_parts,
+        false≢true,
+      )
 
   pub start_of-found : (to a : ℕ) → char_ends p t a ≡ Some to → start_of (char_ends p t) to ≡ Some a
   start_of-found to a is =

@@ -1,14 +1,14 @@
 -- The bytes with which a character of white space begins.
-use Rattle.std.proofs.Common.{◌≡◌, ℕ, ◌+◌, ◌/◌, ◌<◌, ◌≤◌, ◌||◌, Bool, true, false, not, cond, List, ◌∷◌, ◌++◌, Some, length, ap, ◌∙◌, arith, refl, ⊎_elim, add-zero, get_or, get_or-drop, nat_lt, nat_le, slice_index, IsUtf8, IsCharBoundary}
+use Rattle.std.proofs.Common.{◌≡◌, ℕ, ◌+◌, ◌/◌, ◌<◌, ◌||◌, Bool, true, not, cond, List, ◌∷◌, ◌++◌, Some, length, arith, refl, add-zero, get_or, get_or-drop, nat_lt, nat_le, slice_index, IsUtf8, IsCharBoundary}
 use Rattle.std.specs.Char.{is_whitespace}
 use Rattle.std.proofs.lemmas.Bool.Decides.{nat_tests}
-use Rattle.std.proofs.lemmas.Bool.{agree_below_at, cases_lt, cond-true, cond-false}
+use Rattle.std.proofs.lemmas.Bool.{agree_below_at}
 use lib.Utf8.{encode}
 use Rattle.memchr.specs.Find.{Passes}
 use Rattle.hip_match.specs.Characters.{char_ends}
 use Rattle.hip_match.specs.CharLaws.{is_boundary-is, char_ends-is}
-use Rattle.hip_match.specs.MarkedSets.{AreFirstBytes}
-use Rattle.hip_match.specs.Marks.{has_nibbles}
+use Rattle.hip_match.specs.MarkedSets.{AreFirstPlaces}
+use Rattle.hip_match.specs.Marks.{by_byte, has_nibbles}
 use Rattle.hip_match.specs.declared.byte_test.TheConstants.{SPACE_COLUMNS, SPACE_ROWS}
 
 -- the bytes with which white space begins, and some others that aren't of ASCII
@@ -27,27 +27,10 @@ unfolding encode
 first_of c rest = grind (arith, first_by)
 
 lead-passes : (c : ℕ) → is_whitespace c ≡ true → space_leads (lead c) ≡ true
-lead-passes c is = ⊎_elim
-    (λ (one : c < 128).
-    let here : nat_lt c 128 ≡ true = grind (arith, nat_tests) in
-    let told = agree_below_at (λ i. not (is_whitespace i) || space_leads i) (λ i. true) 128 c refl one in
-    grind (arith, nat_tests, cond-true))
-    (λ (ge : 128 ≤ c).
-    let over : nat_lt c 128 ≡ false = grind (arith, nat_tests) in
-    ⊎_elim
-    (λ (two : c < 2048).
-    let here : nat_lt c 2048 ≡ true = grind (arith, nat_tests) in
-    let byte : c / 64 ≡ 2 = grind (arith, nat_tests) in
-    ap space_leads (cond-false _ _ _ over ∙ cond-true _ _ _ here) ∙ ap (λ n. space_leads (192 + n)) byte)
-    (λ (ge2 : 2048 ≤ c).
-    let past : nat_lt c 2048 ≡ false = grind (arith, nat_tests) in
-    let here : nat_lt c 65536 ≡ true = grind (arith, nat_tests) in
-    let least : 1 ≤ c / 4096 = grind (arith, nat_tests) in
-    let most : c / 4096 ≤ 3 = grind (arith, nat_tests) in
-    let told = agree_below_at (λ i. nat_lt i 1 || space_leads (224 + i)) (λ i. true) 4 (c / 4096) refl (omega arith) in
-    grind (arith, nat_tests, cond-false, cond-true))
-    (cases_lt c 2048))
-    (cases_lt c 128)
+lead-passes c is =
+    let small : c < 12289 = grind (arith, nat_tests) in
+    let told = agree_below_at (λ i. not (is_whitespace i) || space_leads (lead i)) (λ i. true) 12289 c refl small in
+    grind (arith, nat_tests)
 
 module _ (t : List ℕ) (utf8 : IsUtf8 t) where
   -- the first byte of white space passes
@@ -60,5 +43,5 @@ module _ (t : List ℕ) (utf8 : IsUtf8 t) where
       let told = agree_below_at (λ i. not (space_leads i) || (nat_lt i 128 || nat_le 192 i)) (λ i. true) 256 (slice_index t k) refl fits in
       grind (arith, is_boundary-is)
 
-pub space_first_bytes : AreFirstBytes is_whitespace space_leads
-space_first_bytes = record { leads = λ t a b utf8 is. space-passes t utf8 a b is; begins = λ t k utf8 fits within pass. lead-boundary t utf8 k fits within pass }
+pub space_first_places : AreFirstPlaces is_whitespace (by_byte space_leads)
+space_first_places = record { leads = λ t a b utf8 is. space-passes t utf8 a b is; begins = λ t k utf8 fits within pass. lead-boundary t utf8 k fits within pass }

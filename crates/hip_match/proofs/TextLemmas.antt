@@ -1,32 +1,23 @@
 -- Where memchr finds the bytes of a text, the text occurs.
-use Rattle.std.proofs.Common.{◌≡◌, ℕ, ◌+◌, ◌-◌, ◌<◌, ◌≤◌, false, inl, inr, List, Option, Some, None, length, take, drop, slice_index, arith, length-drop, length-take-le, get_or-drop, get_or-take, take_all, add-zero, ◌==◌, eqb-true, eq-eqb, IsUtf8, IsCharBoundary}
-use Rattle.std.proofs.lemmas.Bool.{cases_lt, false≢true}
+use Rattle.std.proofs.Common.{◌≡◌, ℕ, ◌+◌, ◌-◌, ◌<◌, ◌≤◌, ⊎_elim, List, Option, Some, None, length, take, drop, arith, length-drop, length-take, length-take-le, get_or-drop, get_or-take, option_map, min, ap, sym, slice_index, ◌∙◌, take_all, add-zero, IsUtf8, IsCharBoundary}
+use Rattle.std.proofs.lemmas.Bool.{cases_lt}
 use Rattle.std.proofs.lemmas.List.{nil_from_length}
-use Rattle.memchr.specs.Find.{OccursAt, FindsNeedle, FindsLastNeedle, IsFirstByte, IsLastByte, NoneAfter, NoneBefore, Passes, is_byte}
+use Rattle.memchr.specs.Find.{OccursAt, FindsNeedle, FindsLastNeedle, IsFirst, IsLast, NoneAfter, NoneBefore, Nowhere}
 use Rattle.memchr.proofs.lemmas.MatchLemmas.{OccursAt-part, OccursAt-from_part}
-use Rattle.hip_match.specs.Occurrence.{StartsFirst, EndsLast, start_of}
+use Rattle.hip_match.specs.Occurrence.{EndsLast, IsLastMatch, IsNextMatch, StartsFirst, start_of}
+use Rattle.hip_match.specs.Marks.{PassesAt, stands}
+use Rattle.hip_match.specs.Needles.{bytes_of, reach_of}
+use Rattle.hip_match.specs.Searchers.{IsPart}
+use Rattle.hip_match.specs.declared.texts.Part.{Part}
 use Rattle.hip_match.specs.Texts.{text_ends}
 use Rattle.hip_match.specs.TextLaws.{text_ends-some, text_ends-is, text_ends-one_start, Stands-boundaries}
+use Rattle.hip_match.proofs.NeedleLemmas.{occurs-stands, reach_is, stands-occurs}
 use Rattle.hip_match.proofs.OccurrenceLemmas.{option_cases}
 use Rattle.hip_match.proofs.RightmostLemmas.{start_among-found, start_among-none}
 
 -- the slice from a place to the end
 pub rest_slice : (t : List ℕ) (from : ℕ) → take (length t - from) (drop from t) ≡ drop from t
 rest_slice t from = take_all _ _ (omega (arith, length-drop from t))
-
--- ---- a needle of one byte
-
-OneByte-occurs : (hay needle : List ℕ) (k : ℕ) → length needle ≡ 1 → k < length hay → Passes (is_byte (slice_index needle 0)) hay k → OccursAt hay needle k
-OneByte-occurs hay needle k one lt passes = grind (arith, eqb-true)
-
-OneByte-passes : (hay needle : List ℕ) (k : ℕ) → length needle ≡ 1 → OccursAt hay needle k → Passes (is_byte (slice_index needle 0)) hay k
-OneByte-passes hay needle k one occurs = grind (arith, eq-eqb)
-
-pub FindsNeedle-byte : (hay needle : List ℕ) (r : Option ℕ) → length needle ≡ 1 → IsFirstByte (is_byte (slice_index needle 0)) hay r → FindsNeedle hay needle 0 r
-FindsNeedle-byte hay needle r one h = grind (arith, OneByte-passes, OneByte-occurs)
-
-pub FindsLastNeedle-byte : (hay needle : List ℕ) (r : Option ℕ) → length needle ≡ 1 → IsLastByte (is_byte (slice_index needle 0)) hay r → FindsLastNeedle hay needle r
-FindsLastNeedle-byte hay needle r one h = grind (arith, OneByte-passes, OneByte-occurs)
 
 -- ---- occurrences in a part of the text
 
@@ -43,99 +34,79 @@ module _ (t p : List ℕ) where
   pub OccursAt-in_take : (to k : ℕ) → to ≤ length t → k + length p ≤ to → OccursAt t p k → OccursAt (take to t) p k
   OccursAt-in_take to k le fits h = grind (arith, length-take-le, get_or-take)
 
-  -- p is looked for by one of its bytes
-  module _ (sign : ℕ) (within : sign < length p) where
-    byte_there : (k : ℕ) → OccursAt t p k → Passes (is_byte (slice_index p sign)) t (k + sign)
-    byte_there k h = eq-eqb _ _ (h.reads sign within)
+  -- ---- the places where a part of it stands
 
-    pub FindsNeedle-no_byte : IsFirstByte (is_byte (slice_index p sign)) t None → FindsNeedle t p 0 None
-    FindsNeedle-no_byte none k lo hi h = grind (arith, byte_there k h)
+  -- the part of each occurrence that ends at or before `to` stands before `stop`
+  abbrev pub PartBefore : ℕ → ℕ → ℕ → Type 0
+  PartBefore lead to stop = (k : ℕ) → OccursAt t p k → k < to - (length p - 1) → k + lead < stop
 
-    pub FindsLastNeedle-no_byte : IsLastByte (is_byte (slice_index p sign)) t None → FindsLastNeedle t p None
-    FindsLastNeedle-no_byte none k lo hi h = grind (arith, byte_there k h)
+  cut-reads : (n lead j : ℕ) → j < length (take n (drop lead p)) → slice_index (take n (drop lead p)) j ≡ slice_index p (lead + j)
+  cut-reads n lead j lt = grind (arith, get_or-take, get_or-drop, length-take, length-drop)
 
-    pub FindsLastNeedle-here : (at : ℕ) → NoneAfter (Passes (is_byte (slice_index p sign)) t) 0 (length t) at → sign ≤ at → OccursAt (drop (at - sign) t) p 0 → FindsLastNeedle t p (Some (at - sign))
-    FindsLastNeedle-here at last le here =
-        let high : at < length t = last.high in
-        let out : OccursAt t p (at - sign) = rw (add-zero (at - sign)) at (OccursAt-drop (at - sign) 0 (omega arith) here) in
-        (record { low = omega arith; high = omega (arith, out.fits); after = λ k lo hi h. last.after (k + sign) (omega arith) (omega (arith, h.fits)) (byte_there k h) }, out)
+  module _ (part : Part) (is : IsPart p part) where
+    abbrev Here : ℕ → Type 0
+    Here = PassesAt (stands (bytes_of part.needle)) t
 
-    module _ (at : ℕ) (first : NoneBefore (Passes (is_byte (slice_index p sign)) t) 0 (length t) at) where
-      abbrev start : ℕ
-      start = at - sign
+    part-stands : (k : ℕ) → OccursAt t p k → Here (k + part.lead)
+    part-stands k h = rw is.1 (occurs-stands (take 4 (drop part.lead p)) t _ (record {
+      fits = (let fits = h.fits in omega (arith, length-take 4 (drop part.lead p), length-drop part.lead p, is.0));
+      reads = λ j lt. ap (slice_index t) (omega arith) ∙ h.reads (part.lead + j) (omega (arith, lt, length-take 4 (drop part.lead p), length-drop part.lead p)) ∙ sym (cut-reads 4 part.lead j lt);
+    }))
 
-      abbrev past : ℕ
-      past = at + 1 - sign
+    pub whole : (at : ℕ) → length p ≡ reach_of part.needle + 1 → Here at → (part.lead ≤ at) × OccursAt t p (at - part.lead)
+    whole at wide here =
+        let none : part.lead ≡ 0 = omega (arith, wide, reach_is part.needle _ is.1, length-take 4 (drop part.lead p), length-drop part.lead p) in
+        let all : bytes_of part.needle ≡ p = is.1 ∙ ap (λ n. take 4 (drop n p)) none ∙ take_all 4 p (omega (arith, wide, reach_is part.needle _ is.1, length-take 4 (drop part.lead p))) in
+        let same : at - part.lead ≡ at = omega (arith, none) in
+        (omega (arith, none), rw same (rw all at (stands-occurs (bytes_of part.needle) t at here)))
 
-      within_text : past ≤ length t
-      within_text = grind arith
+    -- from the front, where p is nowhere before `past`
+    module _ (from past : ℕ) (before : Nowhere (OccursAt t p) from past) where
+      pub front-none : Nowhere Here (min (length t) (past + part.lead)) (length t) → Nowhere (OccursAt t p) from (length t)
+      front-none none k lo hi h = ⊎_elim (λ (lt : k < past). before k lo lt h) (λ (ge : past ≤ k). none (k + part.lead) (omega arith) (let fits = h.fits in omega (arith, is.0)) (part-stands k h)) (cases_lt k past)
 
-      pub FindsNeedle-here : sign ≤ at → OccursAt (drop start t) p 0 → FindsNeedle t p 0 (Some start)
-      FindsNeedle-here le here =
-          let high : at < length t = first.high in
-          let out : OccursAt t p start = rw (add-zero start) at (OccursAt-drop start 0 (omega arith) here) in
-          (record { low = omega arith; high = omega (arith, out.fits); before = λ k lo hi h. first.before (k + sign) (omega arith) (omega arith) (byte_there k h) }, out)
+      module _ (at : ℕ) (found : NoneBefore Here (min (length t) (past + part.lead)) (length t) at) where
+        pub front-room : past + part.lead ≤ at
+        front-room = let low = found.low in let high = found.high in omega (arith, low, high)
 
-      module _ (apart : sign ≤ at → ¬ OccursAt (drop start t) p 0) where
-        early : (k : ℕ) → k < past → ¬ OccursAt t p k
-        early k low h = grind (arith, cases_lt (k + sign) at, byte_there k h, OccursAt-in_drop start k)
+        pub front-before : Nowhere (OccursAt t p) from (at - part.lead)
+        front-before k lo hi h = ⊎_elim (λ (lt : k < past). before k lo lt h) (λ (ge : past ≤ k). found.before (k + part.lead) (omega arith) (omega arith) (part-stands k h)) (cases_lt k past)
 
-        pub FindsNeedle-none_behind : FindsNeedle (drop past t) p 0 None → FindsNeedle t p 0 None
-        FindsNeedle-none_behind none k lo hi h =
-            elim (cases_lt k past) [
-              | inl low ↦ early k low h
-              | inr high ↦ none (k - past) (omega arith) (omega (arith, h.fits, length-drop past t)) (OccursAt-in_drop past k high h)
-            ]
+        pub front-tried : ¬ ((part.lead ≤ at) × OccursAt t p (at - part.lead)) → Nowhere (OccursAt t p) from (at - part.lead + 1)
+        front-tried off k lo hi h =
+            ⊎_elim (λ (lt : k < at - part.lead). front-before k lo lt h) (λ (ge : at - part.lead ≤ k). (let same : k ≡ at - part.lead = omega arith in off (omega (arith, front-room), rw same at h))) (cases_lt k (at - part.lead))
 
-        pub FindsNeedle-behind : (k : ℕ) → FindsNeedle (drop past t) p 0 (Some k) → FindsNeedle t p 0 (Some (past + k))
-        FindsNeedle-behind k found =
-            let out = OccursAt-drop past k within_text found.1 in (
-              record {
-                low = omega arith;
-                high = omega (arith, out.fits);
-                before = λ j lo hi h. elim (cases_lt j past) [
-                  | inl low ↦ early j low h
-                  | inr high ↦ found.0.before (j - past) (omega arith) (omega arith) (OccursAt-in_drop past j high h)
-                ];
-              },
-              out,
-            )
+      pub front-found : (r : Option ℕ) → 0 < length p → from ≤ past → past ≤ length t → FindsNeedle (drop past t) p 0 r → IsFirst (OccursAt t p) from (length t) (option_map (λ i. past + i) r)
+      front-found None some le room none = λ k lo hi h. grind (arith, cases_lt k past, before k, h.fits, length-drop past t, OccursAt-in_drop past k, none (k - past))
+      front-found (Some i) some le room next =
+          let here = OccursAt-drop past i room next.1 in
+          let none : Nowhere (OccursAt t p) from (past + i) =
+          λ k lo hi h. grind (arith, cases_lt k past, before k, OccursAt-in_drop past k, next.0.before (k - past)) in
+          (record { low = omega arith; high = omega (arith, here.fits); before = none }, here)
 
-  -- where p does not stand at the last place of its last byte, it stands before that
-  pub FindsLastNeedle-front : (at : ℕ) (r : Option ℕ) → 0 < length p → NoneAfter (Passes (is_byte (slice_index p (length p - 1))) t) 0 (length t) at
-      → (length p - 1 ≤ at → ¬ OccursAt (take (length t - (at - (length p - 1))) (drop (at - (length p - 1)) t)) p 0) → FindsLastNeedle (take at t) p r → FindsLastNeedle t p r
-  FindsLastNeedle-front at r some last apart found = by-place r found where
-    le : at ≤ length t
-    le = let high : at < length t = last.high in omega arith
+    pub back-all : (to : ℕ) → PartBefore part.lead to (to - (length p - 1 - part.lead))
+    back-all to k h lt = omega (arith, is.0)
 
-    ends : (k : ℕ) → OccursAt t p k → k + length p ≤ at
-    ends k h =
-        let back = length p - 1 in
-        let fits : k + length p ≤ length t = h.fits in
-        let passes : Passes (is_byte (slice_index p back)) t (k + back) = eq-eqb _ _ (h.reads back (omega arith)) in
-        elim (cases_lt (k + back) at) [
-          | inl before ↦ omega arith
-          | inr behind ↦ elim (cases_lt at (k + back)) [
-            | inl after ↦ absurd (last.after (k + back) (omega arith) (omega arith) passes)
-            | inr here ↦
-                let e : k - (at - back) ≡ 0 = omega arith in
-                absurd (apart (omega arith) (rw rest_slice (rw e at (OccursAt-in_drop (at - back) k (omega arith) h))))
-          ]
-        ]
+    module _ (to stop : ℕ) (before : PartBefore part.lead to stop) where
+      pub back-none : Nowhere Here 0 stop → Nowhere (OccursAt t p) 0 (to - (length p - 1))
+      back-none none k lo hi h = none _ (omega arith) (before k h hi) (part-stands k h)
 
-    by-place : (r : Option ℕ) → FindsLastNeedle (take at t) p r → FindsLastNeedle t p r
-    by-place None none = λ k lo hi h.
-        let within = ends k h in
-        none k lo (omega (arith, length-take-le at t le)) (OccursAt-in_take at k le within h)
-    by-place (Some k) found =
-        let out = OccursAt-take at k le found.1 in (
-          record {
-            low = found.0.low;
-            high = omega arith;
-            after = λ j lo hi h. let within = ends j h in found.0.after j lo (omega (arith, length-take-le at t le)) (OccursAt-in_take at j le within h);
-          },
-          out.0,
-        )
+      module _ (at : ℕ) (found : NoneAfter Here 0 stop at) where
+        late : (k : ℕ) → OccursAt t p k → k < to - (length p - 1) → k + part.lead ≤ at
+        late k h lt = ⊎_elim (λ (over : at < k + part.lead). absurd (found.after _ (omega arith) (before k h lt) (part-stands k h))) (λ (le : k + part.lead ≤ at). le) (cases_lt at (k + part.lead))
+
+        pub back-tried : ¬ ((part.lead ≤ at) × OccursAt t p (at - part.lead)) → PartBefore part.lead to at
+        back-tried off k h lt =
+            ⊎_elim (λ (less : k + part.lead < at). less) (λ (ge : at ≤ k + part.lead). (let same : k ≡ at - part.lead = omega (arith, late k h lt) in absurd (off (omega (arith, late k h lt), rw same at h)))) (cases_lt (k + part.lead) at)
+
+        pub back-whole : stop ≤ to - (length p - 1 - part.lead) → (part.lead ≤ at) × OccursAt t p (at - part.lead) → IsLast (OccursAt t p) 0 (to - (length p - 1)) (Some (at - part.lead))
+        back-whole bound here = (record { low = omega arith; high = (let high = found.high in omega (arith, here.0, is.0)); after = λ k lo hi h. absurd (omega (arith, late k h hi)) }, here.1)
+
+      pub back-found : (end : ℕ) (r : Option ℕ) → stop ≤ to - (length p - 1 - part.lead) → end ≤ length t → end ≤ stop + (length p - 1 - part.lead) → ((k : ℕ) → k ≤ length t → k ≤ stop + (length p - 1 - part.lead) → k ≤ end) → FindsLastNeedle (take end t) p r → IsLast (OccursAt t p) 0 (to - (length p - 1)) r
+      back-found end None bound room le least none = λ k lo hi h. none k lo (let fits = h.fits in omega (arith, least (k + length p) fits (omega (arith, before k h hi, is.0)), length-take-le end t room)) (OccursAt-in_take end k room (least (k + length p) h.fits (omega (arith, before k h hi, is.0))) h)
+      back-found end (Some i) bound room le least next =
+          let here = OccursAt-take end i room next.1 in
+          (record { low = omega arith; high = omega (arith, here.1, is.0); after = λ k lo hi h. next.0.after k lo (let fits = h.fits in omega (arith, least (k + length p) fits (omega (arith, before k h hi, is.0)), length-take-le end t room)) (OccursAt-in_take end k room (least (k + length p) h.fits (omega (arith, before k h hi, is.0))) h) }, here.0)
 
   pub text_ends-occurs : (a b : ℕ) → text_ends p t a ≡ Some b → OccursAt t p a × (b ≡ a + length p)
   text_ends-occurs a b is = grind (arith, text_ends-is p t a b is, OccursAt-from_part)
@@ -144,17 +115,26 @@ module _ (t p : List ℕ) where
     pub occurs-text_ends : (a : ℕ) → 0 < length p → OccursAt t p a → text_ends p t a ≡ Some (a + length p)
     occurs-text_ends a some h = grind (arith, OccursAt-part, Stands-boundaries, text_ends-some)
 
-    -- the search from the front
-    pub find_text-none : (from : ℕ) → from ≤ length t → FindsNeedle (drop from t) p 0 None → (k : ℕ) → from ≤ k → text_ends p t k ≡ None
-    find_text-none from le none k lo = option_cases (text_ends p t k) (λ empty. empty) (λ b is. grind (arith, text_ends-occurs k b is, length-drop from t, OccursAt-in_drop from k lo, none (k - from)))
+    -- where its bytes stand it occurs, from the front and from the back
+    pub next_match : (from : ℕ) → 0 < length p → (r : Option ℕ) → IsFirst (OccursAt t p) from (length t) r → IsNextMatch (text_ends p t) from (option_map (λ k. (k, k + length p)) r)
+    next_match from some None none = λ k lo. option_cases (text_ends p t k) (λ empty. empty) (λ b is. let h = (text_ends-occurs k b is).0 in absurd (none k lo (omega (arith, h.fits)) h))
+    next_match from some (Some k) found = record {
+      after = found.0.low;
+      occurs = occurs-text_ends k some found.1;
+      first = λ j lo hi. option_cases (text_ends p t j) (λ empty. empty) (λ b is. absurd (found.0.before j lo hi (text_ends-occurs j b is).0));
+    }
 
-    pub find_text-some : (from k : ℕ) → from ≤ length t → 0 < length p → FindsNeedle (drop from t) p 0 (Some k) → StartsFirst (text_ends p t) from (from + k, from + k + length p)
-    find_text-some from k le some h =
-        record {
-          after = omega arith;
-          occurs = occurs-text_ends (from + k) some (OccursAt-drop from k le h.1);
-          first = λ j lo hi. option_cases (text_ends p t j) (λ empty. empty) (λ b is. absurd (h.0.before (j - from) (omega arith) (omega arith) (OccursAt-in_drop from j lo (text_ends-occurs j b is).0)));
-        }
+    pub last_match : (to : ℕ) → 0 < length p → (r : Option ℕ) → IsLast (OccursAt t p) 0 (to - (length p - 1)) r → IsLastMatch (text_ends p t) to (option_map (λ k. (k, k + length p)) r)
+    last_match to some None none = λ a b is.
+        let h = text_ends-occurs a b is in
+        ⊎_elim (λ (lt : to < b). lt) (λ (ge : b ≤ to). absurd (none a (omega arith) (omega (arith, h.1)) h.0)) (cases_lt to b)
+    last_match to some (Some k) found = record {
+      before = (let high = found.0.high in omega arith);
+      occurs = occurs-text_ends k some found.1;
+      last = λ a b is lt.
+          let h = text_ends-occurs a b is in
+          ⊎_elim (λ (over : to < b). over) (λ (ge : b ≤ to). absurd (found.0.after a (omega (arith, h.1)) (omega (arith, h.1)) h.0)) (cases_lt to b);
+    }
 
     -- an empty text occurs at once
     empty_text : (a : ℕ) → length p ≡ 0 → IsCharBoundary t a → text_ends p t a ≡ Some a
@@ -173,19 +153,6 @@ module _ (t p : List ℕ) where
     pub text_at-no : (a : ℕ) → ¬ OccursAt (drop a t) p 0 → text_ends p t a ≡ None
     text_at-no a off = option_cases (text_ends p t a) (λ empty. empty) (λ b is. grind (arith, OccursAt-in_drop a a, text_ends-occurs a b is))
 
-    -- the search from the back
-    pub rfind_text-none : (to : ℕ) → to ≤ length t → FindsLastNeedle (take to t) p None → (a b : ℕ) → text_ends p t a ≡ Some b → to < b
-    rfind_text-none to le none a b is = grind (arith, text_ends-occurs a b is, length-take-le to t le, OccursAt-in_take to a le, none a)
-
-    pub rfind_text-some : (to k : ℕ) → to ≤ length t → 0 < length p → FindsLastNeedle (take to t) p (Some k) → EndsLast (text_ends p t) to (k, k + length p)
-    rfind_text-some to k le some h =
-        let found = OccursAt-take to k le h.1 in
-        record {
-          before = found.1;
-          occurs = occurs-text_ends k some found.0;
-          last = λ a b is lt. grind (arith, text_ends-occurs a b is, length-take-le to t le, OccursAt-in_take to a le, h.0.after a);
-        }
-
     pub text_before-yes : (to : ℕ) → IsCharBoundary t to → length p ≤ length (take to t) → OccursAt (take to t) p (length (take to t) - length p) → start_of (text_ends p t) to ≡ Some (to - length p)
     text_before-yes to cut short h =
         let size = length-take-le to t cut.0 in
@@ -198,6 +165,3 @@ module _ (t p : List ℕ) where
     text_before-no to cut off =
         start_among-none (text_ends p t) 0 (to + 1) to (λ a lo hi is.
         grind (arith, text_ends-occurs a to is, length-take-le to t cut.0, OccursAt-in_take to a cut.0))
-
-pub positive : (n : ℕ) → (n == 0) ≡ false → 0 < n
-positive n h = grind (arith, false≢true, eq-eqb, cases_lt)

@@ -1,5 +1,5 @@
 -- Sequences of matches at the ends of a text.
-use Rattle.std.proofs.Common.{◌≡◌, ℕ, ◌+◌, ◌<◌, ◌≤◌, List, [], ◌∷◌, ◌++◌, Option, Some, refl, sym, ap, ◌∙◌, arith}
+use Rattle.std.proofs.Common.{◌≡◌, ℕ, ◌+◌, ◌<◌, ◌≤◌, List, [], ◌∷◌, ◌++◌, Option, Some, refl, sym, arith}
 use Rattle.std.proofs.lemmas.Option.{same_Some}
 use Rattle.hip_match.specs.Trims.{Follows, FollowsBack, IsSequence, IsSequenceBack, TrimsFront, TrimsBack}
 use Rattle.hip_match.specs.Occurrence.{start_of}
@@ -21,7 +21,7 @@ module _ (e : ℕ → Option ℕ) where
   longest_front : (ms ls : List (ℕ × ℕ)) (i j k : ℕ) → ((b : ℕ) → e j ≡ Some b → b ≤ j) → Follows e i ms j → Follows e i ls k → k ≤ j
   longest_front ms [] i j k stuck h g = grind (arith, Follows-le)
   longest_front [] (l ∷ ls) i j k stuck h g = grind arith
-  longest_front (m ∷ ms) (l ∷ ls) i j k stuck h g = grind (arith, same_Some l.1 m.1 (sym g.2 ∙ ap e (g.0 ∙ sym h.0) ∙ h.2), longest_front ms ls m.1 j k stuck h.3)
+  longest_front (m ∷ ms) (l ∷ ls) i j k stuck h g = grind (arith, same_Some, longest_front ms ls m.1 j k stuck h.3)
 
   pub TrimsFront-stuck : (j : ℕ) → IsSequence e 0 j → ((b : ℕ) → e j ≡ Some b → b ≤ j) → TrimsFront e j
   TrimsFront-stuck j h stuck = grind (arith, longest_front)

@@ -14,9 +14,9 @@ pub mod Answers
 pub mod Bits
 pub mod Marks
 pub mod AsciiSets
+pub mod Needles
 pub mod MarkedSets
 pub mod Searchers
-pub mod FirstBytes
 pub mod Ready
 pub mod Clones
 pub mod Iterators

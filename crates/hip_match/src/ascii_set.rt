@@ -1,4 +1,5 @@
 //! Sets of characters of ASCII.
+#![tactic(auto, using(crate::proofs::Rules::ascii_set))]
 
 ghost use Rattle.std.specs.Prelude.{IfSome, ◌≡◌, ◌==◌, ◌+◌, ◌<◌, ◌≤◌, ◌&&◌, ◌||◌, ℕ, false, not, length, slice_index, if◌then◌else◌};
 ghost use Rattle.std.specs.Int.{bit_at};
@@ -6,15 +7,15 @@ ghost use Rattle.std.specs.Char.{is_ascii, is_ascii_alphabetic, is_ascii_alphanu
 ghost use Rattle.hip_match.specs.AsciiSets.{in_set};
 ghost use Rattle.hip_match.specs.Characters.{char_ends};
 ghost use Rattle.hip_match.specs.CharLaws.{char_ends-spans, char_ends-one_start, char_ends-one_char};
-ghost use Rattle.hip_match.specs.FirstBytes.{ascii_first_bytes};
 ghost use Rattle.hip_match.specs.Searchers.{AreAhead, AreBehind};
-ghost use Rattle.hip_match.specs.MarkedSets.{AreAsciiBytes};
+ghost use Rattle.hip_match.specs.MarkedSets.{AreStarts};
 
 use crate::byte_test::{ASCII_COLUMNS, ByteTest, has_nibbles, nibble_lanes};
 use crate::chars::{CharSet, end_of, start_before};
-use crate::marked_set::{MarkedSet, last_marked, marked_searcher, next_marked};
+use crate::marked_set::{MarkedSet, last_marked, next_marked};
 use crate::marks::{Marks, block};
 use crate::pattern::{ClonePattern, DoubleEndedPattern, OneChar, Pattern, ReversePattern};
+use crate::place_test::{Bytes, PlaceTest};
 use std::simd::prelude::*;
 
 /// A set of characters of ASCII. A walk finds them 64 bytes at a time.
@@ -67,7 +68,6 @@ impl AsciiSet {
     }
 
     /// These characters and one more.
-    #[tactic(auto, using(crate::proofs::TableLemmas::one_more))]
     #[inline]
     pub fn with(self, byte: u8) -> Self
         requires { byte < 128 }
@@ -79,7 +79,6 @@ impl AsciiSet {
     }
 
     /// The characters of both.
-    #[tactic(auto, using(crate::proofs::TableLemmas::joined))]
     #[inline]
     pub fn union(self, other: Self) -> Self
         ensures { (c : ℕ) → in_set result c ≡ (in_set self c || in_set other c) }
@@ -91,7 +90,6 @@ impl AsciiSet {
     }
 
     /// The other characters of ASCII.
-    #[tactic(auto, using(crate::proofs::TableLemmas::others))]
     #[inline]
     pub fn complement(self) -> Self
         ensures { (c : ℕ) → in_set result c ≡ (is_ascii c && not (in_set self c)) }
@@ -109,14 +107,13 @@ impl AsciiSet {
         ensures { (k : ℕ) → k < 64
             → bit_at result k ≡ (if in_set self (slice_index bytes.now (at + k)) then 1 else 0) }
     {
-        block(&self, bytes, at)
+        block(&Bytes(self), bytes, at)
     }
 }
 
 impl ByteTest for AsciiSet {
     ghost passes = { in_set };
 
-    #[tactic(auto, using(crate::proofs::TableLemmas::nibbles_ascii, crate::proofs::MarkLemmas::alike))]
     #[inline(always)]
     fn lanes(&self, bytes: &[u8], at: usize) -> u64 {
         nibble_lanes(&self.rows, &ASCII_COLUMNS, bytes, at)
@@ -126,7 +123,6 @@ impl ByteTest for AsciiSet {
 impl CharSet for AsciiSet {
     ghost belongs = { in_set };
 
-    #[tactic(auto, using(crate::proofs::TableLemmas::nibbles_ascii))]
     #[inline]
     fn has(&self, c: char) -> bool {
         c.is_ascii() && has_nibbles(&self.rows, &ASCII_COLUMNS, c as u8)
@@ -134,42 +130,36 @@ impl CharSet for AsciiSet {
 }
 
 impl MarkedSet for AsciiSet {
-    type Test = AsciiSet;
+    type Test = Bytes<AsciiSet>;
 
-    ghost is_found_by = { λ s passes. AreAsciiBytes (in_set s) passes };
+    ghost is_found_by = { λ s. AreStarts (in_set s) 1 };
 
-    ghost first_bytes = { λ s passes found. ascii_first_bytes (in_set s) passes found };
+    ghost first_places = { λ _ _ found. found.first };
 
-    #[inline]
-    fn test(&self) -> Option<AsciiSet> {
-        Some(*self)
-    }
-
-    #[tactic(auto, using(crate::specs::FirstBytes::ascii_end))]
     #[inline(always)]
-    fn end_at_mark(&self, _test: &AsciiSet, _text: &str, at: usize) -> Option<usize> {
+    fn end_at_mark(&self, _test: &Bytes<AsciiSet>, _text: &str, at: usize) -> Option<usize> {
         Some(at + 1)
     }
 }
 
 impl Pattern for AsciiSet {
-    type Searcher = Option<Marks<AsciiSet>>;
+    type Searcher = Option<Marks<Bytes<AsciiSet>>>;
 
     ghost ends = { λ s. char_ends (in_set s) };
 
-    ghost is_ready = { λ s m text from. AreAhead (AreAsciiBytes (in_set s)) (⟦<AsciiSet as ByteTest>⟧.passes) m text from };
+    ghost is_ready = { λ s m text from. AreAhead (AreStarts (in_set s) 1) (⟦<Bytes<AsciiSet> as PlaceTest>⟧.places) m text from };
 
-    ghost is_ready_back = { λ s m text to. AreBehind (AreAsciiBytes (in_set s)) (⟦<AsciiSet as ByteTest>⟧.passes) m text to };
+    ghost is_ready_back = { λ s m text to. AreBehind (AreStarts (in_set s) 1) (⟦<Bytes<AsciiSet> as PlaceTest>⟧.places) m text to };
 
     #[inline]
-    fn searcher(&self, _text: &str, from: usize, to: usize) -> Option<Marks<AsciiSet>> {
-        marked_searcher(self, from, to)
+    fn searcher(&self, _text: &str, from: usize, to: usize) -> Option<Marks<Bytes<AsciiSet>>> {
+        Some(Marks::new(Bytes(*self), from, to))
     }
 
     #[inline(always)]
     fn next_match_by(
         &self,
-        searcher: &mut Option<Marks<AsciiSet>>,
+        searcher: &mut Option<Marks<Bytes<AsciiSet>>>,
         text: &str,
         from: usize,
     ) -> Option<(usize, usize)> {
@@ -188,7 +178,7 @@ impl ReversePattern for AsciiSet {
     #[inline(always)]
     fn last_match_by(
         &self,
-        searcher: &mut Option<Marks<AsciiSet>>,
+        searcher: &mut Option<Marks<Bytes<AsciiSet>>>,
         text: &str,
         to: usize,
     ) -> Option<(usize, usize)> {

@@ -1,4 +1,5 @@
 //! Numbers of 64 bits, bit by bit.
+#![tactic(auto, using(crate::proofs::Rules::bits))]
 
 ghost use Rattle.std.specs.Prelude.{◌≡◌, ◌≢◌, ◌-◌, ◌<◌, ◌≤◌, ℕ, MatchOption};
 ghost use Rattle.std.specs.Int.{bit_at};
@@ -25,7 +26,6 @@ pub(crate) fn highest(m: u64) -> Option<u32>
 }
 
 /// All bits but the lowest that is set.
-#[tactic(auto, using(crate::proofs::BitLemmas::cut_lowest, crate::proofs::BitLemmas::cut_others))]
 #[inline(always)]
 pub fn without_lowest(m: u64) -> u64
     ensures lowest { (r : ℕ) → IsLowest m r → bit_at result r ≡ 0 }
@@ -35,7 +35,6 @@ pub fn without_lowest(m: u64) -> u64
 }
 
 // All bits but this one.
-#[tactic(auto, using(crate::proofs::BitLemmas::one_some, crate::proofs::BitLemmas::xor_other, crate::proofs::BitLemmas::xor_same))]
 #[inline(always)]
 pub(crate) fn without(m: u64, bit: u32) -> u64
     requires bound { bit < 64 }
@@ -47,7 +46,6 @@ pub(crate) fn without(m: u64, bit: u32) -> u64
 }
 
 // The bits from `by` on.
-#[tactic(auto, using(crate::proofs::BitLemmas::from_below, crate::proofs::BitLemmas::from_kept))]
 #[inline(always)]
 pub(crate) fn bits_from(m: u64, by: usize) -> u64
     requires { by < 64 }
@@ -58,7 +56,6 @@ pub(crate) fn bits_from(m: u64, by: usize) -> u64
 }
 
 // The bits below `count`.
-#[tactic(auto, using(crate::proofs::BitLemmas::below_kept, crate::proofs::BitLemmas::below_none))]
 #[inline(always)]
 pub(crate) fn bits_below(m: u64, count: usize) -> u64
     requires { count < 64 }
@@ -69,7 +66,6 @@ pub(crate) fn bits_below(m: u64, count: usize) -> u64
 }
 
 // The bits of a number, `by` places higher.
-#[tactic(auto, using(crate::proofs::BitLemmas::up_below, crate::proofs::BitLemmas::up_moved))]
 #[inline(always)]
 pub(crate) fn shifted_up(m: u64, by: usize) -> u64
     requires { by < 64 }

@@ -2,7 +2,7 @@
 
 ghost use Rattle.std.specs.Prelude.{◌≡◌, ◌==◌, ◌+◌, ◌≤◌, ℕ, Bool, length, IfSome};
 ghost use Rattle.memchr.specs.Find.{IsFirst, IsLast, Passes};
-ghost use Rattle.hip_match.specs.Marks.{AreMarks, has_nibbles};
+ghost use Rattle.hip_match.specs.Marks.{AreMarks, by_byte, has_nibbles};
 ghost use Rattle.hip_match.specs.declared.byte_test.TheConstants.{SPACE_COLUMNS, SPACE_ROWS};
 
 use memchr::{memchr, memrchr};
@@ -16,7 +16,7 @@ pub trait ByteTest: Copy {
     /// Which of the sixteen bytes from `at` on pass, as a mask whose lowest bit is the first byte's.
     fn lanes(&self, bytes: &[u8], at: usize) -> u64
         requires { at + 16 ≤ length bytes.now }
-        ensures { AreMarks (passes self.now) bytes.now at (at + 16) (at + 64) result };
+        ensures { AreMarks (by_byte (passes self.now)) bytes.now at (at + 16) (at + 64) result };
 
     /// The only byte that passes, if the test is of one byte. A search for it passes long stretches.
     #[inline(always)]
@@ -81,7 +81,7 @@ pub(crate) fn has_nibbles(rows: &[u8; 16], columns: &[u8; 16], byte: u8) -> bool
 #[inline(always)]
 pub(crate) fn nibble_lanes(rows: &[u8; 16], columns: &[u8; 16], bytes: &[u8], at: usize) -> u64
     requires { at + 16 ≤ length bytes.now }
-    ensures { AreMarks (has_nibbles rows.now columns.now) bytes.now at (at + 16) (at + 64) result }
+    ensures { AreMarks (by_byte (has_nibbles rows.now columns.now)) bytes.now at (at + 16) (at + 64) result }
 {
     let lanes = u8x16::from_slice(&bytes[at..]);
     let rows = u8x16::from_array(*rows).swizzle_dyn_within::<16>(lanes & u8x16::splat(15));

@@ -1,4 +1,5 @@
 //! The characters of a text, by position, and sets of characters.
+#![tactic(auto, using(crate::proofs::Rules::chars))]
 
 ghost use Rattle.std.specs.Prelude.{◌≡◌, ◌-◌, ◌<◌, ◌≤◌, ℕ, Bool, Some, MatchOption, length, slice_index};
 ghost use Rattle.std.specs.Str.{IsCharBoundary};
@@ -44,7 +45,6 @@ fn wide_char_from(text: &str, at: usize) -> (char, usize)
 }
 
 // The character that starts at `at`, and where it ends.
-#[tactic(auto, using(crate::proofs::Rules::chars))]
 #[inline]
 pub(crate) fn char_from(text: &str, at: usize) -> Option<(char, usize)>
     requires { IsCharBoundary text.now at }
@@ -100,7 +100,6 @@ fn wide_char_before(text: &str, to: usize) -> (char, usize)
 }
 
 // The character that ends at `to`, and where it starts.
-#[tactic(auto, using(crate::proofs::Rules::chars))]
 #[inline]
 pub(crate) fn char_before(text: &str, to: usize) -> Option<(char, usize)>
     requires { IsCharBoundary text.now to }
@@ -186,7 +185,6 @@ pub(crate) fn last_of<S: CharSet>(set: &S, text: &str, to: usize) -> Option<(usi
 }
 
 // Where the character before `to` starts, if it belongs.
-#[tactic(auto, using(crate::proofs::Rules::chars))]
 #[inline]
 pub(crate) fn start_before<S: CharSet>(set: &S, text: &str, to: usize) -> Option<usize>
     requires can { S.can_test set.now }

@@ -1,4 +1,6 @@
 //! Ranges drawn from both ends by a script.
+#![tactic(auto, using(crate::proofs::Rules::draw))]
+
 ghost use Rattle.std.specs.Prelude.{◌≡◌, ◌≤◌, length, take, drop};
 ghost use Rattle.hip_match.specs.Draw.{draw, left_by, TakesEnd};
 

@@ -1,4 +1,5 @@
 //! Laws of the definitions that the contracts of this crate cite. Each function does nothing; its contract is the law.
+#![tactic(auto, using(crate::proofs::Rules::laws))]
 
 ghost use Rattle.std.specs.Prelude.{◌≡◌, ◌+◌, ◌++◌, ℕ, List, length, reverse, ◌==◌, encode_utf8};
 ghost use Rattle.std.specs.Char.{is_whitespace, is_ascii_whitespace};
@@ -39,7 +40,6 @@ pub fn one_char_reverses<P: OneChar>(pattern: &P, text: &str)
 {}
 
 /// The pieces of a split by a text, joined with it, give the source; the pieces that end with it give the source as they are.
-#[tactic(auto, using(crate::proofs::Rules::laws))]
 pub fn join_undoes_split(text: &str, separator: &str)
     ensures split { rejoined separator.now
         (parts_at text.now (split (text_ends separator.now text.now) (length text.now))) ≡ text.now }
@@ -59,7 +59,6 @@ pub fn join_undoes_split_by_char(text: &str, separator: char)
 {}
 
 /// A list is the ranges that a script draws from its front, those that it leaves, and those that it draws from its back, in reverse.
-#[tactic(auto, using(crate::proofs::DrawLemmas::ends_meet))]
 pub fn ends_meet(ranges: &[(usize, usize)], script: &[End])
     ensures { fronts script.now (draw ranges.now script.now)
         ++ (left_by ranges.now script.now
@@ -73,7 +72,6 @@ pub fn ended_pieces_are_the_text<P: Pattern>(pattern: &P, text: &str)
 {}
 
 /// The pieces between white space are its longest runs: each holds something, no longer range without white space holds it, and there is no other such run.
-#[tactic(auto, using(crate::proofs::RunLemmas::are_runs))]
 pub fn white_space_parts_the_longest_runs(text: &str)
     ensures unicode { AreRuns is_whitespace text.now (split_whitespace text.now) }
     ensures ascii { AreRuns is_ascii_whitespace text.now (split_ascii_whitespace text.now) }

@@ -5,7 +5,7 @@
 //!   [`CharPred`] a closure on characters, whose answers are a [`Chosen`] list, made by [`choose_by`] where types are open.
 //!   [`ReversePattern`] is found from the end too, [`DoubleEndedPattern`] may be trimmed from both ends, each match of a [`OneChar`] is
 //!   one character, and the clones of a [`ClonePattern`] are found where it is.
-//! - [`marks`] finds the bytes that pass a test 64 at a time, from either end, for every walk by characters; [`byte_test`] has the
+//! - [`marks`] finds the places that pass a test 64 at a time, from either end, for every walk; [`place_test`] and [`byte_test`] have the
 //!   tests, and [`bits`] what is asked of the bits of a number.
 //! - [`Ranges`] is a walk from its front, [`RangesBack`] from both ends, and the clones of [`CloneRanges`] give what they do: [`Split`],
 //!   [`SplitInclusive`], [`SplitTerminator`], [`SplitN`], [`Matches`] and [`MatchIndices`] from a text's front, [`RSplit`],
@@ -21,10 +21,10 @@
 //! The words of the contracts stand in `specs/`: `Occurrence` (where a pattern occurs, and what a search gives), `Characters` and `Texts`
 //! (where sets of characters and texts occur), `Leftmost` and `Rightmost` (the lists of matches), `Pieces` (the parts between matches, and
 //! lists in order), `Runs` (lines, and runs between white space), `Trims` (what is removed from the ends), `Draw` (what a script draws),
-//! `Joined` (pieces put together again), `Answers` (what a closure answers), `AsciiSets` and `MarkedSets` (the characters of a set, and
-//! the bytes with which they begin), `Bits` (which bit is the lowest), `Ready` and `Marks` (what a walk keeps of its places), `Clones`
-//! (what its clone keeps) and `Iterators` (what is said of a walk by its type's own words); what they give for texts as one writes them
-//! down stands in `Rows`, and `CharLaws`, `FirstBytes` and `TextLaws` have what holds of the places where characters and texts occur.
+//! `Joined` (pieces put together again), `Answers` (what a closure answers), `AsciiSets` and `MarkedSets` (the characters of a set, and the
+//! places where they start), `Needles` (the bytes of a short needle), `Bits` (which bit is the lowest), `Ready` and `Marks` (what a walk
+//! keeps of its places), `Clones` (what its clone keeps) and `Iterators` (what is said of a walk by its type's own words); `Rows` has what
+//! they give for texts as one writes them down, and `CharLaws` and `TextLaws` what holds of the places where characters and texts occur.
 #![tactic(auto)]
 
 pub mod ascii_set;
@@ -42,6 +42,7 @@ mod marked_set;
 pub mod marks;
 pub mod matches;
 pub mod pattern;
+pub mod place_test;
 pub mod predicate;
 pub mod ranges;
 pub mod rmatches;

@@ -3,12 +3,13 @@
 ghost use Rattle.std.specs.Prelude.{◌≡◌, ◌==◌, ◌<◌, ◌≤◌, ℕ, [], false, length, if◌then◌else◌};
 ghost use Rattle.hip_match.specs.Characters.{char_ends};
 ghost use Rattle.hip_match.specs.Iterators.{Gives, GivesAlike};
-ghost use Rattle.hip_match.specs.Marks.{Ahead, Behind, marked_parts};
+ghost use Rattle.hip_match.specs.Marks.{Ahead, Behind, by_byte, marked_parts};
 ghost use Rattle.hip_match.specs.Pieces.{split};
 ghost use Rattle.hip_match.specs.Ready.{IsWindow};
 
 use crate::byte_test::{ByteTest, OneByte};
 use crate::marks::Marks;
+use crate::place_test::Bytes;
 use crate::ranges::{CloneRanges, Ranges, RangesBack};
 use std::alloc::AllocError;
 
@@ -18,13 +19,13 @@ pub struct MarkedParts<'h, T: ByteTest> {
     text: &'h str,
     from: usize,
     to: usize,
-    marks: Marks<T>,
+    marks: Marks<Bytes<T>>,
     done: bool,
 }
 
 impl<'h, T: ByteTest> MarkedParts<'h, T> {
     // The parts of `text` between the characters that pass `test`.
-    #[tactic(auto, using(crate::proofs::Rules::marked_parts))]
+    #[tactic(auto, using(crate::proofs::Rules::text_ends))]
     #[inline]
     pub(crate) fn by(text: &'h str, test: T) -> Self
         requires { (c : ℕ) → 128 ≤ c → T.passes test c ≡ false }
@@ -35,7 +36,7 @@ impl<'h, T: ByteTest> MarkedParts<'h, T> {
             text,
             from: 0,
             to: text.len(),
-            marks: Marks::new(test, 0, text.len()),
+            marks: Marks::new(Bytes(test), 0, text.len()),
             done: false,
         }
     }
@@ -43,14 +44,14 @@ impl<'h, T: ByteTest> MarkedParts<'h, T> {
 
 impl<'h, T: ByteTest> Ranges for MarkedParts<'h, T> {
     ghost ready = { λ s. IsWindow s.text.now s.from s.to
-        × ((c : ℕ) → 128 ≤ c → T.passes s.marks.test c ≡ false)
+        × ((c : ℕ) → 128 ≤ c → T.passes s.marks.test.0 c ≡ false)
         × (s.done ≡ false
-        → Ahead (T.passes s.marks.test) s.text.now s.from s.marks.front.next s.marks.front.bits
-        × Behind (T.passes s.marks.test) s.text.now s.to s.marks.back.start s.marks.back.bits) };
+        → Ahead (by_byte (T.passes s.marks.test.0)) s.text.now s.from s.marks.front.next s.marks.front.bits
+        × Behind (by_byte (T.passes s.marks.test.0)) s.text.now s.to s.marks.back.start s.marks.back.bits) };
 
     ghost text = { λ s. s.text.now };
 
-    ghost rest = { λ s. if s.done then [] else marked_parts (T.passes s.marks.test) s.text.now s.from s.to };
+    ghost rest = { λ s. if s.done then [] else marked_parts (T.passes s.marks.test.0) s.text.now s.from s.to };
 
     #[inline(always)]
     fn next(&mut self) -> Option<(usize, usize)> {

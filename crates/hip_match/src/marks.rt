@@ -1,32 +1,35 @@
-//! The places of a text whose bytes pass a test, found 64 at a time from either end.
+//! The places of a text that pass a test, found 64 at a time from either end.
 //!
 //! Functions that aren't inlined take a test by value, so that a walk's own fields stay in registers.
-ghost use Rattle.std.specs.Prelude.{◌≡◌, ◌+◌, ◌-◌, ◌<◌, ◌≤◌, ℕ, Bool, List, length, IfSome};
-ghost use Rattle.memchr.specs.Find.{IsFirst, IsLast, Passes};
-ghost use Rattle.hip_match.specs.Marks.{Ahead, AreMarks, Behind};
+ghost use Rattle.std.specs.Prelude.{◌≡◌, ◌≢◌, ◌+◌, ◌-◌, ◌<◌, ◌≤◌, ℕ, Bool, List, None, Some, length, IfSome, MatchOption};
+ghost use Rattle.memchr.specs.Find.{IsFirst, IsLast, Nowhere};
+ghost use Rattle.hip_match.specs.Marks.{Ahead, AreMarks, Behind, PassesAt, stands};
+ghost use Rattle.hip_match.specs.Needles.{bytes_of};
 
 use crate::bits::{bits_below, bits_from, highest, lowest, shifted_up, without, without_lowest};
-use crate::byte_test::{ByteTest, byte_before, byte_from};
+use crate::byte_test::OneByte;
+use crate::place_test::{Bytes, Needle, PlaceTest};
 
-const BLOCK: usize = 64;
+/// The number of places of a block.
+pub(crate) const BLOCK: usize = 64;
 
 const LANES: usize = 16;
 
 // The marks of the sixteen places from `at` on, moved up by `by`.
 #[inline(always)]
-fn lanes_moved<T: ByteTest>(test: &T, bytes: &[u8], at: usize, by: usize) -> u64
-    requires room { at + 16 ≤ length bytes.now }
+fn lanes_moved<T: PlaceTest>(test: &T, bytes: &[u8], at: usize, by: usize) -> u64
+    requires room { at + 16 + T.reach test.now ≤ length bytes.now }
     requires by { by ≤ 48 }
-    ensures { (end : ℕ) → by + end ≡ at + 64 → AreMarks (T.passes test.now) bytes.now at (at + 16) end result }
+    ensures { (end : ℕ) → by + end ≡ at + 64 → AreMarks (T.places test.now) bytes.now at (at + 16) end result }
 {
     shifted_up(test.lanes(bytes, at), by)
 }
 
 // The marks of the 64 places from `at` on.
 #[inline(always)]
-pub(crate) fn block<T: ByteTest>(test: &T, bytes: &[u8], at: usize) -> u64
-    requires { at + 64 ≤ length bytes.now }
-    ensures { AreMarks (T.passes test.now) bytes.now at (at + 64) (at + 64) result }
+pub(crate) fn block<T: PlaceTest>(test: &T, bytes: &[u8], at: usize) -> u64
+    requires { at + 64 + T.reach test.now ≤ length bytes.now }
+    ensures { AreMarks (T.places test.now) bytes.now at (at + 64) (at + 64) result }
 {
     lanes_moved(test, bytes, at, 0)
         | lanes_moved(test, bytes, at + LANES, LANES)
@@ -34,19 +37,21 @@ pub(crate) fn block<T: ByteTest>(test: &T, bytes: &[u8], at: usize) -> u64
         | lanes_moved(test, bytes, at + 3 * LANES, 3 * LANES)
 }
 
-// The marks of a text of fewer than 64 bytes: bit k is of the place k.
+// The marks of a text that has fewer than 64 places: bit k is of the place k.
 #[inline(never)]
-fn few<T: ByteTest>(test: T, bytes: &[u8]) -> u64
-    requires { length bytes.now < 64 }
-    ensures { AreMarks (T.passes test) bytes.now 0 (length bytes.now) 64 result }
+fn few<T: PlaceTest>(test: T, bytes: &[u8]) -> u64
+    requires some { T.reach test < length bytes.now }
+    requires few { length bytes.now < 64 + T.reach test }
+    ensures { AreMarks (T.places test) bytes.now 0 (length bytes.now - T.reach test) 64 result }
 {
     let len = bytes.len();
-    if len < LANES {
-        let mut padded = [0; LANES];
+    let count = len - test.reach();
+    if count < LANES {
+        let mut padded = [0; 2 * LANES];
         padded[..len].copy_from_slice(bytes);
-        return bits_below(test.lanes(&padded, 0), len);
+        return bits_below(test.lanes(&padded, 0), count);
     }
-    let last = len - LANES;
+    let last = count - LANES;
     let second = last.min(LANES);
     let third = last.min(2 * LANES);
     lanes_moved(&test, bytes, 0, 0)
@@ -57,45 +62,82 @@ fn few<T: ByteTest>(test: T, bytes: &[u8]) -> u64
 
 // The marks of the last places of a text, from `from` on. The last is told by the highest bit.
 #[inline(never)]
-fn last_block<T: ByteTest>(test: T, bytes: &[u8], from: usize) -> u64
-    requires some { from < length bytes.now }
-    requires few { length bytes.now < from + 64 }
-    ensures { AreMarks (T.passes test) bytes.now from (length bytes.now) (length bytes.now) result }
+fn last_block<T: PlaceTest>(test: T, bytes: &[u8], from: usize) -> u64
+    requires some { from + T.reach test < length bytes.now }
+    requires few { length bytes.now < from + 64 + T.reach test }
+    ensures { AreMarks (T.places test) bytes.now from (length bytes.now - T.reach test) (length bytes.now - T.reach test) result }
 {
-    let len = bytes.len();
-    let passed = BLOCK - (len - from);
-    if BLOCK <= len {
-        return bits_from(block(&test, bytes, len - BLOCK), passed);
+    let count = bytes.len() - test.reach();
+    let passed = BLOCK - (count - from);
+    if BLOCK <= count {
+        return bits_from(block(&test, bytes, count - BLOCK), passed);
     }
-    bits_from(shifted_up(few(test, bytes), BLOCK - len), passed)
+    bits_from(shifted_up(few(test, bytes), BLOCK - count), passed)
 }
 
 // The marks of at most 64 places from `from` on, and the first place behind them.
 #[inline(always)]
-fn block_from<T: ByteTest>(test: &T, bytes: &[u8], from: usize) -> (usize, u64)
-    requires { from < length bytes.now }
+fn block_from<T: PlaceTest>(test: &T, bytes: &[u8], from: usize) -> (usize, u64)
+    requires { from + T.reach test.now < length bytes.now }
     ensures goes_on { from < result.0 }
     ensures within { result.0 ≤ length bytes.now }
-    ensures marks { AreMarks (T.passes test.now) bytes.now from result.0 result.0 result.1 }
+    ensures marks { AreMarks (T.places test.now) bytes.now from result.0 result.0 result.1 }
 {
-    if BLOCK <= bytes.len() - from {
+    let count = bytes.len() - test.reach();
+    if BLOCK <= count - from {
         return (from + BLOCK, block(test, bytes, from));
     }
-    (bytes.len(), last_block(*test, bytes, from))
+    (count, last_block(*test, bytes, from))
 }
 
 // The marks of at most 64 places before `to`, and the first of these places.
 #[inline(always)]
-fn block_before<T: ByteTest>(test: &T, bytes: &[u8], to: usize) -> (usize, u64)
+fn block_before<T: PlaceTest>(test: &T, bytes: &[u8], to: usize) -> (usize, u64)
     requires some { 0 < to }
-    requires within { to ≤ length bytes.now }
+    requires within { to + T.reach test.now ≤ length bytes.now }
     ensures goes_on { result.0 < to }
-    ensures marks { AreMarks (T.passes test.now) bytes.now result.0 to (result.0 + 64) result.1 }
+    ensures marks { AreMarks (T.places test.now) bytes.now result.0 to (result.0 + 64) result.1 }
 {
     if BLOCK <= to {
         return (to - BLOCK, block(test, bytes, to - BLOCK));
     }
-    (0, few(*test, &bytes[..to]))
+    (0, few(*test, &bytes[..to + test.reach()]))
+}
+
+// The first place from which marks are to be read: none passes from `from` on before it. Where the last mark was far, places that fail
+// are passed at once.
+#[inline(always)]
+fn seek<T: PlaceTest>(test: &T, bytes: &[u8], from: usize, is_far: bool) -> Option<usize>
+    requires { from ≤ length bytes.now }
+    ensures { MatchOption result (Nowhere (PassesAt (T.places test.now) bytes.now) from (length bytes.now)) (λ start. (from ≤ start)
+        × (start + T.reach test.now < length bytes.now) × Nowhere (PassesAt (T.places test.now) bytes.now) from start) }
+{
+    let start = if is_far {
+        test.pass(bytes, from)?
+    } else {
+        from
+    };
+    if bytes.len() - start <= test.reach() {
+        None
+    } else {
+        Some(start)
+    }
+}
+
+// The place before which marks are to be read: none passes from there on before `to`. It passes places as `seek` does.
+#[inline(always)]
+fn seek_back<T: PlaceTest>(test: &T, bytes: &[u8], to: usize, is_far: bool) -> Option<usize>
+    requires { to ≤ length bytes.now }
+    ensures { MatchOption result (Nowhere (PassesAt (T.places test.now) bytes.now) 0 to) (λ stop. (0 < stop) × (stop ≤ to)
+        × (stop + T.reach test.now ≤ length bytes.now) × Nowhere (PassesAt (T.places test.now) bytes.now) stop to) }
+{
+    let last = to.min(bytes.len().saturating_sub(test.reach()));
+    let stop = if is_far && 0 < last {
+        test.pass_back(bytes, last)?
+    } else {
+        last
+    };
+    if stop == 0 { None } else { Some(stop) }
 }
 
 /// The marks that are left of a block of 64 places, from its front.
@@ -105,38 +147,120 @@ pub(crate) struct FrontMarks {
     next: usize,
     // The marks that are left of the 64 places before that.
     bits: u64,
-    // The last mark was more than a block ahead.
+    // The last block lay more than a block ahead.
     is_far: bool,
 }
 
 impl FrontMarks {
-    // The first place that is left, which is passed. Where the last one was far and one byte alone passes, that byte is searched for.
+    // No place from `from` on is read yet.
     #[inline(always)]
-    pub(crate) fn next<T: ByteTest>(&mut self, test: &T, bytes: &[u8], from: usize) -> Option<usize>
-        requires { Ahead (T.passes test.now) bytes.now from self.old.next self.old.bits }
-        ensures found { IsFirst (Passes (T.passes test.now) bytes.now) from (length bytes.now) result }
-        ensures ahead { IfSome result (λ at. Ahead (T.passes test.now) bytes.now (at + 1) self.new.next self.new.bits) }
+    pub(crate) fn new(from: usize) -> Self
+        ensures { (places : List ℕ → ℕ → Bool) (t : List ℕ) → from ≤ length t → Ahead places t from result.next result.bits }
     {
-        loop {
-            if let Some(k) = lowest(self.bits) {
-                self.bits = without_lowest(self.bits);
-                return Some(self.next + k as usize - BLOCK);
+        FrontMarks {
+            next: from,
+            bits: 0,
+            is_far: false,
+        }
+    }
+
+    // The first place that is left of the block, which is passed.
+    #[inline(always)]
+    fn pop<T: PlaceTest>(&mut self, test: &T, bytes: &[u8], from: usize) -> Option<usize>
+        requires { Ahead (T.places test.now) bytes.now from self.old.next self.old.bits }
+        ensures none { result ≡ None → self.old.bits ≡ 0 × self.new ≡ self.old }
+        ensures found { IfSome result (λ at. IsFirst (PassesAt (T.places test.now) bytes.now) from (length bytes.now) (Some at)) }
+        ensures ahead { IfSome result (λ at. Ahead (T.places test.now) bytes.now (at + 1) self.new.next self.new.bits) }
+    {
+        let k = lowest(self.bits)?;
+        self.bits = without_lowest(self.bits);
+        Some(self.next + k as usize - BLOCK)
+    }
+
+    // The first place behind the next block that has a mark, and its marks. Without one there are none.
+    #[inline(always)]
+    fn read<T: PlaceTest>(self, test: &T, bytes: &[u8], from: usize) -> (usize, u64)
+        requires done { self.bits ≡ 0 }
+        requires ahead { Ahead (T.places test.now) bytes.now from self.next self.bits }
+        ensures ahead { Ahead (T.places test.now) bytes.now from result.0 result.1 }
+        ensures end { result.1 ≡ 0 → Nowhere (PassesAt (T.places test.now) bytes.now) from (length bytes.now) }
+        ensures goes_on { self.next ≤ result.0 }
+    {
+        let mut next = self.next;
+        let mut is_far = self.is_far;
+        while let Some(start) = seek(test, bytes, next, is_far) {
+            let (behind, bits) = block_from(test, bytes, start);
+            if bits != 0 {
+                return (behind, bits);
             }
-            if self.next == bytes.len() {
-                return None;
-            }
-            if self.is_far {
-                if let Some(byte) = test.only() {
-                    let at = byte_from(byte, bytes, self.next)?;
-                    self.is_far = BLOCK <= at - self.next;
-                    self.next = at + 1;
-                    return Some(at);
-                }
-            }
-            let (next, bits) = block_from(test, bytes, self.next);
-            self.next = next;
-            self.bits = bits;
-            self.is_far = bits == 0;
+            next = behind;
+            is_far = true;
+        }
+        (bytes.len(), 0)
+    }
+
+    // Goes on with the block that was read.
+    #[inline(always)]
+    fn load(&mut self, read: (usize, u64))
+        requires { self.old.next ≤ read.0 }
+        ensures next { self.new.next ≡ read.0 }
+        ensures bits { self.new.bits ≡ read.1 }
+    {
+        let (next, bits) = read;
+        self.is_far = 2 * BLOCK <= next - self.next;
+        self.next = next;
+        self.bits = bits;
+    }
+
+    // The first place that is left, which is passed.
+    #[inline(always)]
+    pub(crate) fn next<T: PlaceTest>(
+        &mut self,
+        test: &T,
+        bytes: &[u8],
+        from: usize,
+    ) -> Option<usize>
+        requires { Ahead (T.places test.now) bytes.now from self.old.next self.old.bits }
+        ensures found { IsFirst (PassesAt (T.places test.now) bytes.now) from (length bytes.now) result }
+        ensures ahead { IfSome result (λ at. Ahead (T.places test.now) bytes.now (at + 1) self.new.next self.new.bits) }
+    {
+        if let Some(at) = self.pop(test, bytes, from) {
+            return Some(at);
+        }
+        self.load(self.read(test, bytes, from));
+        self.pop(test, bytes, from)
+    }
+
+    // Like `next`, of a needle. That of one byte is read at once, others out of line.
+    #[inline(always)]
+    pub(crate) fn next_needle(&mut self, test: Needle, bytes: &[u8], from: usize) -> Option<usize>
+        requires within { from ≤ length bytes.now }
+        requires ahead { Ahead (stands (bytes_of test)) bytes.now from self.old.next self.old.bits }
+        ensures found { IsFirst (PassesAt (stands (bytes_of test)) bytes.now) from (length bytes.now) result }
+        ensures ahead { IfSome result (λ at. Ahead (stands (bytes_of test)) bytes.now (at + 1) self.new.next self.new.bits) }
+    {
+        if let Some(at) = self.pop(&test, bytes, from) {
+            return Some(at);
+        }
+        let read = match test {
+            Needle::One(byte) => self.read(&Bytes(OneByte(byte)), bytes, from),
+            _ => read_needle(*self, test, bytes, from),
+        };
+        self.load(read);
+        self.pop(&test, bytes, from)
+    }
+
+    // Passes the places before `to`.
+    #[inline(always)]
+    pub(crate) fn skip_to(&mut self, to: usize)
+        ensures { (places : List ℕ → ℕ → Bool) (t : List ℕ) (from : ℕ) → from ≤ to → to ≤ length t
+            → Ahead places t from self.old.next self.old.bits → Ahead places t to self.new.next self.new.bits }
+    {
+        if self.next <= to {
+            self.next = to;
+            self.bits = 0;
+        } else {
+            self.bits = bits_from(self.bits, BLOCK.saturating_sub(self.next - to));
         }
     }
 }
@@ -148,70 +272,173 @@ pub(crate) struct BackMarks {
     start: usize,
     // The marks that are left of the 64 places from there on.
     bits: u64,
-    // The last mark was more than a block behind.
+    // The last block lay more than a block behind.
     is_far: bool,
 }
 
 impl BackMarks {
-    // Like `next`, but the last place.
+    // No place before `to` is read yet.
     #[inline(always)]
-    pub(crate) fn last<T: ByteTest>(&mut self, test: &T, bytes: &[u8], to: usize) -> Option<usize>
-        requires { Behind (T.passes test.now) bytes.now to self.old.start self.old.bits }
-        ensures found { IsLast (Passes (T.passes test.now) bytes.now) 0 to result }
-        ensures behind { IfSome result (λ at. Behind (T.passes test.now) bytes.now at self.new.start self.new.bits) }
+    pub(crate) fn new(to: usize) -> Self
+        ensures { (places : List ℕ → ℕ → Bool) (t : List ℕ) → to ≤ length t → Behind places t to result.start result.bits }
     {
-        loop {
-            if let Some(k) = highest(self.bits) {
-                self.bits = without(self.bits, k);
-                return Some(self.start + k as usize);
+        BackMarks {
+            start: to,
+            bits: 0,
+            is_far: false,
+        }
+    }
+
+    // The last place that is left of the block, which is passed.
+    #[inline(always)]
+    fn pop<T: PlaceTest>(&mut self, test: &T, bytes: &[u8], to: usize) -> Option<usize>
+        requires { Behind (T.places test.now) bytes.now to self.old.start self.old.bits }
+        ensures none { result ≡ None → self.old.bits ≡ 0 × self.new ≡ self.old }
+        ensures found { IfSome result (λ at. IsLast (PassesAt (T.places test.now) bytes.now) 0 to (Some at)) }
+        ensures behind { IfSome result (λ at. Behind (T.places test.now) bytes.now at self.new.start self.new.bits) }
+    {
+        let k = highest(self.bits)?;
+        self.bits = without(self.bits, k);
+        Some(self.start + k as usize)
+    }
+
+    // The first place of the last block before this one that has a mark, and its marks. Without one there are none.
+    #[inline(always)]
+    fn read<T: PlaceTest>(self, test: &T, bytes: &[u8], to: usize) -> (usize, u64)
+        requires done { self.bits ≡ 0 }
+        requires behind { Behind (T.places test.now) bytes.now to self.start self.bits }
+        ensures behind { Behind (T.places test.now) bytes.now to result.0 result.1 }
+        ensures end { result.1 ≡ 0 → Nowhere (PassesAt (T.places test.now) bytes.now) 0 to }
+        ensures goes_on { result.0 ≤ self.start }
+    {
+        let mut start = self.start;
+        let mut is_far = self.is_far;
+        while let Some(stop) = seek_back(test, bytes, start, is_far) {
+            let (first, bits) = block_before(test, bytes, stop);
+            if bits != 0 {
+                return (first, bits);
             }
-            if self.start == 0 {
-                return None;
-            }
-            if self.is_far {
-                if let Some(byte) = test.only() {
-                    let at = byte_before(byte, bytes, self.start)?;
-                    self.is_far = BLOCK <= self.start - at;
-                    self.start = at;
-                    return Some(at);
-                }
-            }
-            let (start, bits) = block_before(test, bytes, self.start);
-            self.start = start;
-            self.bits = bits;
-            self.is_far = bits == 0;
+            start = first;
+            is_far = true;
+        }
+        (0, 0)
+    }
+
+    // Goes on with the block that was read.
+    #[inline(always)]
+    fn load(&mut self, read: (usize, u64))
+        requires { read.0 ≤ self.old.start }
+        ensures start { self.new.start ≡ read.0 }
+        ensures bits { self.new.bits ≡ read.1 }
+    {
+        let (start, bits) = read;
+        self.is_far = 2 * BLOCK <= self.start - start;
+        self.start = start;
+        self.bits = bits;
+    }
+
+    // The last place that is left, which is passed.
+    #[inline(always)]
+    pub(crate) fn last<T: PlaceTest>(&mut self, test: &T, bytes: &[u8], to: usize) -> Option<usize>
+        requires { Behind (T.places test.now) bytes.now to self.old.start self.old.bits }
+        ensures found { IsLast (PassesAt (T.places test.now) bytes.now) 0 to result }
+        ensures behind { IfSome result (λ at. Behind (T.places test.now) bytes.now at self.new.start self.new.bits) }
+    {
+        if let Some(at) = self.pop(test, bytes, to) {
+            return Some(at);
+        }
+        self.load(self.read(test, bytes, to));
+        self.pop(test, bytes, to)
+    }
+
+    // Like `last`, of a needle. That of one byte is read at once, others out of line.
+    #[inline(always)]
+    pub(crate) fn last_needle(&mut self, test: Needle, bytes: &[u8], to: usize) -> Option<usize>
+        requires within { to ≤ length bytes.now }
+        requires behind { Behind (stands (bytes_of test)) bytes.now to self.old.start self.old.bits }
+        ensures found { IsLast (PassesAt (stands (bytes_of test)) bytes.now) 0 to result }
+        ensures behind { IfSome result (λ at. Behind (stands (bytes_of test)) bytes.now at self.new.start self.new.bits) }
+    {
+        if let Some(at) = self.pop(&test, bytes, to) {
+            return Some(at);
+        }
+        let read = match test {
+            Needle::One(byte) => self.read(&Bytes(OneByte(byte)), bytes, to),
+            _ => read_needle_back(*self, test, bytes, to),
+        };
+        self.load(read);
+        self.pop(&test, bytes, to)
+    }
+
+    // Passes the places from `to` on.
+    #[inline(always)]
+    pub(crate) fn skip_to(&mut self, to: usize)
+        ensures { (places : List ℕ → ℕ → Bool) (t : List ℕ) (from : ℕ) → to ≤ from
+            → Behind places t from self.old.start self.old.bits → Behind places t to self.new.start self.new.bits }
+    {
+        if to <= self.start {
+            self.start = to;
+            self.bits = 0;
+        } else if to - self.start < BLOCK {
+            self.bits = bits_below(self.bits, to - self.start);
         }
     }
 }
 
-/// The places of a text whose bytes pass a test, from either end.
+// Reads the marks of a needle as `FrontMarks::read` does. Each width has a loop of its own.
+#[inline(never)]
+fn read_needle(marks: FrontMarks, test: Needle, bytes: &[u8], from: usize) -> (usize, u64)
+    requires done { marks.bits ≡ 0 }
+    requires ahead { Ahead (stands (bytes_of test)) bytes.now from marks.next marks.bits }
+    ensures ahead { Ahead (stands (bytes_of test)) bytes.now from result.0 result.1 }
+    ensures end { result.1 ≡ 0 → Nowhere (PassesAt (stands (bytes_of test)) bytes.now) from (length bytes.now) }
+    ensures goes_on { marks.next ≤ result.0 }
+{
+    match test {
+        Needle::One(a) => marks.read(&Needle::One(a), bytes, from),
+        Needle::Two(a, b) => marks.read(&Needle::Two(a, b), bytes, from),
+        Needle::Three(a, b, c) => marks.read(&Needle::Three(a, b, c), bytes, from),
+        Needle::Four(a, b, c, d) => marks.read(&Needle::Four(a, b, c, d), bytes, from),
+    }
+}
+
+// Reads the marks of a needle as `BackMarks::read` does.
+#[inline(never)]
+fn read_needle_back(marks: BackMarks, test: Needle, bytes: &[u8], to: usize) -> (usize, u64)
+    requires done { marks.bits ≡ 0 }
+    requires behind { Behind (stands (bytes_of test)) bytes.now to marks.start marks.bits }
+    ensures behind { Behind (stands (bytes_of test)) bytes.now to result.0 result.1 }
+    ensures end { result.1 ≡ 0 → Nowhere (PassesAt (stands (bytes_of test)) bytes.now) 0 to }
+    ensures goes_on { result.0 ≤ marks.start }
+{
+    match test {
+        Needle::One(a) => marks.read(&Needle::One(a), bytes, to),
+        Needle::Two(a, b) => marks.read(&Needle::Two(a, b), bytes, to),
+        Needle::Three(a, b, c) => marks.read(&Needle::Three(a, b, c), bytes, to),
+        Needle::Four(a, b, c, d) => marks.read(&Needle::Four(a, b, c, d), bytes, to),
+    }
+}
+
+/// The places of a text that pass a test, from either end.
 #[derive(Clone, Copy)]
-pub struct Marks<T: ByteTest> {
+pub struct Marks<T: PlaceTest> {
     pub(crate) test: T,
     pub(crate) front: FrontMarks,
     pub(crate) back: BackMarks,
 }
 
-impl<T: ByteTest> Marks<T> {
+impl<T: PlaceTest> Marks<T> {
     // The places of a text from `from` up to `to`, none of which is read yet.
     #[inline]
     pub(crate) fn new(test: T, from: usize, to: usize) -> Self
         ensures test { result.test ≡ test }
-        ensures ahead { (t : List ℕ) → from ≤ length t → Ahead (T.passes test) t from result.front.next result.front.bits }
-        ensures behind { (t : List ℕ) → to ≤ length t → Behind (T.passes test) t to result.back.start result.back.bits }
+        ensures ahead { (t : List ℕ) → from ≤ length t → Ahead (T.places test) t from result.front.next result.front.bits }
+        ensures behind { (t : List ℕ) → to ≤ length t → Behind (T.places test) t to result.back.start result.back.bits }
     {
         Marks {
             test,
-            front: FrontMarks {
-                next: from,
-                bits: 0,
-                is_far: false,
-            },
-            back: BackMarks {
-                start: to,
-                bits: 0,
-                is_far: false,
-            },
+            front: FrontMarks::new(from),
+            back: BackMarks::new(to),
         }
     }
 }

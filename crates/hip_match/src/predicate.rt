@@ -1,4 +1,6 @@
 //! A closure as a pattern.
+#![tactic(auto, using(crate::proofs::Rules::predicate))]
+
 ghost use Rattle.std.specs.Prelude.{◌≡◌, ℕ, Bool};
 ghost use Rattle.std.specs.Char.{IsScalar};
 ghost use Rattle.hip_match.specs.Answers.{answer_at};

@@ -48,6 +48,7 @@ impl<'h, P: ReversePattern + ClonePattern> CloneRanges for RMatches<'h, P> {
 
 impl<'h, P: ReversePattern> RMatches<'h, P> {
     /// The occurrences of `pattern` in `text`.
+    #[tactic(auto, using(crate::proofs::Rules::text_ends))]
     #[inline]
     pub fn new(text: &'h str, pattern: P) -> Self
         requires { P.can_search pattern }

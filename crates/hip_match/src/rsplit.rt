@@ -1,4 +1,6 @@
 //! The parts of a text between the occurrences of a pattern, from its end.
+#![tactic(auto, using(crate::proofs::Rules::rsplit))]
+
 ghost use Rattle.std.specs.Prelude.{[], length, if◌then◌else◌};
 ghost use Rattle.std.proofs.Common.{ap};
 ghost use Rattle.hip_match.specs.Clones.{gaps_back_kept, made_kept, parts_kept};

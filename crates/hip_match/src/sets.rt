@@ -1,21 +1,29 @@
 //! The patterns that are characters: one of them, or any of some.
 ghost use Rattle.std.proofs.Common.{rules};
-ghost use Rattle.std.specs.Prelude.{◌≡◌, ◌==◌, ℕ, IfSome};
+ghost use Rattle.std.specs.Prelude.{◌≡◌, ◌==◌, ◌+◌, ℕ, IfSome};
 ghost use Rattle.std.specs.List.{list_any};
 ghost use Rattle.hip_match.specs.AsciiSets.{in_set};
 ghost use Rattle.hip_match.specs.Characters.{char_ends};
 ghost use Rattle.hip_match.specs.CharLaws.{char_ends-spans, char_ends-one_start, char_ends-one_char};
-ghost use Rattle.hip_match.specs.MarkedSets.{AreAsciiBytes};
+ghost use Rattle.hip_match.specs.MarkedSets.{AreStarts};
+ghost use Rattle.hip_match.specs.Marks.{Ahead, Behind, stands};
+ghost use Rattle.hip_match.specs.Needles.{bytes_of, reach_of};
 ghost use Rattle.hip_match.specs.Searchers.{AreAhead, AreBehind};
-ghost use Rattle.hip_match.specs.FirstBytes.{ascii_first_bytes};
 
 use crate::ascii_set::AsciiSet;
-use crate::byte_test::{ByteTest, OneByte};
 use crate::chars::{CharSet, end_of, start_before};
-use crate::marked_set::{MarkedSet, last_marked, marked_searcher, next_marked};
+use crate::marked_set::{MarkedSet, last_marked, next_marked};
 use crate::marks::Marks;
 use crate::pattern::{ClonePattern, DoubleEndedPattern, OneChar, Pattern, ReversePattern};
-use crate::texts::{find_char, rfind_char};
+use crate::place_test::{Bytes, Needle, PlaceTest};
+
+// The bytes of a character.
+fn needle_of(c: char) -> Needle
+    ensures { AreStarts (λ d. d == c) (reach_of result + 1) (stands (bytes_of result)) }
+{
+    let mut room = [0; 4];
+    Needle::new(c.encode_utf8(&mut room).as_bytes()).unwrap_or(Needle::One(0))
+}
 
 impl CharSet for char {
     ghost belongs = { λ c d. d == c };
@@ -26,54 +34,30 @@ impl CharSet for char {
     }
 }
 
-impl MarkedSet for char {
-    type Test = OneByte;
-
-    ghost is_found_by = { λ c passes. AreAsciiBytes (λ d. d == c) passes };
-
-    ghost first_bytes = { λ c passes found. ascii_first_bytes (λ d. d == c) passes found };
-
-    #[inline]
-    fn test(&self) -> Option<OneByte> {
-        if self.is_ascii() {
-            Some(OneByte(*self as u8))
-        } else {
-            None
-        }
-    }
-
-    #[tactic(auto, using(crate::specs::FirstBytes::ascii_end))]
-    #[inline(always)]
-    fn end_at_mark(&self, _test: &OneByte, _text: &str, at: usize) -> Option<usize> {
-        Some(at + 1)
-    }
-}
-
 impl Pattern for char {
-    type Searcher = Option<Marks<OneByte>>;
+    type Searcher = Marks<Needle>;
 
     ghost ends = { λ c. char_ends (λ d. d == c) };
 
-    ghost is_ready = { λ c m text from. AreAhead (AreAsciiBytes (λ d. d == c)) (⟦<OneByte as ByteTest>⟧.passes) m text from };
+    ghost is_ready = { λ c m text from. AreStarts (λ d. d == c) (reach_of m.test + 1) (stands (bytes_of m.test)) × Ahead (stands (bytes_of m.test)) text from m.front.next m.front.bits };
 
-    ghost is_ready_back = { λ c m text to. AreBehind (AreAsciiBytes (λ d. d == c)) (⟦<OneByte as ByteTest>⟧.passes) m text to };
+    ghost is_ready_back = { λ c m text to. AreStarts (λ d. d == c) (reach_of m.test + 1) (stands (bytes_of m.test)) × Behind (stands (bytes_of m.test)) text to m.back.start m.back.bits };
 
     #[inline]
-    fn searcher(&self, _text: &str, from: usize, to: usize) -> Option<Marks<OneByte>> {
-        marked_searcher(self, from, to)
+    fn searcher(&self, _text: &str, from: usize, to: usize) -> Marks<Needle> {
+        Marks::new(needle_of(*self), from, to)
     }
 
     #[inline(always)]
     fn next_match_by(
         &self,
-        searcher: &mut Option<Marks<OneByte>>,
+        searcher: &mut Marks<Needle>,
         text: &str,
         from: usize,
     ) -> Option<(usize, usize)> {
-        if searcher.is_none() {
-            return find_char(text, *self, from);
-        }
-        next_marked(self, searcher, text, from)
+        let test = searcher.test;
+        let at = searcher.front.next_needle(test, text.as_bytes(), from)?;
+        Some((at, at + (test.reach() + 1)))
     }
 
     #[inline]
@@ -88,14 +72,13 @@ impl ReversePattern for char {
     #[inline(always)]
     fn last_match_by(
         &self,
-        searcher: &mut Option<Marks<OneByte>>,
+        searcher: &mut Marks<Needle>,
         text: &str,
         to: usize,
     ) -> Option<(usize, usize)> {
-        if searcher.is_none() {
-            return rfind_char(text, *self, to);
-        }
-        last_marked(self, searcher, text, to)
+        let test = searcher.test;
+        let at = searcher.back.last_needle(test, text.as_bytes(), to)?;
+        Some((at, at + (test.reach() + 1)))
     }
 
     #[inline]
@@ -149,42 +132,36 @@ impl<'a> CharSet for &'a [char] {
 }
 
 impl<'a> MarkedSet for &'a [char] {
-    type Test = AsciiSet;
+    type Test = Bytes<AsciiSet>;
 
-    ghost is_found_by = { λ s passes. AreAsciiBytes (λ d. list_any (λ c. c == d) s.now) passes };
+    ghost is_found_by = { λ s. AreStarts (λ d. list_any (λ c. c == d) s.now) 1 };
 
-    ghost first_bytes = { λ s passes found. ascii_first_bytes (λ d. list_any (λ c. c == d) s.now) passes found };
+    ghost first_places = { λ _ _ found. found.first };
 
-    #[inline]
-    fn test(&self) -> Option<AsciiSet> {
-        ascii_set(*self)
-    }
-
-    #[tactic(auto, using(crate::specs::FirstBytes::ascii_end))]
     #[inline(always)]
-    fn end_at_mark(&self, _test: &AsciiSet, _text: &str, at: usize) -> Option<usize> {
+    fn end_at_mark(&self, _test: &Bytes<AsciiSet>, _text: &str, at: usize) -> Option<usize> {
         Some(at + 1)
     }
 }
 
 impl<'a> Pattern for &'a [char] {
-    type Searcher = Option<Marks<AsciiSet>>;
+    type Searcher = Option<Marks<Bytes<AsciiSet>>>;
 
     ghost ends = { λ s. char_ends (λ d. list_any (λ c. c == d) s.now) };
 
-    ghost is_ready = { λ s m text from. AreAhead (AreAsciiBytes (λ d. list_any (λ c. c == d) s.now)) (⟦<AsciiSet as ByteTest>⟧.passes) m text from };
+    ghost is_ready = { λ s m text from. AreAhead (AreStarts (λ d. list_any (λ c. c == d) s.now) 1) (⟦<Bytes<AsciiSet> as PlaceTest>⟧.places) m text from };
 
-    ghost is_ready_back = { λ s m text to. AreBehind (AreAsciiBytes (λ d. list_any (λ c. c == d) s.now)) (⟦<AsciiSet as ByteTest>⟧.passes) m text to };
+    ghost is_ready_back = { λ s m text to. AreBehind (AreStarts (λ d. list_any (λ c. c == d) s.now) 1) (⟦<Bytes<AsciiSet> as PlaceTest>⟧.places) m text to };
 
     #[inline]
-    fn searcher(&self, _text: &str, from: usize, to: usize) -> Option<Marks<AsciiSet>> {
-        marked_searcher(self, from, to)
+    fn searcher(&self, _text: &str, from: usize, to: usize) -> Option<Marks<Bytes<AsciiSet>>> {
+        Some(Marks::new(Bytes(ascii_set(*self)?), from, to))
     }
 
     #[inline(always)]
     fn next_match_by(
         &self,
-        searcher: &mut Option<Marks<AsciiSet>>,
+        searcher: &mut Option<Marks<Bytes<AsciiSet>>>,
         text: &str,
         from: usize,
     ) -> Option<(usize, usize)> {
@@ -203,7 +180,7 @@ impl<'a> ReversePattern for &'a [char] {
     #[inline(always)]
     fn last_match_by(
         &self,
-        searcher: &mut Option<Marks<AsciiSet>>,
+        searcher: &mut Option<Marks<Bytes<AsciiSet>>>,
         text: &str,
         to: usize,
     ) -> Option<(usize, usize)> {
@@ -229,16 +206,16 @@ impl<'a> ClonePattern for &'a [char] {
 impl<'a> DoubleEndedPattern for &'a [char] {}
 
 impl<'a, const N: usize> Pattern for &'a [char; N] {
-    type Searcher = Option<Marks<AsciiSet>>;
+    type Searcher = Option<Marks<Bytes<AsciiSet>>>;
 
     ghost ends = { λ s. char_ends (λ d. list_any (λ c. c == d) s.now) };
 
-    ghost is_ready = { λ s m text from. AreAhead (AreAsciiBytes (λ d. list_any (λ c. c == d) s.now)) (⟦<AsciiSet as ByteTest>⟧.passes) m text from };
+    ghost is_ready = { λ s m text from. AreAhead (AreStarts (λ d. list_any (λ c. c == d) s.now) 1) (⟦<Bytes<AsciiSet> as PlaceTest>⟧.places) m text from };
 
-    ghost is_ready_back = { λ s m text to. AreBehind (AreAsciiBytes (λ d. list_any (λ c. c == d) s.now)) (⟦<AsciiSet as ByteTest>⟧.passes) m text to };
+    ghost is_ready_back = { λ s m text to. AreBehind (AreStarts (λ d. list_any (λ c. c == d) s.now) 1) (⟦<Bytes<AsciiSet> as PlaceTest>⟧.places) m text to };
 
     #[inline]
-    fn searcher(&self, text: &str, from: usize, to: usize) -> Option<Marks<AsciiSet>> {
+    fn searcher(&self, text: &str, from: usize, to: usize) -> Option<Marks<Bytes<AsciiSet>>> {
         let set: &[char] = *self;
         set.searcher(text, from, to)
     }
@@ -246,7 +223,7 @@ impl<'a, const N: usize> Pattern for &'a [char; N] {
     #[inline(always)]
     fn next_match_by(
         &self,
-        searcher: &mut Option<Marks<AsciiSet>>,
+        searcher: &mut Option<Marks<Bytes<AsciiSet>>>,
         text: &str,
         from: usize,
     ) -> Option<(usize, usize)> {
@@ -267,7 +244,7 @@ impl<'a, const N: usize> ReversePattern for &'a [char; N] {
     #[inline(always)]
     fn last_match_by(
         &self,
-        searcher: &mut Option<Marks<AsciiSet>>,
+        searcher: &mut Option<Marks<Bytes<AsciiSet>>>,
         text: &str,
         to: usize,
     ) -> Option<(usize, usize)> {

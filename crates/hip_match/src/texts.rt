@@ -1,269 +1,206 @@
-//! Texts found in texts, by the vector searches of `memchr`.
+//! Texts found in texts, by the marks of up to four of their bytes.
 
 ghost use Rattle.std.proofs.Common.{rules};
-ghost use Rattle.std.specs.Prelude.{◌≡◌, ◌==◌, ◌<◌, length, string_bytes, IfSome};
+ghost use Rattle.std.specs.Prelude.{◌≡◌, ◌↔◌, ◌+◌, ◌-◌, ◌<◌, ◌≤◌, ℕ, IsTrue, length, min, string_bytes, IfSome, MatchOption};
 ghost use Rattle.std.specs.Str.{IsCharBoundary};
-ghost use Rattle.memchr.specs.Find.{FindsNeedle, FindsLastNeedle};
-ghost use Rattle.hip_match.specs.Occurrence.{IsNextMatch, IsLastMatch, start_of};
+ghost use Rattle.memchr.specs.Find.{IsFirst, IsLast, OccursAt};
+ghost use Rattle.hip_match.specs.Occurrence.{GoesOnAt, GoesOnBefore, IsNextMatch, IsLastMatch, start_of};
+ghost use Rattle.hip_match.specs.Marks.{Ahead, Behind, PassesAt, stands};
+ghost use Rattle.hip_match.specs.Needles.{bytes_of};
+ghost use Rattle.hip_match.specs.Searchers.{FindsAhead, FindsBehind, IsPart};
 ghost use Rattle.hip_match.specs.Texts.{text_ends};
-ghost use Rattle.hip_match.specs.Characters.{char_ends};
 ghost use Rattle.hip_match.specs.TextLaws.{text_ends-spans, text_ends-one_start};
 
+use crate::marks::{BackMarks, FrontMarks};
 use crate::pattern::{ClonePattern, Pattern, ReversePattern};
+use crate::place_test::{Needle, PlaceTest};
 use memchr::arch::all::packedpair::Pair;
-use memchr::arch::all::{is_prefix, is_suffix, packedpair};
-use memchr::memmem::{Finder, FinderRev};
-use memchr::{memchr, memmem, memrchr};
+use memchr::arch::all::{is_prefix, is_suffix};
+use memchr::{memmem, memrchr};
 
-/// The searcher of a text. Nothing is prepared for a short one.
-#[derive(Drop)]
-pub struct TextSearcher<'p> {
-    finder: Option<Prepared<'p>>,
-    reverse_finder: Option<PreparedBack<'p>>,
+/// Up to four bytes of a text, and the number of those before them.
+#[derive(Clone, Copy)]
+pub struct Part {
+    needle: Needle,
+    lead: usize,
 }
 
-// A prepared search from the front, and the position in the needle of the byte that is searched for first, if there is one.
-#[derive(Drop)]
-pub(crate) struct Prepared<'p> {
-    finder: Finder<'p>,
-    sign: Option<usize>,
+/// The searcher of a text: a part of it for each end, and the marks that are left of that part.
+#[derive(Clone, Copy)]
+pub struct TextSearcher {
+    first: Option<Part>,
+    front: FrontMarks,
+    last: Option<Part>,
+    back: BackMarks,
 }
 
-// Like `Prepared`, but for a search from the end.
-#[derive(Drop)]
-pub(crate) struct PreparedBack<'p> {
-    finder: FinderRev<'p>,
-    sign: Option<usize>,
-}
+// The number of places of a part that are tried before the search by `memchr` goes on.
+const TRIES: usize = 4;
 
-// The position in a needle of a rare byte, whose first place in a haystack mostly is where the needle stands: the last byte of one
-// character that isn't ASCII, else a punctuation mark, as separators have one.
+// The part of up to four bytes that ends at `at`, or begins the text where there are fewer.
 #[inline]
-fn sign_of(needle: &[u8]) -> Option<usize> {
-    if needle.len() <= 4 && !needle.is_ascii() {
-        return needle.len().checked_sub(1);
-    }
-    needle.iter().position(|byte| byte.is_ascii_punctuation())
-}
-
-// The prepared search for `needle` from the front. One byte and two have ways of their own.
-#[inline]
-fn finder_of<'p>(needle: &'p str) -> Option<Prepared<'p>>
-    ensures { IfSome result (λ f. f.finder ≡ needle.now) }
+fn part_at(needle: &[u8], at: usize) -> Option<Part>
+    requires { at ≤ length needle.now }
+    ensures { MatchOption result (length needle.now ≡ 0) (IsPart needle.now) }
 {
-    let wanted = needle.as_bytes();
-    if wanted.len() <= 2 {
-        return None;
-    }
-    Some(Prepared {
-        finder: Finder::new(wanted),
-        sign: sign_of(wanted),
+    let lead = at.saturating_sub(4);
+    Some(Part {
+        needle: Needle::new(&needle[lead..])?,
+        lead,
     })
 }
 
-// The prepared search for `needle` from the end.
+// The parts by which a text is found from its front and from its back: each ends with the byte that is the rarest in most texts, where
+// that stands first, or last.
 #[inline]
-fn reverse_finder_of<'p>(needle: &'p str) -> Option<PreparedBack<'p>>
-    ensures { IfSome result (λ f. f.finder ≡ needle.now) }
+fn parts_of(needle: &[u8]) -> (Option<Part>, Option<Part>)
+    ensures first { MatchOption result.0 (length needle.now ≡ 0) (IsPart needle.now) }
+    ensures last { MatchOption result.1 (length needle.now ≡ 0) (IsPart needle.now) }
+{
+    if needle.len() <= 4 {
+        let whole = part_at(needle, 0);
+        return (whole, whole);
+    }
+    let rarest = match Pair::new(needle) {
+        Some(pair) => pair.index1() as usize,
+        None => 0,
+    };
+    let last = memrchr(needle[rarest], needle).unwrap_or(rarest);
+    (part_at(needle, rarest + 1), part_at(needle, last + 1))
+}
+
+// The searcher of `needle` over what lies between two places.
+#[inline]
+fn searcher_of(needle: &str, text: &str, from: usize, to: usize) -> TextSearcher
+    ensures front { from ≤ length text.now → FindsAhead needle.now result text.now from }
+    ensures back { to ≤ length text.now → FindsBehind needle.now result text.now to }
 {
     let wanted = needle.as_bytes();
-    if wanted.len() <= 1 {
-        return None;
-    }
-    Some(PreparedBack {
-        finder: FinderRev::new(wanted),
-        sign: wanted.iter().rposition(|byte| byte.is_ascii_punctuation()),
-    })
-}
-
-// The first place of `hay` where the bytes of `needle` stand, by its prepared search if there is one.
-#[inline]
-fn place_by(finder: &Option<Prepared<'_>>, hay: &[u8], needle: &[u8]) -> Option<usize>
-    requires { IfSome finder.now (λ f. f.finder ≡ needle.now) }
-    ensures { FindsNeedle hay.now needle.now 0 result }
-{
-    match finder {
-        Some(prepared) => prepared.finder.find(hay),
-        None => memmem::find(hay, needle),
+    let (first, last) = parts_of(wanted);
+    let start = match first {
+        Some(part) => text.len().min(from.saturating_add(part.lead)),
+        None => from,
+    };
+    let stop = match last {
+        Some(part) => to.saturating_sub(wanted.len() - 1 - part.lead),
+        None => to,
+    };
+    TextSearcher {
+        first,
+        front: FrontMarks::new(start),
+        last,
+        back: BackMarks::new(stop),
     }
 }
 
-// Like `place_by`, but tries first where the needle's byte at `sign` first stands. Where the needle isn't there, the search goes on behind
-// that place.
-#[inline]
-fn near_place(
-    finder: &Option<Prepared<'_>>,
-    hay: &[u8],
-    needle: &[u8],
-    sign: usize,
-) -> Option<usize>
-    requires within { sign < length needle.now }
-    requires prepared { IfSome finder.now (λ f. f.finder ≡ needle.now) }
-    ensures { FindsNeedle hay.now needle.now 0 result }
-{
-    let at = memchr(needle[sign], hay)?;
-    if at >= sign && is_prefix(&hay[at - sign..], needle) {
-        return Some(at - sign);
-    }
-    let past = (at + 1).saturating_sub(sign);
-    Some(past + place_by(finder, &hay[past..], needle)?)
-}
-
-// The first place of `hay` where the two bytes of `needle` stand.
-#[inline]
-fn pair_place(hay: &[u8], needle: &[u8]) -> Option<usize>
-    requires { length needle.now ≡ 2 }
-    ensures { FindsNeedle hay.now needle.now 0 result }
-{
-    let pair = Pair::with_indices(needle, 0, 1)?;
-    packedpair::Finder::with_pair(needle, pair).find_prefilter(hay)
-}
-
-// The first place of `hay` where the bytes of `needle` stand, of which there are none or more than one. Two bytes are searched for as a
-// pair; a longer needle is tried first at its byte at `sign`, or where the search begins. It is a function apart, so that the search for
-// one byte is short enough to be inlined.
-#[inline(never)]
-fn first_wide_place(finder: &Option<Prepared<'_>>, hay: &[u8], needle: &[u8]) -> Option<usize>
-    requires { IfSome finder.now (λ f. f.finder ≡ needle.now) }
-    ensures { FindsNeedle hay.now needle.now 0 result }
-{
-    if needle.len() == 2 {
-        return pair_place(hay, needle);
-    }
-    if needle.len() <= 2 {
-        return place_by(finder, hay, needle);
-    }
-    let last = needle.len() - 1;
-    match finder {
-        Some(
-            Prepared {
-                sign: Some(sign),
-                ..
-            },
-        ) => near_place(finder, hay, needle, (*sign).min(last)),
-        None if last < 4 && needle[0] >= 0x80 => near_place(finder, hay, needle, last),
-        _ if is_prefix(hay, needle) => Some(0),
-        _ => place_by(finder, hay, needle),
-    }
-}
-
-// The first place of `hay` where the bytes of `needle` stand. One byte has a search of its own.
+// Whether `needle` stands where a part of it does at `at`.
+#[tactic(auto, using(crate::proofs::TextLemmas::whole))]
 #[inline(always)]
-fn first_place(finder: &Option<Prepared<'_>>, hay: &[u8], needle: &[u8]) -> Option<usize>
-    requires { IfSome finder.now (λ f. f.finder ≡ needle.now) }
-    ensures { FindsNeedle hay.now needle.now 0 result }
+fn stands_whole(bytes: &[u8], at: usize, needle: &[u8], part: Part) -> bool
+    requires within { at ≤ length bytes.now }
+    requires part { IsPart needle.now part }
+    requires stands { PassesAt (stands (bytes_of part.needle)) bytes.now at }
+    ensures { IsTrue result ↔ (part.lead ≤ at) × OccursAt bytes.now needle.now (at - part.lead) }
 {
-    if needle.len() == 1 {
-        return memchr(needle[0], hay);
-    }
-    first_wide_place(finder, hay, needle)
+    needle.len() == part.needle.reach() + 1
+        || part.lead <= at && is_prefix(&bytes[at - part.lead..], needle)
 }
 
-// The last place of `hay` where the bytes of `needle` stand, by its prepared search if there is one.
-#[inline]
-fn last_place_by(finder: &Option<PreparedBack<'_>>, hay: &[u8], needle: &[u8]) -> Option<usize>
-    requires { IfSome finder.now (λ f. f.finder ≡ needle.now) }
-    ensures { FindsLastNeedle hay.now needle.now result }
-{
-    match finder {
-        Some(prepared) => prepared.finder.rfind(hay),
-        None => memmem::rfind(hay, needle),
-    }
-}
-
-// Like `last_place_by`, but tries first where the needle's byte at `sign` last stands.
-#[inline]
-fn last_near_place(
-    finder: &Option<PreparedBack<'_>>,
-    hay: &[u8],
-    needle: &[u8],
-    sign: usize,
-) -> Option<usize>
-    requires within { sign < length needle.now }
-    requires prepared { IfSome finder.now (λ f. f.finder ≡ needle.now) }
-    ensures { FindsLastNeedle hay.now needle.now result }
-{
-    let at = memrchr(needle[sign], hay)?;
-    if at >= sign && is_prefix(&hay[at - sign..], needle) {
-        return Some(at - sign);
-    }
-    last_place_by(finder, hay, needle)
-}
-
-// Like `last_place_by`, but tries first the last two places where the needle's last byte stands.
-#[inline]
-fn last_second_place(finder: &Option<PreparedBack<'_>>, hay: &[u8], needle: &[u8]) -> Option<usize>
-    requires some { 0 < length needle.now }
-    requires prepared { IfSome finder.now (λ f. f.finder ≡ needle.now) }
-    ensures { FindsLastNeedle hay.now needle.now result }
-{
-    let back = needle.len() - 1;
-    let at = memrchr(needle[back], hay)?;
-    if at >= back && is_prefix(&hay[at - back..], needle) {
-        return Some(at - back);
-    }
-    last_near_place(finder, &hay[..at], needle, back)
-}
-
-// The last place of `hay` where a needle of more than four bytes, or of none, stands. It is tried first at its byte at `sign`, or at the
-// end.
-#[inline(never)]
-fn last_long_place(finder: &Option<PreparedBack<'_>>, hay: &[u8], needle: &[u8]) -> Option<usize>
-    requires { IfSome finder.now (λ f. f.finder ≡ needle.now) }
-    ensures { FindsLastNeedle hay.now needle.now result }
-{
-    match finder {
-        Some(
-            PreparedBack {
-                sign: Some(sign),
-                ..
-            },
-        ) if *sign < needle.len() => { last_near_place(finder, hay, needle, *sign) }
-        _ if is_suffix(hay, needle) => Some(hay.len() - needle.len()),
-        _ => last_place_by(finder, hay, needle),
-    }
-}
-
-// The last place of `hay` where the bytes of `needle` stand.
-#[inline]
-fn last_place(finder: &Option<PreparedBack<'_>>, hay: &[u8], needle: &[u8]) -> Option<usize>
-    requires { IfSome finder.now (λ f. f.finder ≡ needle.now) }
-    ensures { FindsLastNeedle hay.now needle.now result }
-{
-    if needle.len() == 1 {
-        return memrchr(needle[0], hay);
-    }
-    if needle.len() >= 2 && needle.len() <= 4 {
-        return last_second_place(finder, hay, needle);
-    }
-    last_long_place(finder, hay, needle)
-}
-
-// The first occurrence of `needle` at or after `from`, by its prepared search if there is one.
-#[tactic(auto, using(crate::proofs::TextLemmas::find_empty))]
+// The first place at or after `from` where the bytes of `needle` stand. Where a part of it misleads again and again, it is searched for.
 #[inline(always)]
-pub(crate) fn find_text(
+fn first_place(
+    front: &mut FrontMarks,
+    part: Part,
+    bytes: &[u8],
+    needle: &[u8],
+    from: usize,
+) -> Option<usize>
+    requires within { from ≤ length bytes.now }
+    requires part { IsPart needle.now part }
+    requires ready { Ahead (stands (bytes_of part.needle)) bytes.now (min (length bytes.now) (from + part.lead)) front.old.next front.old.bits }
+    ensures found { IsFirst (OccursAt bytes.now needle.now) from (length bytes.now) result }
+    ensures ahead { IfSome result (λ k. Ahead (stands (bytes_of part.needle)) bytes.now
+        (min (length bytes.now) (k + length needle.now + part.lead)) front.new.next front.new.bits) }
+{
+    let (len, width, lead) = (bytes.len(), needle.len(), part.lead);
+    let mut past = from;
+    let mut tries = 0;
+    while tries < TRIES {
+        let at = front.next_needle(part.needle, bytes, len.min(past + lead))?;
+        let start = at - lead;
+        if stands_whole(bytes, at, needle, part) {
+            front.skip_to(len.min(at + width));
+            return Some(start);
+        }
+        past = start + 1;
+        tries += 1;
+    }
+    let start = past + memmem::find(&bytes[past..], needle)?;
+    front.skip_to(len.min(start + width + lead));
+    Some(start)
+}
+
+// The last place where the bytes of `needle` stand and end at or before `to`. It searches as `first_place` does.
+#[inline(always)]
+fn last_place(
+    back: &mut BackMarks,
+    part: Part,
+    bytes: &[u8],
+    needle: &[u8],
+    to: usize,
+) -> Option<usize>
+    requires within { to ≤ length bytes.now }
+    requires part { IsPart needle.now part }
+    requires ready { Behind (stands (bytes_of part.needle)) bytes.now (to - (length needle.now - 1 - part.lead)) back.old.start back.old.bits }
+    ensures found { IsLast (OccursAt bytes.now needle.now) 0 (to - (length needle.now - 1)) result }
+    ensures behind { IfSome result (λ k. Behind (stands (bytes_of part.needle)) bytes.now
+        (k - (length needle.now - 1 - part.lead)) back.new.start back.new.bits) }
+{
+    let rest = needle.len() - 1 - part.lead;
+    let mut stop = to.saturating_sub(rest);
+    let mut tries = 0;
+    while tries < TRIES {
+        let at = back.last_needle(part.needle, bytes, stop)?;
+        if stands_whole(bytes, at, needle, part) {
+            let start = at - part.lead;
+            back.skip_to(start.saturating_sub(rest));
+            return Some(start);
+        }
+        stop = at;
+        tries += 1;
+    }
+    let start = memmem::rfind(&bytes[..bytes.len().min(stop + rest)], needle)?;
+    back.skip_to(start.saturating_sub(rest));
+    Some(start)
+}
+
+// The first occurrence of `needle` at or after `from`, by its searcher. An empty one has no parts.
+#[tactic(auto, using(crate::proofs::TextLemmas::find_empty, crate::proofs::TextLemmas::next_match))]
+#[inline(always)]
+fn find_text(
     text: &str,
     needle: &str,
-    finder: &Option<Prepared<'_>>,
+    searcher: &mut TextSearcher,
     from: usize,
 ) -> Option<(usize, usize)>
     requires boundary { IsCharBoundary text.now from }
-    requires prepared { IfSome finder.now (λ f. f.finder ≡ needle.now) }
-    ensures { IsNextMatch (text_ends needle.now text.now) from result }
+    requires ready { FindsAhead needle.now searcher.old text.now from }
+    ensures found { IsNextMatch (text_ends needle.now text.now) from result }
+    ensures front { IfSome result (λ m. (k : ℕ) → GoesOnAt m k → FindsAhead needle.now searcher.new text.now k) }
+    ensures back { (to : ℕ) → FindsBehind needle.now searcher.old text.now to → FindsBehind needle.now searcher.new text.now to }
 {
     let wanted = needle.as_bytes();
-    if wanted.is_empty() {
+    let Some(part) = searcher.first else {
         return Some((from, from));
-    }
-    let start = from + first_place(finder, &text.as_bytes()[from..], wanted)?;
+    };
+    let start = first_place(&mut searcher.front, part, text.as_bytes(), wanted, from)?;
     Some((start, start + wanted.len()))
 }
 
 // The end of the occurrence of `needle` that starts at `at`.
 #[tactic(auto, using(crate::proofs::Rules::text_at))]
 #[inline]
-pub(crate) fn text_at(text: &str, needle: &str, at: usize) -> Option<usize>
+fn text_at(text: &str, needle: &str, at: usize) -> Option<usize>
     requires { IsCharBoundary text.now at }
     ensures { result ≡ text_ends needle.now text.now at }
 {
@@ -274,31 +211,33 @@ pub(crate) fn text_at(text: &str, needle: &str, at: usize) -> Option<usize>
     None
 }
 
-// The last occurrence of `needle` that ends at or before `to`, by its prepared search if there is one.
-#[tactic(auto, using(crate::proofs::TextLemmas::rfind_empty))]
-#[inline]
-pub(crate) fn rfind_text(
+// The last occurrence of `needle` that ends at or before `to`, by its searcher. An empty one has no parts.
+#[tactic(auto, using(crate::proofs::TextLemmas::rfind_empty, crate::proofs::TextLemmas::last_match))]
+#[inline(always)]
+fn rfind_text(
     text: &str,
     needle: &str,
-    finder: &Option<PreparedBack<'_>>,
+    searcher: &mut TextSearcher,
     to: usize,
 ) -> Option<(usize, usize)>
     requires boundary { IsCharBoundary text.now to }
-    requires prepared { IfSome finder.now (λ f. f.finder ≡ needle.now) }
-    ensures { IsLastMatch (text_ends needle.now text.now) to result }
+    requires ready { FindsBehind needle.now searcher.old text.now to }
+    ensures found { IsLastMatch (text_ends needle.now text.now) to result }
+    ensures back { IfSome result (λ m. (k : ℕ) → GoesOnBefore m k → FindsBehind needle.now searcher.new text.now k) }
+    ensures front { (from : ℕ) → FindsAhead needle.now searcher.old text.now from → FindsAhead needle.now searcher.new text.now from }
 {
     let wanted = needle.as_bytes();
-    if wanted.is_empty() {
+    let Some(part) = searcher.last else {
         return Some((to, to));
-    }
-    let start = last_place(finder, &text.as_bytes()[..to], wanted)?;
+    };
+    let start = last_place(&mut searcher.back, part, text.as_bytes(), wanted, to)?;
     Some((start, start + wanted.len()))
 }
 
 // The start of the occurrence of `needle` that ends at `to`.
 #[tactic(auto, using(crate::proofs::Rules::text_before))]
 #[inline]
-pub(crate) fn text_before(text: &str, needle: &str, to: usize) -> Option<usize>
+fn text_before(text: &str, needle: &str, to: usize) -> Option<usize>
     requires { IsCharBoundary text.now to }
     ensures { result ≡ start_of (text_ends needle.now text.now) to }
 {
@@ -309,56 +248,28 @@ pub(crate) fn text_before(text: &str, needle: &str, to: usize) -> Option<usize>
     None
 }
 
-// The first occurrence of the character `c` at or after `from`.
-#[inline(always)]
-pub(crate) fn find_char(text: &str, c: char, from: usize) -> Option<(usize, usize)>
-    requires { IsCharBoundary text.now from }
-    ensures { IsNextMatch (char_ends (λ d. d == c) text.now) from result }
-{
-    let mut room = [0; 4];
-    find_text(text, c.encode_utf8(&mut room), &None, from)
-}
-
-// The last occurrence of the character `c` that ends at or before `to`.
-#[inline]
-pub(crate) fn rfind_char(text: &str, c: char, to: usize) -> Option<(usize, usize)>
-    requires { IsCharBoundary text.now to }
-    ensures { IsLastMatch (char_ends (λ d. d == c) text.now) to result }
-{
-    let mut room = [0; 4];
-    rfind_text(text, c.encode_utf8(&mut room), &None, to)
-}
-
 impl<'p> Pattern for &'p str {
-    type Searcher = TextSearcher<'p>;
+    type Searcher = TextSearcher;
 
     ghost ends = { λ p. text_ends p.now };
 
-    ghost is_ready = { λ p s _ _. IfSome s.finder (λ f. f.finder ≡ p.now) };
+    ghost is_ready = { λ p s text from. FindsAhead p.now s text from };
 
-    ghost is_ready_back = { λ p s _ _. IfSome s.reverse_finder (λ f. f.finder ≡ p.now) };
-
-    #[inline]
-    fn searcher(&self, _text: &str, _from: usize, _to: usize) -> TextSearcher<'p> {
-        TextSearcher {
-            finder: finder_of(*self),
-            reverse_finder: None,
-        }
-    }
+    ghost is_ready_back = { λ p s text to. FindsBehind p.now s text to };
 
     #[inline]
-    fn next_match(&self, text: &str, from: usize) -> Option<(usize, usize)> {
-        find_text(text, *self, &None, from)
+    fn searcher(&self, text: &str, from: usize, to: usize) -> TextSearcher {
+        searcher_of(*self, text, from, to)
     }
 
     #[inline(always)]
     fn next_match_by(
         &self,
-        searcher: &mut TextSearcher<'p>,
+        searcher: &mut TextSearcher,
         text: &str,
         from: usize,
     ) -> Option<(usize, usize)> {
-        find_text(text, *self, &searcher.finder, from)
+        find_text(text, *self, searcher, from)
     }
 
     #[inline]
@@ -374,27 +285,14 @@ impl<'p> ClonePattern for &'p str {
 }
 
 impl<'p> ReversePattern for &'p str {
-    #[inline]
-    fn reverse_searcher(&self, _text: &str, _from: usize, _to: usize) -> TextSearcher<'p> {
-        TextSearcher {
-            finder: None,
-            reverse_finder: reverse_finder_of(*self),
-        }
-    }
-
-    #[inline]
-    fn last_match(&self, text: &str, to: usize) -> Option<(usize, usize)> {
-        rfind_text(text, *self, &None, to)
-    }
-
-    #[inline]
+    #[inline(always)]
     fn last_match_by(
         &self,
-        searcher: &mut TextSearcher<'p>,
+        searcher: &mut TextSearcher,
         text: &str,
         to: usize,
     ) -> Option<(usize, usize)> {
-        rfind_text(text, *self, &searcher.reverse_finder, to)
+        rfind_text(text, *self, searcher, to)
     }
 
     #[inline]
@@ -406,35 +304,27 @@ impl<'p> ReversePattern for &'p str {
 }
 
 impl<'p, 'q> Pattern for &'q &'p str {
-    type Searcher = TextSearcher<'p>;
+    type Searcher = TextSearcher;
 
     ghost ends = { λ p. text_ends p.now.now };
 
-    ghost is_ready = { λ p s _ _. IfSome s.finder (λ f. f.finder ≡ p.now.now) };
+    ghost is_ready = { λ p s text from. FindsAhead p.now.now s text from };
 
-    ghost is_ready_back = { λ p s _ _. IfSome s.reverse_finder (λ f. f.finder ≡ p.now.now) };
-
-    #[inline]
-    fn searcher(&self, _text: &str, _from: usize, _to: usize) -> TextSearcher<'p> {
-        TextSearcher {
-            finder: finder_of(**self),
-            reverse_finder: None,
-        }
-    }
+    ghost is_ready_back = { λ p s text to. FindsBehind p.now.now s text to };
 
     #[inline]
-    fn next_match(&self, text: &str, from: usize) -> Option<(usize, usize)> {
-        find_text(text, **self, &None, from)
+    fn searcher(&self, text: &str, from: usize, to: usize) -> TextSearcher {
+        searcher_of(**self, text, from, to)
     }
 
     #[inline(always)]
     fn next_match_by(
         &self,
-        searcher: &mut TextSearcher<'p>,
+        searcher: &mut TextSearcher,
         text: &str,
         from: usize,
     ) -> Option<(usize, usize)> {
-        find_text(text, **self, &searcher.finder, from)
+        find_text(text, **self, searcher, from)
     }
 
     #[inline]
@@ -450,27 +340,14 @@ impl<'p, 'q> ClonePattern for &'q &'p str {
 }
 
 impl<'p, 'q> ReversePattern for &'q &'p str {
-    #[inline]
-    fn reverse_searcher(&self, _text: &str, _from: usize, _to: usize) -> TextSearcher<'p> {
-        TextSearcher {
-            finder: None,
-            reverse_finder: reverse_finder_of(**self),
-        }
-    }
-
-    #[inline]
-    fn last_match(&self, text: &str, to: usize) -> Option<(usize, usize)> {
-        rfind_text(text, **self, &None, to)
-    }
-
-    #[inline]
+    #[inline(always)]
     fn last_match_by(
         &self,
-        searcher: &mut TextSearcher<'p>,
+        searcher: &mut TextSearcher,
         text: &str,
         to: usize,
     ) -> Option<(usize, usize)> {
-        rfind_text(text, **self, &searcher.reverse_finder, to)
+        rfind_text(text, **self, searcher, to)
     }
 
     #[inline]
@@ -482,35 +359,27 @@ impl<'p, 'q> ReversePattern for &'q &'p str {
 }
 
 impl<'p> Pattern for &'p String {
-    type Searcher = TextSearcher<'p>;
+    type Searcher = TextSearcher;
 
     ghost ends = { λ p. text_ends (string_bytes p.now) };
 
-    ghost is_ready = { λ p s _ _. IfSome s.finder (λ f. f.finder ≡ string_bytes p.now) };
+    ghost is_ready = { λ p s text from. FindsAhead (string_bytes p.now) s text from };
 
-    ghost is_ready_back = { λ p s _ _. IfSome s.reverse_finder (λ f. f.finder ≡ string_bytes p.now) };
-
-    #[inline]
-    fn searcher(&self, _text: &str, _from: usize, _to: usize) -> TextSearcher<'p> {
-        TextSearcher {
-            finder: finder_of(self.as_str()),
-            reverse_finder: None,
-        }
-    }
+    ghost is_ready_back = { λ p s text to. FindsBehind (string_bytes p.now) s text to };
 
     #[inline]
-    fn next_match(&self, text: &str, from: usize) -> Option<(usize, usize)> {
-        find_text(text, self.as_str(), &None, from)
+    fn searcher(&self, text: &str, from: usize, to: usize) -> TextSearcher {
+        searcher_of(self.as_str(), text, from, to)
     }
 
     #[inline(always)]
     fn next_match_by(
         &self,
-        searcher: &mut TextSearcher<'p>,
+        searcher: &mut TextSearcher,
         text: &str,
         from: usize,
     ) -> Option<(usize, usize)> {
-        find_text(text, self.as_str(), &searcher.finder, from)
+        find_text(text, self.as_str(), searcher, from)
     }
 
     #[inline]
@@ -526,27 +395,14 @@ impl<'p> ClonePattern for &'p String {
 }
 
 impl<'p> ReversePattern for &'p String {
-    #[inline]
-    fn reverse_searcher(&self, _text: &str, _from: usize, _to: usize) -> TextSearcher<'p> {
-        TextSearcher {
-            finder: None,
-            reverse_finder: reverse_finder_of(self.as_str()),
-        }
-    }
-
-    #[inline]
-    fn last_match(&self, text: &str, to: usize) -> Option<(usize, usize)> {
-        rfind_text(text, self.as_str(), &None, to)
-    }
-
-    #[inline]
+    #[inline(always)]
     fn last_match_by(
         &self,
-        searcher: &mut TextSearcher<'p>,
+        searcher: &mut TextSearcher,
         text: &str,
         to: usize,
     ) -> Option<(usize, usize)> {
-        rfind_text(text, self.as_str(), &searcher.reverse_finder, to)
+        rfind_text(text, self.as_str(), searcher, to)
     }
 
     #[inline]

@@ -1,4 +1,5 @@
 //! The range of a text without matches, or white space, at its ends.
+#![tactic(auto, using(crate::proofs::Rules::trim))]
 
 ghost use Rattle.std.specs.Prelude.{◌≡◌, length, IfSome};
 ghost use Rattle.std.specs.Char.{is_whitespace};

@@ -1,4 +1,5 @@
 //! The runs of a text between white space.
+#![tactic(auto, using(crate::proofs::Rules::white_space))]
 
 ghost use Rattle.std.specs.Prelude.{◌≡◌, IfSome};
 ghost use Rattle.std.proofs.Common.{refl};
@@ -7,17 +8,18 @@ ghost use Rattle.hip_match.specs.Clones.{made_kept};
 ghost use Rattle.hip_match.specs.Iterators.{Gives};
 ghost use Rattle.hip_match.specs.Characters.{char_ends};
 ghost use Rattle.hip_match.specs.CharLaws.{char_ends-spans, char_ends-one_start, char_ends-one_char};
-ghost use Rattle.hip_match.specs.MarkedSets.{AreFirstBytes};
+ghost use Rattle.hip_match.specs.MarkedSets.{AreFirstPlaces};
 ghost use Rattle.hip_match.specs.Searchers.{AreAhead, AreBehind};
 ghost use Rattle.hip_match.specs.Runs.{nonempty, split_ascii_whitespace, split_whitespace};
 
 use crate::ascii_set::AsciiSet;
-use crate::byte_test::{ByteTest, SpaceLeads};
+use crate::byte_test::SpaceLeads;
 use crate::chars::{CharSet, end_of, start_before};
 use crate::marked_parts::MarkedParts;
-use crate::marked_set::{MarkedSet, last_marked, marked_searcher, next_marked};
+use crate::marked_set::{MarkedSet, last_marked, next_marked};
 use crate::marks::Marks;
 use crate::pattern::{ClonePattern, DoubleEndedPattern, OneChar, Pattern, ReversePattern};
+use crate::place_test::{Bytes, PlaceTest};
 use crate::ranges::{CloneRanges, Ranges, RangesBack};
 use crate::split::Split;
 
@@ -40,41 +42,36 @@ impl CharSet for WhiteSpace {
 }
 
 impl MarkedSet for WhiteSpace {
-    type Test = SpaceLeads;
+    type Test = Bytes<SpaceLeads>;
 
-    ghost is_found_by = { λ _ passes. AreFirstBytes is_whitespace passes };
+    ghost is_found_by = { λ _. AreFirstPlaces is_whitespace };
 
-    ghost first_bytes = { λ _ _ found. found };
-
-    #[inline]
-    fn test(&self) -> Option<SpaceLeads> {
-        Some(SpaceLeads)
-    }
+    ghost first_places = { λ _ _ found. found };
 
     #[inline(always)]
-    fn end_at_mark(&self, _test: &SpaceLeads, text: &str, at: usize) -> Option<usize> {
+    fn end_at_mark(&self, _test: &Bytes<SpaceLeads>, text: &str, at: usize) -> Option<usize> {
         end_of(self, text, at)
     }
 }
 
 impl Pattern for WhiteSpace {
-    type Searcher = Option<Marks<SpaceLeads>>;
+    type Searcher = Option<Marks<Bytes<SpaceLeads>>>;
 
     ghost ends = { λ _. char_ends is_whitespace };
 
-    ghost is_ready = { λ _ m text from. AreAhead (AreFirstBytes is_whitespace) (⟦<SpaceLeads as ByteTest>⟧.passes) m text from };
+    ghost is_ready = { λ _ m text from. AreAhead (AreFirstPlaces is_whitespace) (⟦<Bytes<SpaceLeads> as PlaceTest>⟧.places) m text from };
 
-    ghost is_ready_back = { λ _ m text to. AreBehind (AreFirstBytes is_whitespace) (⟦<SpaceLeads as ByteTest>⟧.passes) m text to };
+    ghost is_ready_back = { λ _ m text to. AreBehind (AreFirstPlaces is_whitespace) (⟦<Bytes<SpaceLeads> as PlaceTest>⟧.places) m text to };
 
     #[inline]
-    fn searcher(&self, _text: &str, from: usize, to: usize) -> Option<Marks<SpaceLeads>> {
-        marked_searcher(self, from, to)
+    fn searcher(&self, _text: &str, from: usize, to: usize) -> Option<Marks<Bytes<SpaceLeads>>> {
+        Some(Marks::new(Bytes(SpaceLeads), from, to))
     }
 
     #[inline(always)]
     fn next_match_by(
         &self,
-        searcher: &mut Option<Marks<SpaceLeads>>,
+        searcher: &mut Option<Marks<Bytes<SpaceLeads>>>,
         text: &str,
         from: usize,
     ) -> Option<(usize, usize)> {
@@ -93,7 +90,7 @@ impl ReversePattern for WhiteSpace {
     #[inline(always)]
     fn last_match_by(
         &self,
-        searcher: &mut Option<Marks<SpaceLeads>>,
+        searcher: &mut Option<Marks<Bytes<SpaceLeads>>>,
         text: &str,
         to: usize,
     ) -> Option<(usize, usize)> {

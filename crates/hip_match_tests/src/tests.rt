@@ -7,6 +7,7 @@ mod cuts;
 mod each_way;
 mod lanes;
 mod laws;
+mod places;
 mod scripts;
 mod sets;
 mod support;

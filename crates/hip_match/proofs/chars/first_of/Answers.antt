@@ -1,12 +1,7 @@
-use Rattle.std.proofs.lemmas.Bool.Decides.{nat_tests}
-use Rattle.std.proofs.lemmas.Grind.{common_steps}
 use Rattle.std.proofs.Common.{slice_index, ap, sym, ◌∙◌, arith}
-use Rattle.hip_match.specs.CharLaws.{char_at-end, char_at-ascii}
-use Rattle.hip_match.proofs.SetLemmas.{ends_here, first_step, first_done, moved}
+use Rattle.hip_match.specs.CharLaws.{char_at-ascii}
+use Rattle.hip_match.proofs.SetLemmas.{first_step, moved}
 use Rattle.hip_match.proofs.chars.first_of.Goals as goal
-
-pub returns-then-has : goal.returns-then-has
-returns-then-has g c = grind (arith, nat_tests, common_steps, char_at-ascii, ends_here)
 
 pub loop-at-preserved-then-first-lt128 : goal.loop-at-preserved-then-first-lt128
 loop-at-preserved-then-first-lt128 g c =
@@ -20,8 +15,4 @@ loop-at-preserved g c =
     (found.1, omega (arith, found.0, c.loop-at.invariant.1), first_step _ c.args.text.now c.utf8.text _ _ _ _ c.wide_char_from-c.ensures (sym c.has-in-loop-at.ensures ∙ c.if-has-2.false) c.loop-at.invariant.2)
 
 pub loop-at-smaller : goal.loop-at-smaller
-loop-at-smaller g c =
-    omega (arith, c.loop-at-test.true, c.as_bytes-bytes.ensures.len, (moved c.args.text.now _ _ _ c.utf8.text c.wide_char_from-c.ensures).0)
-
-pub returns : goal.returns
-returns g c = grind (arith, nat_tests, common_steps, first_done, char_at-end)
+loop-at-smaller g c = omega (arith, c.loop-at-test.true, c.as_bytes-bytes.ensures.len, (moved c.args.text.now _ _ _ c.utf8.text c.wide_char_from-c.ensures).0)

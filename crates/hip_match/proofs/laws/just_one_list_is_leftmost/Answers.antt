@@ -5,5 +5,4 @@ pub returns-clause-is : goal.returns-clause-is
 returns-clause-is g c = leftmost-is _ _ (λ a b is. let span = g.met.P.Pattern.spans _ _ a b c.utf8.text is in (span.ordered, span.end.0))
 
 pub returns-clause-only : goal.returns-clause-only
-returns-clause-only g c l h =
-    leftmost-unique _ l _ 0 h (leftmost-is _ _ (λ a b is. let span = g.met.P.Pattern.spans _ _ a b c.utf8.text is in (span.ordered, span.end.0)))
+returns-clause-only g c l h = leftmost-unique _ l _ 0 h (leftmost-is _ _ (λ a b is. let span = g.met.P.Pattern.spans _ _ a b c.utf8.text is in (span.ordered, span.end.0)))

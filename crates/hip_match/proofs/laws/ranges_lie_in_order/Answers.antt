@@ -4,8 +4,7 @@ use Rattle.hip_match.proofs.OrderLemmas.{gaps-InOrder, ended-InOrder, without_em
 use Rattle.hip_match.proofs.laws.ranges_lie_in_order.Goals as goal
 
 pub returns-clause-matches : goal.returns-clause-matches
-returns-clause-matches g c =
-    leftmost_between-InOrder _ 0 (length c.args.text.now) (λ a b is. (g.met.P.Pattern.spans _ _ a b c.utf8.text is).ordered) (omega arith)
+returns-clause-matches g c = leftmost_between-InOrder _ 0 (length c.args.text.now) (λ a b is. (g.met.P.Pattern.spans _ _ a b c.utf8.text is).ordered) (omega arith)
 
 pub returns-clause-split : goal.returns-clause-split
 returns-clause-split g c = gaps-InOrder _ 0 _ (returns-clause-matches g c)

@@ -1,7 +1,5 @@
-use Rattle.std.proofs.Common.{◌≡◌, ◌∙◌, ℕ, List, None, Some, subst, sym, arith}
-use Rattle.memchr.specs.Find.{IsLast, Passes}
+use Rattle.std.proofs.Common.{arith, sym}
 use Rattle.hip_match.specs.CharLaws.{char_ends-one_char}
-use Rattle.hip_match.specs.Marks.{Behind}
 use Rattle.hip_match.proofs.MarkedSetLemmas.{beyond-new, beyond_it, ends_last, none_before}
 use Rattle.hip_match.proofs.marked_set.last_marked.Goals as goal
 
@@ -9,34 +7,21 @@ pub returns-in-Some-end_at_mark-clause-found : goal.returns-in-Some-end_at_mark-
 returns-in-Some-end_at_mark-clause-found g c =
     let inv = c.loop-at.invariant in
     let at = c.in-Some-last.at in
-    let first = g.met.S.MarkedSet.first_bytes _ _ inv.0 in
-    let found = subst (λ (l : List ℕ). IsLast (Passes (g.S.Test.ByteTest.passes c.loop-at.marks.test) l) 0 c.loop-at.past (Some at)) c.as_bytes-bytes.ensures.value c.in-Some-last.ensures.found in
-    ends_last _ _ first c.args.text.now c.utf8.text c.args.to c.loop-at.past inv.3 at c.in-Some-end_at_mark.end c.requires.boundary inv.2 found (sym c.in-Some-end_at_mark.ensures)
+    let found = rw c.as_bytes-bytes.ensures.value at c.in-Some-last.ensures.found in
+    ends_last _ _ (g.met.S.MarkedSet.first_places _ _ inv.0) c.args.text.now c.utf8.text c.args.to c.loop-at.past inv.3 at c.in-Some-end_at_mark.end c.requires.boundary inv.2 found (sym c.in-Some-end_at_mark.ensures)
 
 pub returns-in-Some-end_at_mark-clause-back : goal.returns-in-Some-end_at_mark-clause-back
 returns-in-Some-end_at_mark-clause-back g c k goes =
     let at = c.in-Some-last.at in
     let one = char_ends-one_char (g.S.CharSet.belongs c.args.set.now) c.args.text.now at c.in-Some-end_at_mark.end c.utf8.text (sym c.in-Some-end_at_mark.ensures) in
-    let same : k ≡ at = goes.1 one.holds in
-    let behind = subst (λ (l : List ℕ). Behind (g.S.Test.ByteTest.passes c.loop-at.marks.test) l at c.last.new.self.start c.last.new.self.bits) c.as_bytes-bytes.ensures.value c.in-Some-last.ensures.behind in
-    (c.loop-at.invariant.0, rw same behind)
+    let behind = rw c.as_bytes-bytes.ensures.value at c.in-Some-last.ensures.behind in
+    (c.loop-at.invariant.0, rw (goes.1 one.holds) behind)
 
 pub returns-clause-found : goal.returns-clause-found
-returns-clause-found g c =
-    let inv = c.loop-at.invariant in
-    none_before _ _ (g.met.S.MarkedSet.first_bytes _ _ inv.0) c.args.text.now c.utf8.text c.args.to c.loop-at.past inv.3
-    (subst (λ (l : List ℕ). IsLast (Passes (g.S.Test.ByteTest.passes c.loop-at.marks.test) l) 0 c.loop-at.past None) c.as_bytes-bytes.ensures.value c.in_default-last.ensures.found)
+returns-clause-found g c = grind (arith, none_before, g.met.S.MarkedSet.first_places _ _ c.loop-at.invariant.0)
 
 pub loop-at-preserved : goal.loop-at-preserved
-loop-at-preserved g c =
-    let inv = c.loop-at.invariant in
-    let at = c.in-Some-last.at in
-    let passes = g.S.Test.ByteTest.passes c.loop-at.marks.test in
-    let same = c.as_bytes-bytes.ensures.value in
-    let found = subst (λ (l : List ℕ). IsLast (Passes passes l) 0 c.loop-at.past (Some at)) same c.in-Some-last.ensures.found in
-    let behind = subst (λ (l : List ℕ). Behind passes l at c.last.new.self.start c.last.new.self.bits) same c.in-Some-last.ensures.behind in
-    let past = beyond_it _ _ (g.met.S.MarkedSet.first_bytes _ _ inv.0) c.args.text.now c.utf8.text c.args.to c.loop-at.past inv.3 at found (sym c.end_at_mark.ensures ∙ c.in_default-end_at_mark.is) in
-    (inv.0, behind, omega (arith, inv.2, found.0.high), past, inv.4)
+loop-at-preserved g c = grind (arith, beyond_it, g.met.S.MarkedSet.first_places _ _ c.loop-at.invariant.0)
 
 pub returns-in-Some-end_at_mark-clause-front : goal.returns-in-Some-end_at_mark-clause-front
 returns-in-Some-end_at_mark-clause-front g c from ready = c.loop-at.invariant.4 from (rw c.in-Some.is at ready)
@@ -44,4 +29,4 @@ returns-in-Some-end_at_mark-clause-front g c from ready = c.loop-at.invariant.4 
 pub loop-at-init : goal.loop-at-init
 loop-at-init g c =
     let ready = rw c.in-Some.is at c.requires.ready in
-    (ready.0, ready.1, omega arith, beyond-new _ _ (g.met.S.MarkedSet.first_bytes _ _ ready.0) c.args.text.now c.utf8.text c.args.to, λ _ front. front)
+    (ready.0, ready.1, omega arith, beyond-new _ _ (g.met.S.MarkedSet.first_places _ _ ready.0) c.args.text.now c.utf8.text c.args.to, λ _ front. front)

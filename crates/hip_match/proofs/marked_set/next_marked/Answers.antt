@@ -1,6 +1,4 @@
-use Rattle.std.proofs.Common.{◌+◌, ◌∙◌, ℕ, List, Some, None, length, subst, sym, arith}
-use Rattle.memchr.specs.Find.{IsFirst, Passes}
-use Rattle.hip_match.specs.Marks.{Ahead}
+use Rattle.std.proofs.Common.{arith, sym}
 use Rattle.hip_match.proofs.MarkedSetLemmas.{none_left, none_up_to, past_char, starts_first}
 use Rattle.hip_match.proofs.marked_set.next_marked.Goals as goal
 
@@ -8,33 +6,20 @@ pub returns-in-Some-end_at_mark-clause-front : goal.returns-in-Some-end_at_mark-
 returns-in-Some-end_at_mark-clause-front g c k goes =
     let inv = c.loop-at.invariant in
     let at = c.in-Some-next.at in
-    let first = g.met.S.MarkedSet.first_bytes _ _ inv.0 in
-    let ahead = subst (λ (l : List ℕ). Ahead (g.S.Test.ByteTest.passes c.loop-at.marks.test) l (at + 1) c.next.new.self.next c.next.new.self.bits) c.as_bytes-bytes.ensures.value c.in-Some-next.ensures.ahead in
-    (inv.0, past_char _ _ first c.args.text.now c.utf8.text at c.in-Some-end_at_mark.end k _ _ (λ i. (c.type_inv.text i).fits) (sym c.in-Some-end_at_mark.ensures) goes ahead)
+    let ahead = rw c.as_bytes-bytes.ensures.value at c.in-Some-next.ensures.ahead in
+    (inv.0, past_char _ _ (g.met.S.MarkedSet.first_places _ _ inv.0) c.args.text.now c.utf8.text at c.in-Some-end_at_mark.end k _ _ (λ i. (c.type_inv.text i).fits) (sym c.in-Some-end_at_mark.ensures) goes ahead)
 
 pub returns-in-Some-end_at_mark-clause-found : goal.returns-in-Some-end_at_mark-clause-found
-returns-in-Some-end_at_mark-clause-found g c =
-    let inv = c.loop-at.invariant in
-    starts_first _ _ (g.met.S.MarkedSet.first_bytes _ _ inv.0) c.args.text.now c.utf8.text c.args.from c.loop-at.past _ _ inv.2 inv.3
-    (subst (λ (l : List ℕ). IsFirst (Passes (g.S.Test.ByteTest.passes c.loop-at.marks.test) l) c.loop-at.past (length l) (Some c.in-Some-next.at)) c.as_bytes-bytes.ensures.value c.in-Some-next.ensures.found)
-    (sym c.in-Some-end_at_mark.ensures)
+returns-in-Some-end_at_mark-clause-found g c = grind (arith, starts_first, g.met.S.MarkedSet.first_places _ _ c.loop-at.invariant.0)
 
 pub returns-clause-found : goal.returns-clause-found
 returns-clause-found g c =
     let inv = c.loop-at.invariant in
-    none_left _ _ (g.met.S.MarkedSet.first_bytes _ _ inv.0) c.args.text.now c.utf8.text c.args.from c.loop-at.past inv.3
-    (subst (λ (l : List ℕ). IsFirst (Passes (g.S.Test.ByteTest.passes c.loop-at.marks.test) l) c.loop-at.past (length l) None) c.as_bytes-bytes.ensures.value c.in_default-next.ensures.found)
+    none_left _ _ (g.met.S.MarkedSet.first_places _ _ inv.0) c.args.text.now c.utf8.text c.args.from c.loop-at.past inv.3
+    (rw c.as_bytes-bytes.ensures.value at c.in_default-next.ensures.found)
 
 pub loop-at-preserved : goal.loop-at-preserved
-loop-at-preserved g c =
-    let inv = c.loop-at.invariant in
-    let at = c.in-Some-next.at in
-    let passes = g.S.Test.ByteTest.passes c.loop-at.marks.test in
-    let same = c.as_bytes-bytes.ensures.value in
-    let found = subst (λ (l : List ℕ). IsFirst (Passes passes l) c.loop-at.past (length l) (Some at)) same c.in-Some-next.ensures.found in
-    let ahead = subst (λ (l : List ℕ). Ahead passes l (at + 1) c.next.new.self.next c.next.new.self.bits) same c.in-Some-next.ensures.ahead in
-    let free = none_up_to _ _ (g.met.S.MarkedSet.first_bytes _ _ inv.0) c.args.text.now c.utf8.text c.args.from c.loop-at.past at inv.3 found (sym c.end_at_mark.ensures ∙ c.in_default-end_at_mark.is) in
-    (inv.0, ahead, omega (arith, inv.2, found.0.low), free, inv.4)
+loop-at-preserved g c = grind (arith, none_up_to, g.met.S.MarkedSet.first_places _ _ c.loop-at.invariant.0)
 
 pub returns-in-Some-end_at_mark-clause-back : goal.returns-in-Some-end_at_mark-clause-back
 returns-in-Some-end_at_mark-clause-back g c to ready = c.loop-at.invariant.4 to (rw c.in-Some.is at ready)

@@ -5,7 +5,7 @@ use Rattle.hip_match.proofs.marks.block.Goals as goal
 
 pub returns : goal.returns
 returns g c =
-    let test = g.T.ByteTest.passes c.args.test.now in
+    let test = g.T.PlaceTest.places c.args.test.now in
     let t = c.args.bytes.now in
     let at = c.args.at in
     let end = at + 64 in

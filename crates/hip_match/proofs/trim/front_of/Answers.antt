@@ -1,11 +1,7 @@
 use Rattle.std.proofs.Common.{sym, ◌∙◌, arith}
 use Rattle.std.proofs.lemmas.Option.{none-some, same_Some}
-use Rattle.std.proofs.lemmas.Str.{IsCharBoundary-start}
-use Rattle.hip_match.proofs.TrimLemmas.{sequence_more, sequence_none, TrimsFront-stuck}
+use Rattle.hip_match.proofs.TrimLemmas.{sequence_more, TrimsFront-stuck}
 use Rattle.hip_match.proofs.trim.front_of.Goals as goal
-
-pub loop-end-init : goal.loop-end-init
-loop-end-init g c = (IsCharBoundary-start _ c.utf8.text, sequence_none _ 0)
 
 pub loop-end-smaller : goal.loop-end-smaller
 loop-end-smaller g c =
@@ -18,8 +14,7 @@ loop-end-preserved g c =
     (here.end, sequence_more _ _ _ _ c.loop-end.invariant.1 (sym c.in-Some.ensures) (omega (arith, here.ordered, c.if-end-at.false)))
 
 pub returns-then-end-at-clause-front : goal.returns-then-end-at-clause-front
-returns-then-end-at-clause-front g c =
-    TrimsFront-stuck _ _ c.loop-end.invariant.1 (λ b is. omega (arith, same_Some _ _ (sym is ∙ sym c.in-Some.ensures), c.if-end-at.true))
+returns-then-end-at-clause-front g c = TrimsFront-stuck _ _ c.loop-end.invariant.1 (λ b is. omega (arith, same_Some _ _ (sym is ∙ sym c.in-Some.ensures), c.if-end-at.true))
 
 pub returns-in_default-clause-front : goal.returns-in_default-clause-front
 returns-in_default-clause-front g c = TrimsFront-stuck _ _ c.loop-end.invariant.1 (λ b is. absurd (none-some b (c.in_default.ensures ∙ is)))

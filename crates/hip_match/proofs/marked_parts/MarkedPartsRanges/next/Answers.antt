@@ -1,6 +1,4 @@
-use Rattle.std.proofs.Common.{true≢false, ℕ, ◌+◌, Option, Some, None, length, subst, arith, refl}
-use Rattle.memchr.specs.Find.{IsFirst, Passes}
-use Rattle.hip_match.specs.Marks.{Ahead}
+use Rattle.std.proofs.Common.{Some, None, arith, refl}
 use Rattle.hip_match.proofs.GapLemmas.{first_cut, first_part, only_ahead}
 use Rattle.std.proofs.lemmas.Option.{none-some, same_Some}
 use Rattle.hip_match.proofs.marked_parts.MarkedPartsRanges.next.Goals as goal
@@ -8,12 +6,12 @@ use Rattle.hip_match.proofs.marked_parts.MarkedPartsRanges.next.Goals.{in_defaul
 
 pub returns-in-Some : goal.returns-in-Some
 returns-in-Some g c =
-    let p = g.T.ByteTest.passes c.args.self.now.marks.test in
+    let p = g.T.ByteTest.passes c.args.self.now.marks.test.0 in
     let was = c.requires in
     let at = c.in-Some.at in
-    let found = subst (λ l. IsFirst (Passes p l) c.args.self.now.from (length l) (Some at)) c.as_bytes.ensures.value c.in-Some.ensures.found in
+    let found = rw c.as_bytes.ensures.value at c.in-Some.ensures.found in
     let cut = first_cut p was.1 _ _ _ was.0 at found in
-    let ahead = subst (λ l. Ahead p l (at + 1) c.next.new.self.next c.next.new.self.bits) c.as_bytes.ensures.value c.in-Some.ensures.ahead in
+    let ahead = rw c.as_bytes.ensures.value at c.in-Some.ensures.ahead in
     record {
       first = rw c.if-self.false (first_part p was.1 _ _ _ was.0 at found c.if-at-self.true);
       cut = record { start = was.0.start; end = cut.start; ordered = found.0.low };
@@ -23,17 +21,12 @@ returns-in-Some g c =
 
 pub returns-in_default-clause-first : goal.returns-in_default-clause-first
 returns-in_default-clause-first g c =
-    let p = g.T.ByteTest.passes c.args.self.now.marks.test in
+    let p = g.T.ByteTest.passes c.args.self.now.marks.test.0 in
     let was = c.requires in
-    let first : (r : Option ℕ) → IsFirst (Passes p c.as_bytes.result.now) c.args.self.now.from (length c.as_bytes.result.now) r → IsFirst (Passes p c.args.self.now.text.now) c.args.self.now.from (length c.args.self.now.text.now) r =
-    λ r found. subst (λ l. IsFirst (Passes p l) c.args.self.now.from (length l) r) c.as_bytes.ensures.value found in
     elim c.in_default.branch [
-      | in_default-via-in-Some+else-at-self x ↦ rw c.if-self.false (only_ahead p was.1 _ _ _ was.0 (Some x.in-Some.at) (first (Some x.in-Some.at) x.in-Some.ensures.found) (λ at is. let same = same_Some x.in-Some.at at is in omega (arith, same, x.if-at-self.false)))
-      | in_default-via-in_default x ↦ rw c.if-self.false (only_ahead p was.1 _ _ _ was.0 None (first None x.in_default.ensures.found) (λ at is. absurd (none-some at is)))
+      | in_default-via-in-Some+else-at-self x ↦ rw c.if-self.false (only_ahead p was.1 _ _ _ was.0 (Some x.in-Some.at) (rw c.as_bytes.ensures.value at x.in-Some.ensures.found) (λ at is. let same = same_Some x.in-Some.at at is in omega (arith, same, x.if-at-self.false)))
+      | in_default-via-in_default x ↦ rw c.if-self.false (only_ahead p was.1 _ _ _ was.0 None (rw c.as_bytes.ensures.value at x.in_default.ensures.found) (λ at is. absurd (none-some at is)))
     ]
 
 pub next-requires : goal.next-requires
 next-requires g c = rw c.as_bytes.ensures.value (c.requires.2 c.if-self.false).0
-
-pub returns-in_default-clause-ready : goal.returns-in_default-clause-ready
-returns-in_default-clause-ready g c = (c.requires.0, c.requires.1, λ going. absurd (true≢false going))

@@ -1,6 +1,4 @@
-use Rattle.std.proofs.Common.{true≢false, ℕ, Option, Some, None, subst, arith, refl}
-use Rattle.memchr.specs.Find.{IsLast, Passes}
-use Rattle.hip_match.specs.Marks.{Behind}
+use Rattle.std.proofs.Common.{Some, None, arith, refl}
 use Rattle.hip_match.proofs.GapLemmas.{last_cut, last_part, only_behind}
 use Rattle.std.proofs.lemmas.Option.{none-some, same_Some}
 use Rattle.hip_match.proofs.marked_parts.MarkedPartsRangesBack.next_back.Goals as goal
@@ -8,12 +6,12 @@ use Rattle.hip_match.proofs.marked_parts.MarkedPartsRangesBack.next_back.Goals.{
 
 pub returns-in-Some : goal.returns-in-Some
 returns-in-Some g c =
-    let p = g.T.ByteTest.passes c.args.self.now.marks.test in
+    let p = g.T.ByteTest.passes c.args.self.now.marks.test.0 in
     let was = c.requires in
     let at = c.in-Some.at in
-    let found = subst (λ l. IsLast (Passes p l) 0 c.args.self.now.to (Some at)) c.as_bytes.ensures.value c.in-Some.ensures.found in
+    let found = rw c.as_bytes.ensures.value at c.in-Some.ensures.found in
     let cut = last_cut p was.1 _ _ _ was.0 at found in
-    let behind = subst (λ l. Behind p l at c.last.new.self.start c.last.new.self.bits) c.as_bytes.ensures.value c.in-Some.ensures.behind in
+    let behind = rw c.as_bytes.ensures.value at c.in-Some.ensures.behind in
     record {
       last = rw c.if-self.false (last_part p was.1 _ _ _ was.0 at found c.if-self-at.true);
       cut = record { start = cut.end; end = was.0.end; ordered = (let high = found.0.high in omega arith) };
@@ -23,17 +21,12 @@ returns-in-Some g c =
 
 pub returns-in_default-clause-last : goal.returns-in_default-clause-last
 returns-in_default-clause-last g c =
-    let p = g.T.ByteTest.passes c.args.self.now.marks.test in
+    let p = g.T.ByteTest.passes c.args.self.now.marks.test.0 in
     let was = c.requires in
-    let last : (r : Option ℕ) → IsLast (Passes p c.as_bytes.result.now) 0 c.args.self.now.to r → IsLast (Passes p c.args.self.now.text.now) 0 c.args.self.now.to r =
-    λ r found. subst (λ l. IsLast (Passes p l) 0 c.args.self.now.to r) c.as_bytes.ensures.value found in
     elim c.in_default.branch [
-      | in_default-via-in-Some+else-self-at x ↦ rw c.if-self.false (only_behind p was.1 _ _ _ was.0 (Some x.in-Some.at) (last (Some x.in-Some.at) x.in-Some.ensures.found) (λ at is. let same = same_Some x.in-Some.at at is in omega (arith, same, x.if-self-at.false)))
-      | in_default-via-in_default x ↦ rw c.if-self.false (only_behind p was.1 _ _ _ was.0 None (last None x.in_default.ensures.found) (λ at is. absurd (none-some at is)))
+      | in_default-via-in-Some+else-self-at x ↦ rw c.if-self.false (only_behind p was.1 _ _ _ was.0 (Some x.in-Some.at) (rw c.as_bytes.ensures.value at x.in-Some.ensures.found) (λ at is. let same = same_Some x.in-Some.at at is in omega (arith, same, x.if-self-at.false)))
+      | in_default-via-in_default x ↦ rw c.if-self.false (only_behind p was.1 _ _ _ was.0 None (rw c.as_bytes.ensures.value at x.in_default.ensures.found) (λ at is. absurd (none-some at is)))
     ]
 
 pub last-requires : goal.last-requires
 last-requires g c = rw c.as_bytes.ensures.value (c.requires.2 c.if-self.false).1
-
-pub returns-in_default-clause-ready : goal.returns-in_default-clause-ready
-returns-in_default-clause-ready g c = (c.requires.0, c.requires.1, λ going. absurd (true≢false going))

@@ -1,7 +1,5 @@
-use Rattle.std.proofs.lemmas.Bool.Decides.{nat_tests}
+use Rattle.std.proofs.Common.{arith, refl}
 use Rattle.std.proofs.lemmas.Grind.{common_steps}
-use Rattle.std.proofs.Common.{arith, refl, sym}
-use Rattle.std.proofs.lemmas.Bool.{false≢true}
 use Rattle.hip_match.proofs.OneCharLemmas.{one_chars, clear, back_match, back_none, back_past}
 use Rattle.hip_match.proofs.matches.Matches.next_back_match.Goals as goal
 use Rattle.hip_match.proofs.matches.Matches.next_back_match.Goals.{in_default-via-in-Some+else-self-start, in_default-via-in_default}
@@ -15,17 +13,7 @@ returns-in-Some-clause-taken g c =
       list = rw c.if-self.false (back_match _ _ one _ _ c.requires.window _ _ c.in-Some.ensures.found c.if-self-start.true);
       cut = here;
       text = refl;
-      ready = record {
-        searchable = (
-          c.requires.searchable.0,
-          λ going. (
-            c.in-Some.ensures.front _ (c.requires.searchable.1 c.if-self.false).0,
-            c.in-Some.ensures.back _ (omega arith, λ some. refl),
-          ),
-        );
-        window = record { utf8 = utf8; start = c.requires.window.start; end = here.start; ordered = c.if-self-start.true };
-        whole = clear _ _ one _ here.start;
-      };
+      ready = grind (arith, common_steps, here, clear c.args.self.now.text.now (g.P.Pattern.ends c.args.self.now.pattern c.args.self.now.text.now) one);
     }
 
 pub returns-in_default-clause-taken : goal.returns-in_default-clause-taken
@@ -45,12 +33,5 @@ returns-in_default-clause-taken g c =
       ];
       cut = _;
       text = refl;
-      ready = record {
-        searchable = (c.requires.searchable.0, λ going. absurd (false≢true (sym going)));
-        window = c.requires.window;
-        whole = c.requires.whole;
-      };
+      ready = grind (arith, common_steps);
     }
-
-pub returns-in-Some-clause-holds : goal.returns-in-Some-clause-holds
-returns-in-Some-clause-holds g c = grind (arith, nat_tests, common_steps, g.met.P.OneChar.one_char)

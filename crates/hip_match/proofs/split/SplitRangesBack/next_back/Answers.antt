@@ -4,8 +4,7 @@ use Rattle.hip_match.proofs.PiecesLemmas.{gaps-append, InOrder-append, IsBetween
 use Rattle.hip_match.proofs.split.SplitRangesBack.next_back.Goals as goal
 
 pub returns-in-Some-clause-last : goal.returns-in-Some-clause-last
-returns-in-Some-clause-last g c =
-    rw c.if-self.false (ap (λ l. gaps c.args.self.now.start l c.args.self.now.end) c.in-Some.ensures.last ∙ gaps-append _ _ _ _)
+returns-in-Some-clause-last g c = rw c.if-self.false (ap (λ l. gaps c.args.self.now.start l c.args.self.now.end) c.in-Some.ensures.last ∙ gaps-append _ _ _ _)
 
 pub returns-in-Some-clause-cut : goal.returns-in-Some-clause-cut
 returns-in-Some-clause-cut g c =

@@ -1,5 +1,0 @@
-use Rattle.hip_match.proofs.SpaceLemmas.{space_first_bytes}
-use Rattle.hip_match.proofs.white_space.WhiteSpaceMarkedSet.test.Goals as goal
-
-pub returns : goal.returns
-returns c = space_first_bytes
