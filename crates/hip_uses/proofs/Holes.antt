@@ -1,6 +1,6 @@
 -- Where the braces and the holes of a template stand.
-use Rattle.std.proofs.Common.{◌≡◌, ◌∙◌, ℕ, ◌+◌, ◌-◌, ◌<◌, ◌≤◌, true, ◌==◌, List, [], ◌∷◌, ◌++◌, Option, None, Some, length, take, drop, get_or, ap, sym, subst, refl, drop-drop, take-append-drop, take_all, length-drop, length-take-le, ⊎_elim, arith, slice_index, slice_range, IsCharBoundary, IsUtf8, get_or-drop, encode_utf8}
-use Rattle.std.proofs.lemmas.Bool.{and_from, and_parts, cases_lt, cond-true}
+use Rattle.std.proofs.Common.{◌≡◌, ◌∙◌, ℕ, ◌+◌, ◌-◌, ◌<◌, ◌≤◌, true, ◌==◌, List, [], ◌∷◌, ◌++◌, Option, None, Some, length, take, drop, get_or, ap, sym, subst, refl, drop-drop, take-append-drop, take_all, length-drop, length-take-le, arith, slice_index, slice_range, IsCharBoundary, IsUtf8, get_or-drop}
+use Rattle.std.proofs.lemmas.Bool.{and_from, and_parts, cond-true}
 use Rattle.std.proofs.lemmas.List.{drop_more}
 use Rattle.std.proofs.lemmas.Option.{cond_some, none-some, some_pair_parts}
 use Rattle.std.proofs.lemmas.Slice.Eq.{bytes_eq-Decides}
@@ -42,20 +42,11 @@ found-pair brace text k b is =
     let both = cond_some _ (k + 2) b is in
     let second = (and_parts (is_boundary text k) _ both.0).1 in
     let stands : take 2 (drop k text) ≡ pair brace = (bytes_eq-Decides _ (pair brace)).0 (and_parts (is_boundary text (k + 2)) _ second).1 in
-    let there = begins brace (drop k text) stands in
-    record {
-      within = omega (arith, there.0, length-drop k text);
-      first = ap (λ i. slice_index text i) (omega arith) ∙ sym (get_or-drop k text 0 0) ∙ there.1;
-      second = sym (get_or-drop k text 1 0) ∙ there.2;
-    }
+    grind (arith, begins brace (drop k text) stands, length-drop k text, get_or-drop k text 0 0, get_or-drop k text 1 0)
 
 -- two of a brace in the end of a text stand in the text
 in-text : (brace : ℕ) (text : List ℕ) (from k : ℕ) → IsPair (drop from text) brace k → IsPair text brace (from + k)
-in-text brace text from k pair_is = record {
-  within = omega (arith, pair_is.within, length-drop from text);
-  first = sym (get_or-drop from text k 0) ∙ pair_is.first;
-  second = ap (λ i. slice_index text i) (omega arith) ∙ sym (get_or-drop from text (k + 1) 0) ∙ pair_is.second;
-}
+in-text brace text from k pair_is = grind (arith, length-drop from text, get_or-drop from text k 0, get_or-drop from text (k + 1) 0)
 
 -- where they stand nowhere, the end of the text lacks them
 pub pair-lacks : (brace : ℕ) (text : List ℕ) (from : ℕ) → ((k : ℕ) → from ≤ k → ¬ IsPair text brace k) → Lacks (pair brace) (drop from text)
@@ -63,11 +54,7 @@ pair-lacks brace text from none k = none-if _ (λ b is. none (from + k) (omega a
 
 -- a text from two of a brace on
 pub pair-here : (brace : ℕ) (text : List ℕ) (at : ℕ) → IsPair text brace at → drop at text ≡ pair brace ++ drop (at + 2) text
-pair-here brace text at is =
-    let within = is.within in
-    let two : at + 1 + 1 ≡ at + 2 = omega arith in
-    let second : drop (at + 1) text ≡ brace ∷ drop (at + 2) text = drop_more text (at + 1) 0 within ∙ (λ j. is.second j ∷ drop (two j) text) in
-    drop_more text at 0 (omega arith) ∙ (λ i. is.first i ∷ second i)
+pair-here brace text at is = grind (arith, drop_more text at 0, drop_more text (at + 1) 0)
 
 -- where they stand first, they part the end of the text
 pub pair-parts : (brace : ℕ) (text : List ℕ) (from at : ℕ) → IsFirstPair text brace from at
@@ -95,22 +82,13 @@ none-left ends text brace from brace_is none k low is = none-some (k + 1) (sym (
 
 -- a brace that is found, and one behind it
 pub pair-found : (ends : ℕ → Option ℕ) (text : List ℕ) (brace start end : ℕ) → FindsByte ends text brace → ends start ≡ Some end → HasByte text end brace → IsPair text brace start
-pair-found ends text brace start end brace_is occurs there =
-    let next = brace_is.one_byte start end occurs in
-    record {
-      within = omega (arith, next, there.0);
-      first = brace_is.is_byte start end occurs;
-      second = ap (slice_index text) (sym next) ∙ there.1;
-    }
+pair-found ends text brace start end brace_is occurs there = grind (arith, brace_is.one_byte start end occurs, brace_is.is_byte start end occurs)
 
 -- where the first brace stands alone, no two stand up to its end
 pub none-here : (ends : ℕ → Option ℕ) (text : List ℕ) (brace from start end : ℕ) → FindsByte ends text brace → StartsFirst ends from (start, end) → ¬ HasByte text end brace
     → (k : ℕ) → from ≤ k → k < end → ¬ IsPair text brace k
 none-here ends text brace from start end brace_is found none k low high is =
-    let next = brace_is.one_byte start end found.occurs in
-    ⊎_elim (λ (lt : k < start). none-before ends text brace from start end brace_is found k low lt is)
-    (λ (ge : start ≤ k). none (omega (arith, next, ge, high, is.within), ap (slice_index text) (omega (arith, next, ge, high)) ∙ is.second))
-    (cases_lt k start)
+    grind (arith, brace_is.one_byte start end found.occurs, none-before ends text brace from start end brace_is found k low)
 
 -- two braces stand between boundaries
 pub pair-start : (brace : ℕ) (text : List ℕ) (at : ℕ) → brace < 128 → IsPair text brace at → IsCharBoundary text at
@@ -132,16 +110,11 @@ pair-text brace text k low utf8 is =
 -- where none stand up to a place, a search for both from there finds the first two, or none
 pub next-behind : (text : List ℕ) (brace from end : ℕ) (two : List ℕ) (result : Option ℕ) → two ≡ pair brace → brace < 128 → IsUtf8 text → from ≤ end
     → ((k : ℕ) → from ≤ k → k < end → ¬ IsPair text brace k) → IsNextStart (text_ends two text) end result → IsNextPair text brace from result
-next-behind text brace from end two None both low utf8 ordered here none = λ k after is.
-    ⊎_elim (λ (lt : k < end). here k after lt is)
-    (λ (ge : end ≤ k). none-some (k + 2) (sym (none k ge) ∙ ap (λ p. text_ends p text k) both ∙ pair-text brace text k low utf8 is))
-    (cases_lt k end)
+next-behind text brace from end two None both low utf8 ordered here none = λ k after is. grind (arith, here k after, none k, pair-text brace text k low utf8 is)
 next-behind text brace from end two (Some at) both low utf8 ordered here found = record {
   after = omega (arith, ordered, found.1.after);
   is = found-pair brace text at found.0 (ap (λ p. text_ends p text at) (sym both) ∙ found.1.occurs);
-  first = λ k after before is. ⊎_elim (λ (lt : k < end). here k after lt is)
-      (λ (ge : end ≤ k). none-some (k + 2) (sym (found.1.first k ge before) ∙ ap (λ p. text_ends p text k) both ∙ pair-text brace text k low utf8 is))
-      (cases_lt k end);
+  first = λ k after before is. grind (arith, here k after, found.1.first k, pair-text brace text k low utf8 is);
 }
 
 -- a hole between the first two braces of either kind
@@ -149,8 +122,8 @@ pub cuts-hole : {B S P : Type 0} (text : List ℕ) (from left right : ℕ) (hole
     → hole.before.items ≡ slice_range text from left → hole.name.items ≡ slice_range text (left + 2) right → CutsHole (drop from text) hole (drop (right + 2) text)
 cuts-hole text from left right hole opens closes before_is name_is = (
   drop (left + 2) text,
-  subst (λ (l : List ℕ). IsParted opening (drop from text) l (drop (left + 2) text)) (sym before_is) (pair-parts 123 text from left opens),
-  subst (λ (l : List ℕ). IsParted closing (drop (left + 2) text) l (drop (right + 2) text)) (sym name_is) (pair-parts 125 text (left + 2) right closes),
+  rw before_is (pair-parts 123 text from left opens),
+  rw name_is (pair-parts 125 text (left + 2) right closes),
 )
 
 -- an end of a text as a range of it
@@ -169,32 +142,20 @@ unclosed text left n behind opens none is size =
 
 -- a character of one byte finds each of its byte
 pub finds-byte : (sign byte : ℕ) (text : List ℕ) → sign ≡ byte → byte < 128 → IsUtf8 text → FindsByte (char_ends (λ c. c == sign) text) text byte
-finds-byte sign byte text named low utf8 = subst (λ s. FindsByte (char_ends (λ c. c == s) text) text byte) (sym named) finds
+finds-byte sign byte text named low utf8 = record {
+  one_byte = λ a b ends.
+      let found = char_ends-is (λ c. c == sign) text a b utf8 ends in
+      omega (arith, found.1.3, len_utf8_ascii byte low, ap len_utf8 (same found.1.0 found.1.2));
+  is_byte = λ a b ends.
+      let found = char_ends-is (λ c. c == sign) text a b utf8 ends in
+      grind (arith, get_or-drop a text 0 0, found.1.1.split, same found.1.0 found.1.2, encode_ascii byte low);
+  finds = λ k within is.
+      let start = IsCharBoundary-before_ascii text k within (omega (arith, is, low)) in
+      let found = starts_char text k utf8 start within in
+      let c = found.0 in
+      let pair_is = some_pair_parts c (slice_index text k) (k + len_utf8 c) (k + 1) (sym found.1.at ∙ char_at-ascii text k utf8 start within (omega (arith, is, low))) in
+      char_ends-yes (λ c. c == sign) text k c found.1 (grind (arith, nat_tests, pair_is.0)) ∙ ap (λ n. Some n) pair_is.1;
+}
   where
-    same : (c : ℕ) → (c == byte) ≡ true → c ≡ byte
+    same : (c : ℕ) → (c == sign) ≡ true → c ≡ byte
     same c is = grind (arith, nat_tests)
-
-    equal : (c : ℕ) → c ≡ byte → (c == byte) ≡ true
-    equal c is = grind (arith, nat_tests)
-
-    finds : FindsByte (char_ends (λ c. c == byte) text) text byte
-    finds = record {
-      one_byte = λ a b ends.
-          let found = char_ends-is (λ c. c == byte) text a b utf8 ends in
-          let c = found.1.0 in
-          let is : c ≡ byte = same c found.1.2 in
-          omega (arith, found.1.3, len_utf8_ascii byte low, ap len_utf8 is);
-      is_byte = λ a b ends.
-          let found = char_ends-is (λ c. c == byte) text a b utf8 ends in
-          let c = found.1.0 in
-          let is : c ≡ byte = same c found.1.2 in
-          sym (get_or-drop a text 0 0 ∙ ap (λ k. slice_index text k) (omega arith)) ∙ ap (λ l. get_or l 0 0) (found.1.1.split ∙ ap (λ d. encode_utf8 d ++ drop (a + len_utf8 c) text) is
-          ∙ ap (λ l. l ++ drop (a + len_utf8 c) text) (encode_ascii byte low));
-      finds = λ k within is.
-          let start = IsCharBoundary-before_ascii text k within (omega (arith, is, low)) in
-          let found = starts_char text k utf8 start within in
-          let c = found.0 in
-          let pair_is = some_pair_parts c (slice_index text k) (k + len_utf8 c) (k + 1) (sym found.1.at ∙ char_at-ascii text k utf8 start within (omega (arith, is, low))) in
-          let width : k + len_utf8 c ≡ k + 1 = pair_is.1 in
-          char_ends-yes (λ c. c == byte) text k c found.1 (equal c (pair_is.0 ∙ is)) ∙ ap (λ n. Some n) width;
-    }

@@ -19,9 +19,6 @@ pub number_from-push : (from : ℕ) (t u : List ℕ) (ts : List (List ℕ))
 number_from-push from t u [] = grind arith
 number_from-push from t u (x ∷ ts) = grind (arith, number_from-push (from + 1) t u ts)
 
-pub number_of-pushed : (word : List ℕ) (ts : List (List ℕ)) (number : ℕ) → number ≡ length ts → number_of word ts ≡ None → number_of word (ts ++ word ∷ []) ≡ Some number
-number_of-pushed word ts number is none = grind (arith, number_from-push, bytes_eq-Decides)
-
 -- no text stands twice where a new one is put at the end
 pub StandOnce-push : (word : List ℕ) (ts : List (List ℕ)) → number_of word ts ≡ None → StandOnce ts → StandOnce (ts ++ word ∷ [])
 StandOnce-push word ts none once number text found = grind (arith, common_steps, gets, number_from-push, bytes_eq-Decides, get_or-append)

@@ -1,9 +1,7 @@
 pub mod Holes
 pub mod Interned
-pub mod Little
 pub mod Packing
 pub mod Published
-pub mod Pushed
 pub mod Runs
 pub mod Tables
 pub mod Templates

@@ -144,24 +144,17 @@ module _ (t : List ℕ) (from upto m : ℕ) (h : TurnsAhead t from upto m) where
           reached = λ more. omega arith;
           few = λ j high. others j (λ e. omega arith) ∙ h.few j high;
           between = λ k lo hi. absurd (omega arith);
-          taken = λ j lo. ⊎_elim (λ (lt : j < r). others j (λ e. omega arith) ∙ first.below j lt)
-              (λ (ge : r ≤ j). let same : j ≡ r = omega arith in ap (bit_at n) same ∙ gone)
-              (cases_lt j r);
-          left = λ k lo hi ge.
-              let apart : k + 63 - upto ≢ r = λ e. omega arith in
-              subst (Tells t k) (sym (others (k + 63 - upto) apart)) (h.left k (omega arith) hi ge);
+          taken = λ j lo. grind (arith, others j, first.below j);
+          left = λ k lo hi ge. rw (others (k + 63 - upto) (λ e. omega arith)) (h.left k (omega arith) hi ge);
         }
+
+stays : {X : Type 0} (f : ℕ → X) (from k : ℕ) → from ≤ k → ((j : ℕ) → from ≤ j → j < k → f j ≡ f (j + 1)) → f k ≡ f from
+stays f from zero le same = grind arith
+stays f from (suc k) le same = grind (arith, same k, λ (lo : from ≤ k). stays f from k lo (λ j low hi. same j low (omega arith)))
 
 -- where no turn lies, all bytes are of one class
 pub one-class : (t : List ℕ) (from k : ℕ) → from ≤ k → NoTurn t from k → class_of (get_or t k 0) ≡ class_of (get_or t from 0)
-one-class t from zero le none = let same : zero ≡ from = omega arith in ap (λ i. class_of (get_or t i 0)) same
-one-class t from (suc k) le none =
-    ⊎_elim
-    (λ (lt : from < suc k).
-    let place : k + 1 ≡ suc k = omega arith in
-    ap (λ i. class_of (get_or t i 0)) (sym place) ∙ sym (none k (omega arith) (omega arith)) ∙ one-class t from k (omega arith) (λ j lo hi. none j lo (omega arith)))
-    (λ (ge : suc k ≤ from). let same : suc k ≡ from = omega arith in ap (λ i. class_of (get_or t i 0)) same)
-    (cases_lt from (suc k))
+one-class t from k le none = stays (λ i. class_of (get_or t i 0)) from k le none
 
 -- up to a turn
 pub run-to-turn : (t : List ℕ) (class : Class) (start at : ℕ) → class_of (get_or t start 0) ≡ class → IsNextTurn t start at → IsClassRun t class start (at + 1)

@@ -1,10 +1,10 @@
 -- The words of a text get their numbers one after another.
-use Rattle.std.proofs.Common.{◌≡◌, ℕ, ◌<◌, List, [], ◌∷◌, ◌++◌, Some, length, take, refl, arith, slice_range}
+use Rattle.std.proofs.Common.{◌≡◌, ◌∙◌, ap, sym, ℕ, ◌<◌, List, [], ◌∷◌, ◌++◌, Some, length, take, refl, arith, slice_range}
 use Rattle.std.proofs.lemmas.Grind.{common_steps}
-use Rattle.std.proofs.Math.Seq.{take-length}
+use Rattle.std.proofs.Math.Seq.{take-append_seam, take-length}
 use Rattle.hipstr.specs.Occurrence.{IsCut}
 use Rattle.hip_uses.specs.Words.{filled_parts}
-use Rattle.hip_uses.specs.Number.{AreNumbers, all_interned, interned, number_of}
+use Rattle.hip_uses.specs.Number.{AreNumbers, SomeInterned, all_interned, interned, number_of}
 use Rattle.hip_uses.proofs.Interned.{number_from-push}
 
 -- a text keeps its number where another is interned
@@ -45,3 +45,6 @@ walked-on old text all now later rest next numbers more range number so_far firs
   texts = grind (arith, interned-last);
   kept = grind (arith, kept-interned);
 }
+
+pub walked-some : (old : List (List ℕ)) (text : List ℕ) (all : List (ℕ × ℕ)) (now : List (List ℕ)) (rest : List (ℕ × ℕ)) (numbers : List ℕ) → Walked old text all now rest numbers → SomeInterned old (filled_parts text all) now
+walked-some old text all now rest numbers so_far = record { count = length so_far.done; interned = so_far.texts ∙ ap (all_interned old) (sym (take-append_seam so_far.done (filled_parts text rest)) ∙ ap (take (length so_far.done)) so_far.whole) }

@@ -1,5 +1,5 @@
 -- The number of a text: its place among those that were interned.
-use Rattle.std.specs.Prelude.{◌≡◌, ℕ, ◌+◌, Bool, nat_eq, List, [], ◌∷◌, ◌++◌, Option, None, Some, if◌then◌else◌, slice_get}
+use Rattle.std.specs.Prelude.{◌≡◌, ℕ, ◌+◌, Bool, nat_eq, List, [], ◌∷◌, ◌++◌, Option, None, Some, if◌then◌else◌, slice_get, take}
 use Rattle.std.specs.List.{AllZip}
 use Rattle.std.specs.Cmp.Lexicographic.{pointwise}
 use Rattle.hipstr.specs.Handle.{Handle}
@@ -35,6 +35,11 @@ StandOnce texts = (number : ℕ) (text : List ℕ) → slice_get texts number �
 abbrev pub all_interned : List (List ℕ) → List (List ℕ) → List (List ℕ)
 all_interned texts [] = texts
 all_interned texts (word ∷ words) = all_interned (interned texts word) words
+
+-- the texts once a front of these words is interned: none of them, some or all
+pub record SomeInterned (texts words later : List (List ℕ)) : Type 0 where
+  pub count : ℕ
+  pub interned : later ≡ all_interned texts (take count words)
 
 -- each word has its number among the texts
 abbrev pub AreNumbers : List (List ℕ) → List (List ℕ) → List ℕ → Type 0

@@ -1,5 +1,5 @@
 -- A token as a part of its source.
-use Rattle.std.specs.Prelude.{◌≡◌, ◌≢◌, ℕ, ◌+◌, ◌<◌, ◌≤◌, ◌==◌, ◌||◌, nat_le, Bool, List, length, slice_index, slice_range, if◌then◌else◌}
+use Rattle.std.specs.Prelude.{◌≡◌, ◌≢◌, ℕ, ◌+◌, ◌<◌, ◌≤◌, ◌==◌, ◌||◌, nat_le, Bool, List, [], ◌∷◌, length, slice_index, slice_range, if◌then◌else◌}
 use Rattle.std.specs.Char.{is_ascii_alphabetic, is_ascii_digit, is_ascii_whitespace}
 use Rattle.hipstr.specs.Handle.{Handle}
 use Rattle.hipstr.specs.Made.{IsPart}
@@ -38,3 +38,8 @@ abbrev pub IsTokenOf : {B S P : Type 0} → Handle → Token B S P → Type 0
 IsTokenOf source token =
     IsPart source token.text (slice_range source.items token.start (end_of token))
     × IsClassRun source.items token.class token.start (end_of token)
+
+-- the first token begins at `from`, each other where the one before it ends, and the last ends at `to`
+abbrev pub AreAdjacent : {B S P : Type 0} → ℕ → List (Token B S P) → ℕ → Type 0
+AreAdjacent from [] to = from ≡ to
+AreAdjacent from (token ∷ tokens) to = (token.start ≡ from) × AreAdjacent (end_of token) tokens to

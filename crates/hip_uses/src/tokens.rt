@@ -3,7 +3,7 @@ ghost use Rattle.std.specs.Prelude.{◌≡◌, ℕ, ◌↔◌, ◌*◌, ◌<◌,
 ghost use Rattle.std.specs.List.{flat_map};
 ghost use Rattle.std.specs.Str.{IsCharBoundary};
 ghost use Rattle.hipstr.specs.Meter.{RisesAtMost};
-ghost use Rattle.hip_uses.specs.Token.{IsClassRun, IsTokenOf, token_bytes, class_of};
+ghost use Rattle.hip_uses.specs.Token.{AreAdjacent, IsClassRun, IsTokenOf, token_bytes, class_of};
 ghost use Rattle.hip_uses.specs.Turns.{TurnsAhead};
 
 use crate::tokens::turns::Turns;
@@ -105,6 +105,7 @@ pub fn tokens<'b, B: Backend>(
 ) -> Result<Vec<Token<'b, B>>, AllocError>
     ensures joined { IfOk result (λ tokens. flat_map token_bytes tokens.items ≡ source.now.items) }
     ensures each { IfOk result (λ tokens. All (IsTokenOf source.now) tokens.items) }
+    ensures places { IfOk result (λ tokens. AreAdjacent 0 tokens.items (length source.now.items)) }
     ensures shared { B.SHARES ≡ true → IfOk result (λ tokens.
         RisesAtMost meter.old meter.new (23 * length tokens.items)) }
 {

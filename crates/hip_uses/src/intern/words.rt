@@ -1,7 +1,7 @@
 //! The numbers of the words of a text.
 ghost use Rattle.std.specs.Prelude.{◌≡◌, ◌≤◌, ◌^◌, IfOk, IsErrOf, OnOk, length, take};
 ghost use Rattle.hipstr.specs.Characters.{char_ends};
-ghost use Rattle.hip_uses.specs.Number.{AreNumbers, all_interned};
+ghost use Rattle.hip_uses.specs.Number.{AreNumbers, SomeInterned, all_interned};
 ghost use Rattle.hip_uses.specs.Words.{filled_parts, is_gap, parts_between};
 ghost use Rattle.hip_uses.specs.declared.fault.InternFault.TheVariants.{TooMany};
 
@@ -25,6 +25,7 @@ impl<'b, B: Backend, S: BuildHasher> Interner<'b, B, S> {
             (parts_between (P.ends pattern) text.now.items) numbers.items) }
         ensures texts { OnOk result (self.new
             ≡ all_interned self.old (parts_between (P.ends pattern) text.now.items)) }
+        ensures front { SomeInterned self.old (parts_between (P.ends pattern) text.now.items) self.new }
         ensures kept { take (length self.old) self.new ≡ self.old }
         ensures too_many { IsErrOf result TooMany → 2 ^ 32 ≤ length self.new }
     {
@@ -44,6 +45,7 @@ impl<'b, B: Backend, S: BuildHasher> Interner<'b, B, S> {
             (filled_parts text.now.items (I.rest ranges)) numbers.items) }
         ensures texts { OnOk result (self.new
             ≡ all_interned self.old (filled_parts text.now.items (I.rest ranges))) }
+        ensures front { SomeInterned self.old (filled_parts text.now.items (I.rest ranges)) self.new }
         ensures kept { take (length self.old) self.new ≡ self.old }
         ensures too_many { IsErrOf result TooMany → 2 ^ 32 ≤ length self.new }
     {
@@ -66,6 +68,7 @@ impl<'b, B: Backend, S: BuildHasher> Interner<'b, B, S> {
             (parts_between (char_ends is_gap) text.now.items) numbers.items) }
         ensures texts { OnOk result (self.new
             ≡ all_interned self.old (parts_between (char_ends is_gap) text.now.items)) }
+        ensures front { SomeInterned self.old (parts_between (char_ends is_gap) text.now.items) self.new }
         ensures kept { take (length self.old) self.new ≡ self.old }
         ensures too_many { IsErrOf result TooMany → 2 ^ 32 ≤ length self.new }
     {

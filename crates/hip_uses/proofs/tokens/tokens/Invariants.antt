@@ -1,6 +1,6 @@
 use Rattle.std.proofs.Common.{◌≡◌, ◌-◌, ◌*◌, length, take, true, All, flat_map, IsCharBoundary}
 use Rattle.hipstr.specs.Meter.{RisesAtMost}
-use Rattle.hip_uses.specs.Token.{IsTokenOf, token_bytes}
+use Rattle.hip_uses.specs.Token.{AreAdjacent, IsTokenOf, token_bytes}
 use Rattle.hip_uses.specs.Turns.{TurnsAhead}
 use Rattle.hip_uses.proofs.tokens.tokens.Given as goal
 
@@ -9,6 +9,7 @@ invariant-loop-start g l = record {
   boundary : IsCharBoundary l.source.items l.start;
   joined : flat_map token_bytes l.tokens.items ≡ take l.start l.source.items;
   each : All (IsTokenOf l.source) l.tokens.items;
+  places : AreAdjacent 0 l.tokens.items l.start;
   ahead : TurnsAhead l.source.items l.start l.turns.upto l.turns.turns;
   shared : g.B.Backend.SHARES ≡ true → RisesAtMost l.fn.meter l.meter (23 * length l.tokens.items);
 }

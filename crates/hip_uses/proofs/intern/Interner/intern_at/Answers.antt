@@ -1,6 +1,6 @@
-use Rattle.std.proofs.Common.{ℕ, ◌∙◌, List, subst}
+use Rattle.std.proofs.Common.{ℕ, ◌∙◌, List, refl, subst}
 use Rattle.hipstr.specs.Occurrence.{IsCut}
-use Rattle.hip_uses.proofs.Words.{kept-interned, walked-none, walked-on}
+use Rattle.hip_uses.proofs.Words.{kept-interned, walked-none, walked-on, walked-some}
 use Rattle.hip_uses.proofs.intern.Interner.intern_at.Goals as goal
 
 pub loop-start-init : goal.loop-start-init
@@ -17,3 +17,14 @@ loop-start-preserved-in_ok-push g c = record {
 
 pub returns-in_err-push-clause-kept : goal.returns-in_err-push-clause-kept
 returns-in_err-push-clause-kept g c = rw c.in_ok-intern_part.ensures.texts (kept-interned c.args.self.now c.loop-start.self _ c.loop-start.invariant.walked.kept)
+
+pub returns-in_err-intern_part-clause-front : goal.returns-in_err-intern_part-clause-front
+returns-in_err-intern_part-clause-front g c = rw c.in_err-intern_part.ensures.refused (walked-some _ _ _ _ _ _ c.loop-start.invariant.walked)
+
+pub returns-in_err-push-clause-front : goal.returns-in_err-push-clause-front
+returns-in_err-push-clause-front g c =
+    walked-some _ _ _ _ _ _ (walked-on _ _ _ _ _ _ _ _ _ (c.in-Some.start, c.in-Some.end) _ c.loop-start.invariant.walked c.in-Some.ensures.first
+    (subst (λ (t : List ℕ). IsCut t (c.in-Some.start, c.in-Some.end)) c.loop-start.invariant.text c.in-Some.ensures.cut) c.if-start-end.true c.in_ok-intern_part.ensures.texts c.in_ok-intern_part.ensures.number refl)
+
+pub returns-clause-front : goal.returns-clause-front
+returns-clause-front g c = walked-some _ _ _ _ _ _ c.loop-start.invariant.walked

@@ -4,12 +4,7 @@ use Rattle.hipstr.specs.AsciiSets.{in_set}
 use Rattle.hip_uses.specs.Words.{is_gap}
 use Rattle.hip_uses.proofs.intern.Interner.intern_words.Goals as goal
 
-pub returns-clause-numbers : goal.returns-clause-numbers
-returns-clause-numbers g c =
+pub returns : goal.returns
+returns g c =
     let same : in_set c.complement-gaps.result ≡ is_gap = λ i d. (c.complement-gaps.ensures d ∙ ap (λ (p : ℕ → Bool). is_ascii d && not (p d)) c.alphanumeric.ensures) i in
-    rw (← same) c.intern_parts.ensures.numbers
-
-pub returns-clause-texts : goal.returns-clause-texts
-returns-clause-texts g c =
-    let same : in_set c.complement-gaps.result ≡ is_gap = λ i d. (c.complement-gaps.ensures d ∙ ap (λ (p : ℕ → Bool). is_ascii d && not (p d)) c.alphanumeric.ensures) i in
-    rw (← same) c.intern_parts.ensures.texts
+    rw (← same) c.intern_parts.ensures

@@ -1,6 +1,4 @@
-use Rattle.std.proofs.Common.{◌≡◌, ◌∙◌, List, subst, take, take_all, arith}
-use Rattle.hip_uses.specs.Template.{AllKnown, FillFails}
-use Rattle.hip_uses.specs.declared.template.Hole.{Hole}
+use Rattle.std.proofs.Common.{take_all, arith}
 use Rattle.hip_uses.proofs.Templates.{fails-first, hole-fails, known-more, none-known, some-known, woven-more}
 use Rattle.hip_uses.proofs.template.filling.pieces_of.Goals as goal
 
@@ -15,15 +13,9 @@ loop-place-preserved g c = record {
 
 pub returns-in_default-value_of-clause-fault : goal.returns-in_default-value_of-clause-fault
 returns-in_default-value_of-clause-fault g c =
-    let AHole : Type 0 = Hole g.row.B.Denot g.row.B-Sole.Denot g.row.B-Extent.Denot in
-    let hole = c.hole-item.result in
-    subst (λ (holes : List AHole). FillFails c.args.values.now holes c.unknown.result) c.deref-hole-items.ensures.value
-    (fails-first c.args.values.now c.deref-hole-items.result.now c.loop-place.place hole c.unknown.result (omega arith) c.hole-item.is c.loop-place.invariant.known
-    (hole-fails c.args.values.now hole c.unknown.result (none-known _ c.in_default-value_of.ensures) c.unknown.ensures))
+    rw (← c.deref-hole-items.ensures.value)
+    (fails-first c.args.values.now c.deref-hole-items.result.now c.loop-place.place c.hole-item.result c.unknown.result (omega arith) c.hole-item.is c.loop-place.invariant.known
+    (hole-fails c.args.values.now c.hole-item.result c.unknown.result (none-known _ c.in_default-value_of.ensures) c.unknown.ensures))
 
 pub returns-clause-known : goal.returns-clause-known
-returns-clause-known g c =
-    let AHole : Type 0 = Hole g.row.B.Denot g.row.B-Sole.Denot g.row.B-Extent.Denot in
-    let items = c.deref-hole-items.result.now in
-    let whole : take c.loop-place.place items ≡ items = take_all c.loop-place.place items (omega arith) in
-    subst (λ (holes : List AHole). AllKnown c.args.values.now holes) (whole ∙ c.deref-hole-items.ensures.value) c.loop-place.invariant.known
+returns-clause-known g c = rw (← c.deref-hole-items.ensures.value, ← take_all c.loop-place.place c.deref-hole-items.result.now (omega arith)) c.loop-place.invariant.known

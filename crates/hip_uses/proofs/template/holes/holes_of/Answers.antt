@@ -1,6 +1,6 @@
-use Rattle.std.proofs.Common.{◌≡◌, ◌∙◌, ◌+◌, ◌++◌, ℕ, List, [], ap, drop, length, refl, subst, sym, arith, slice_range, IsCharBoundary, append-nil}
+use Rattle.std.proofs.Common.{◌≡◌, ◌∙◌, ◌+◌, ℕ, List, [], ap, drop, length, refl, sym, arith, slice_range, append-nil}
 use Rattle.std.proofs.lemmas.Str.{IsCharBoundary-start}
-use Rattle.hip_uses.specs.Template.{CutsHole, IsParsed, written}
+use Rattle.hip_uses.specs.Template.{CutsHole}
 use Rattle.hip_uses.specs.declared.template.Hole.{Hole}
 use Rattle.hip_uses.proofs.Holes.{cuts-hole, pair-end, pair-lacks, unclosed}
 use Rattle.hip_uses.proofs.Templates.{parsed-more, written-more}
@@ -8,21 +8,13 @@ use Rattle.hip_uses.proofs.template.holes.holes_of.Goals as goal
 
 pub loop-open-init : goal.loop-open-init
 loop-open-init g c =
-    let AHole : Type 0 = Hole g.row.B.Denot g.row.B-Sole.Denot g.row.B-Extent.Denot in
-    let text = c.as_str-text.result.now in
-    record {
-      from_at = IsCharBoundary-start text c.as_str-text.utf8;
-      written = ap (λ (l : List AHole). written l ++ text) c.new-holes.ensures.items;
-      parsed = λ more rest parsed. subst (λ (l : List AHole). IsParsed text (l ++ more) rest) (sym c.new-holes.ensures.items) parsed;
-    }
+    record { from_at = IsCharBoundary-start _ c.as_str-text.utf8; written = grind arith; parsed = λ more rest parsed. grind arith }
 
 pub next_pair-requires-in-Some-clause-boundary : goal.next_pair-requires-in-Some-clause-boundary
 next_pair-requires-in-Some-clause-boundary g c = pair-end 123 c.as_str-text.result.now c.in-Some.open (omega arith) c.as_str-text.utf8 c.in-Some.ensures.is
 
 pub part-requires-clause-start_at_boundary : goal.part-requires-clause-start_at_boundary
-part-requires-clause-start_at_boundary g c =
-    subst (λ (l : List ℕ). IsCharBoundary l (c.in-Some.open + 2)) c.as_str-text.ensures.items
-    (pair-end 123 c.as_str-text.result.now c.in-Some.open (omega arith) c.as_str-text.utf8 c.in-Some.ensures.is)
+part-requires-clause-start_at_boundary g c = grind (arith, pair-end 123 c.as_str-text.result.now c.in-Some.open)
 
 pub returns-in_default-next_pair-clause-fault : goal.returns-in_default-next_pair-clause-fault
 returns-in_default-next_pair-clause-fault g c =
@@ -35,9 +27,7 @@ returns-in_default-next_pair-clause-fault g c =
     (found.0, same ∙ found.1, found.2)
 
 pub part-requires-in-Some-2-clause-start_at_boundary : goal.part-requires-in-Some-2-clause-start_at_boundary
-part-requires-in-Some-2-clause-start_at_boundary g c =
-    subst (λ (l : List ℕ). IsCharBoundary l (c.in-Some.open + 2)) c.as_str-text.ensures.items
-    (pair-end 123 c.as_str-text.result.now c.in-Some.open (omega arith) c.as_str-text.utf8 c.in-Some.ensures.is)
+part-requires-in-Some-2-clause-start_at_boundary g c = grind (arith, pair-end 123 c.as_str-text.result.now c.in-Some.open)
 
 pub loop-open-preserved : goal.loop-open-preserved
 loop-open-preserved g c =
@@ -66,5 +56,4 @@ returns-clause-parsed g c =
     let from = c.loop-open.from in
     let holes = c.loop-open.holes.items in
     let lacks = pair-lacks 123 text from c.in_default.ensures in
-    subst (λ (l : List ℕ). IsParsed l holes (drop from l)) c.as_str-text.ensures.items
-    (subst (λ (l : List AHole). IsParsed text l (drop from text)) (append-nil holes) (c.loop-open.invariant.parsed [] (drop from text) (refl, lacks)))
+    rw (← c.as_str-text.ensures.items, ← append-nil holes) (c.loop-open.invariant.parsed [] (drop from text) (refl, lacks))
