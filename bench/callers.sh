@@ -1,12 +1,12 @@
 #!/usr/bin/env bash
-# callers.sh [ROW..]   Proves the functions of bench/callers, or those of the rows named, as a user's own crate over this checkout's libraries,
-#                      one after another and with nothing kept, and prints the processor seconds of each beyond those of the calls that it
-#                      makes (head.txt): over HipStr<Rc>, over any backend, over String, and the first two as ratios to the third. LIBRARIES
-#                      names another checkout whose libraries are built, LIMIT the seconds after which a proof is given up, 600 if left out.
-#                      `make callers` builds the libraries first.
+# callers.sh [ROW..]   Proves the functions of bench/callers, or those of the rows named, each as a user's own crate over this checkout's
+#                      libraries and a library of the calls that it makes (head.txt), one after another and with nothing kept. It prints
+#                      the processor seconds of each beyond those of a function with one such call (one.txt): over HipStr<Rc>, over any
+#                      backend, over String, and the first two as ratios to the third. LIBRARIES names another checkout whose libraries
+#                      are built, LIMIT the seconds after which a proof is given up, 300 if left out. `make callers` builds the libraries.
 set -euo pipefail
 cd "$(dirname "$0")/.."
-from=${LIBRARIES:-$PWD} limit=${LIMIT:-600}
+from=${LIBRARIES:-$PWD} limit=${LIMIT:-300}
 rows=$PWD/bench/callers
 scratch=$(mktemp -d)
 trap 'rm -rf "$scratch"' EXIT
@@ -20,46 +20,71 @@ for crate in $(sed -n 's/^\(hip_raw\|hip_match\|hip_bytes\|hip_text\|hip_names\|
     cp -R "$from/crates/$crate/out/rlib" "$scratch/crates/$crate/out/"
     grep "^$crate:" "$from/crates.txt" >> "$scratch/crates.txt"
 done
-printf '%s\n' 'rc: hipstr' 'any: hipstr' 'string:' >> "$scratch/crates.txt"
-mkdir -p "$scratch"/crates/{rc,any,string}/src
+for side in rc any string; do
+    printf '%s\n' "calls_$side: hipstr" "$side: calls_$side hipstr" >> "$scratch/crates.txt"
+    mkdir -p "$scratch/crates/calls_$side/src"
+done
 
-# text SIDE ROW  The text of a crate: the calls, and behind them the row's function.
-text() {
-    local parts=("$rows/handles/head.txt" "$rows/handles/$2.txt")
-    if [ "$1" = string ]; then
-        parts[0]=$rows/strings/head.txt
-        [ ! -e "$rows/strings/$2.txt" ] || parts[1]=$rows/strings/$2.txt
+# part SIDE NAME  The file of that name, of handles, or of strings where there is one.
+part() {
+    if [ "$1" = string ] && [ -e "$rows/strings/$2.txt" ]; then
+        echo "$rows/strings/$2.txt"
+    else
+        echo "$rows/handles/$2.txt"
     fi
-    [ "$2" != head ] || unset 'parts[1]'
+}
+
+# over SIDE  Turns a text over any backend into one of that side.
+over() {
     case $1 in
-    rc) sed "s/hipstr::Backend;/hipstr::Rc;/; s/<'b, B: Backend>/<'b>/g; s/\(HipStr\|HipPath\)<'b, B>/\1<'b, Rc>/g; s/<'b, B>/<'b>/g; s/::<B>/::<Rc>/g" "${parts[@]}" ;;
-    any) cat "${parts[@]}" ;;
-    string) sed "s/<'b, B: Backend>//g; s/HipStr<'b, B>/String/g; s/<'b, B>//g" "${parts[@]}" ;;
+    rc) sed "s/hipstr::Backend;/hipstr::Rc;/; s/<'b, B: Backend>/<'b>/g; s/\(HipStr\|HipPath\)<'b, B>/\1<'b, Rc>/g; s/<'b, B>/<'b>/g; s/::<B>/::<Rc>/g" ;;
+    any) cat ;;
+    string) sed "s/<'b, B: Backend>//g; s/HipStr<'b, B>/String/g; s/<'b, B>//g" ;;
     esac
 }
 
-# seconds SIDE ROW  The processor seconds of a check of that crate from nothing, with one job.
+# imports SIDE ROW  The imports of a row: each name that it uses, of those that the calls import, and of the calls.
+imports() {
+    local text=$scratch/row.rt line names name
+    over "$1" < "$(part "$1" "$2")" > "$text"
+    { over "$1" < "$(part "$1" head)" | grep '^use '; } | while read -r line; do
+        names=$(grep -o '[A-Za-z]*' <<< "${line##*::}" | while read -r name; do [ "$name" != TextCuts ] || echo "$name"; grep -qw "$name" "$text" && echo "$name"; done | paste -sd, || true)
+        [ -z "$names" ] || echo "${line%::*}::{$names};"
+    done
+    names=$(sed -n 's/^pub fn \([a-z_]*\).*/\1/p' "$(part "$1" head)" | while read -r name; do grep -qw "$name" "$text" && echo "$name"; done | paste -sd, || true)
+    [ -z "$names" ] || echo "use calls_$1::{$names};"
+}
+
+# seconds SIDE ROW  The processor seconds of a check of that row from nothing, with one job.
 seconds() {
     local folder=$scratch/crates/$1 TIMEFORMAT='%U %S'
     rm -rf "$folder"
     mkdir -p "$folder/src"
-    text "$1" "$2" > "$folder/src/lib.rt"
+    {
+        printf '%s\n' '//! A function, as a user writes it.' '#![tactic(auto)]'
+        imports "$1" "$2"
+        cat "$scratch/row.rt"
+    } > "$folder/src/lib.rt"
     (cd "$folder" && { time timeout "$limit" rt check --jobs 1 > "$scratch/log" 2>&1 < /dev/null; } 2>&1) > "$scratch/spent" ||
         { [ $? -eq 124 ] || { tail -n 5 "$scratch/log" >&2; return 1; }; echo none; return; }
     awk '{ printf "%.1f", $1 + $2 }' "$scratch/spent"
 }
 
+for side in rc any string; do
+    over "$side" < "$(part "$side" head)" > "$scratch/crates/calls_$side/src/lib.rt"
+    (cd "$scratch/crates/calls_$side" && rt lib --jobs 1 > "$scratch/log" 2>&1) || { tail -n 5 "$scratch/log" >&2; exit 1; }
+done
 [ $# -gt 0 ] || set -- cuts fields arms walk map path pair
-head_rc=$(seconds rc head)
-head_any=$(seconds any head)
-head_string=$(seconds string head)
-printf '%-8s %6s %6s %6s\n' calls "$head_rc" "$head_any" "$head_string"
+one_rc=$(seconds rc one)
+one_any=$(seconds any one)
+one_string=$(seconds string one)
+printf '%-8s %6s %6s %6s\n' 'one call' "$one_rc" "$one_any" "$one_string"
 for row in "$@"; do
     over_rc=$(seconds rc "$row")
     over_any=$(seconds any "$row")
     over_string=$(seconds string "$row")
     echo "$row $over_rc $over_any $over_string"
-done | awk -v rc="$head_rc" -v any="$head_any" -v string="$head_string" '
+done | awk -v rc="$one_rc" -v any="$one_any" -v string="$one_string" '
     function beyond(spent, calls) { return spent == "none" ? spent : sprintf("%.1f", spent - calls) }
     function times(spent, base) { return spent == "none" ? spent : sprintf("%.2f", spent / base) }
     {
