@@ -1,10 +1,10 @@
 -- Tables that are read.
-use Rattle.std.proofs.Common.{◌≡◌, ℕ, ◌+◌, ◌<◌, List, [], ◌∷◌, Some, length, map, get_or, vec_len, ap, arith, Vec, slice_get, Global}
+use Rattle.std.proofs.Common.{◌≡◌, ℕ, ◌+◌, ◌<◌, List, [], ◌∷◌, Option, Some, Result, Ok, length, map, get_or, vec_len, ap, arith, All, MatchOption, Vec, slice_get, Global}
 use Rattle.std.proofs.lemmas.List.{get_or-map, length-map}
 use Rattle.std.proofs.lemmas.Option.{gets, slice_get-map}
 use Rattle.hipstr.specs.Handle.{Handle}
-use Rattle.hip_fields.specs.Records.{AreFields, AreRecords, Texts}
-use Rattle.hip_uses.specs.Cells.{IsRagged, texts_of}
+use Rattle.hip_fields.specs.Records.{AreFields, AreRecords, FirstRecord, RecordsLeft, Texts}
+use Rattle.hip_uses.specs.Cells.{Cells, HasCell, HasCellAt, HasNoCell, HasNoCellAt, IsFirstAt, IsRagged, texts_of}
 
 -- the bytes of the fields of a record
 abbrev pub row_of : Vec Handle Global → Texts
@@ -27,5 +27,20 @@ pub ragged : (header : Vec Handle Global) (rows : List (Vec Handle Global)) (i :
     → (vec_len row ≡ vec_len header → ⊥) → ((k : ℕ) (other : Vec Handle Global) → k < i → vec_len (get_or rows k other) ≡ vec_len header)
     → IsRagged (row_of header) (map row_of rows) (i + 2)
 ragged header rows i row within is other before = grind (arith, at-place row_of rows, gets, slice_get-map, length-map)
+
+-- each row has as many fields as the header
+pub even-rows : (header : Vec Handle Global) (rows : List (Vec Handle Global)) → All (λ (row : Vec Handle Global). vec_len row ≡ vec_len header) rows
+    → All (λ (row : Texts). length row ≡ length (row_of header)) (map row_of rows)
+even-rows header rows even k other low = grind (arith, get_or-map row_of rows k header other, length-map, even k header)
+
+-- the first of the records, and the others, are all of them
+pub read-whole : (E : Type 0) (all : List Texts) (old new : RecordsLeft) (drawn : Result (Vec Handle Global) E) (header : Vec Handle Global) (rows : List (Vec Handle Global)) → old.rest ≡ all
+    → FirstRecord old (Some drawn) new → drawn ≡ Ok header → AreRecords new.source new.rest rows → all ≡ row_of header ∷ map row_of rows
+read-whole E all old new drawn header rows is first was left = grind (arith, AreFields-texts, AreRecords-texts)
+
+-- the cell at the place of a name
+pub by-name : {X : Type 0} (items : X → List ℕ) (table : Cells) (row : ℕ) (name : List ℕ) (place : ℕ) → IsFirstAt table.header name place → (found : Option X)
+    → MatchOption found (HasNoCellAt table row place) (λ cell. HasCellAt table row place (items cell)) → MatchOption found (HasNoCell table row name) (λ cell. HasCell table row name (items cell))
+by-name items table row name place first found there = grind (arith, gets)
 
 pub ruleset tables = (gets, slice_get-map, length-map, AreFields-texts, AreRecords-texts)
