@@ -22,7 +22,7 @@ for crate in $(sed -n 's/^\(hip_raw\|hip_match\|hip_bytes\|hip_text\|hip_names\|
 done
 for side in rc any string; do
     printf '%s\n' "calls_$side: hipstr" "$side: calls_$side hipstr" >> "$scratch/crates.txt"
-    mkdir -p "$scratch/crates/calls_$side/src"
+    mkdir -p "$scratch/crates/calls_$side/src" "$scratch/crates/$side/src"
 done
 
 # part SIDE NAME  The file of that name, of handles, or of strings where there is one.

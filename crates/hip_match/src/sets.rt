@@ -18,9 +18,13 @@ use crate::pattern::{ClonePattern, DoubleEndedPattern, OneChar, Pattern, Reverse
 use crate::place_test::{Bytes, Needle, PlaceTest};
 
 // The bytes of a character.
+#[inline]
 fn needle_of(c: char) -> Needle
     ensures { AreStarts (λ d. d == c) (reach_of result + 1) (stands (bytes_of result)) }
 {
+    if c.is_ascii() {
+        return Needle::One(c as u8);
+    }
     let mut room = [0; 4];
     Needle::new(c.encode_utf8(&mut room).as_bytes()).unwrap_or(Needle::One(0))
 }
