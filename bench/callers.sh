@@ -83,11 +83,11 @@ for row in "$@"; do
     over_rc=$(seconds rc "$row")
     over_any=$(seconds any "$row")
     over_string=$(seconds string "$row")
-    echo "$row $over_rc $over_any $over_string"
-done | awk -v rc="$one_rc" -v any="$one_any" -v string="$one_string" '
+    echo "$row $over_rc $over_any $over_string" | awk -v rc="$one_rc" -v any="$one_any" -v string="$one_string" '
     function beyond(spent, calls) { return spent == "none" ? spent : sprintf("%.1f", spent - calls) }
     function times(spent, base) { return spent == "none" ? spent : sprintf("%.2f", spent / base) }
     {
         r = beyond($2, rc); a = beyond($3, any); s = beyond($4, string)
         printf "%-8s %6s %6s %6s   %5s %5s\n", $1, r, a, s, times(r, s), times(a, s); fflush()
     }'
+done
