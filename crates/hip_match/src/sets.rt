@@ -6,9 +6,9 @@ ghost use Rattle.hip_match.specs.AsciiSets.{in_set};
 ghost use Rattle.hip_match.specs.Characters.{char_ends};
 ghost use Rattle.hip_match.specs.CharLaws.{char_ends-spans, char_ends-one_start, char_ends-one_char};
 ghost use Rattle.hip_match.specs.MarkedSets.{AreStarts};
-ghost use Rattle.hip_match.specs.Marks.{Ahead, Behind, stands};
+ghost use Rattle.hip_match.specs.Marks.{stands};
 ghost use Rattle.hip_match.specs.Needles.{bytes_of, reach_of};
-ghost use Rattle.hip_match.specs.Searchers.{AreAhead, AreBehind};
+ghost use Rattle.hip_match.specs.Searchers.{AreAhead, AreBehind, CharAhead, CharBehind};
 
 use crate::ascii_set::AsciiSet;
 use crate::chars::{CharSet, end_of, start_before};
@@ -43,9 +43,9 @@ impl Pattern for char {
 
     ghost ends = { λ c. char_ends (λ d. d == c) };
 
-    ghost is_ready = { λ c m text from. AreStarts (λ d. d == c) (reach_of m.test + 1) (stands (bytes_of m.test)) × Ahead (stands (bytes_of m.test)) text from m.front.next m.front.bits };
+    ghost is_ready = { CharAhead };
 
-    ghost is_ready_back = { λ c m text to. AreStarts (λ d. d == c) (reach_of m.test + 1) (stands (bytes_of m.test)) × Behind (stands (bytes_of m.test)) text to m.back.start m.back.bits };
+    ghost is_ready_back = { CharBehind };
 
     #[inline]
     fn searcher(&self, _text: &str, from: usize, to: usize) -> Marks<Needle> {
