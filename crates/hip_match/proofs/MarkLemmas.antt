@@ -3,6 +3,7 @@ use Rattle.std.proofs.lemmas.Bool.Decides.{nat_tests}
 use Rattle.std.proofs.lemmas.Grind.{common_steps}
 use Rattle.std.proofs.Common.{◌≡◌, ◌≢◌, ◌∙◌, ℕ, ◌+◌, ◌-◌, ◌<◌, ◌≤◌, Bool, cond, List, Option, None, Some, length, drop, take, take_all, ap, sym, arith, ⊎_elim, bit_or, get_or-drop, length-drop, slice_index, option_map}
 use Rattle.std.proofs.lemmas.Bool.{cases_lt, cases_Bool}
+use Rattle.std.proofs.lemmas.Nat.{le_or_l, le_or_r}
 use Rattle.std.proofs.lemmas.Nat.Bits.{bit_at-lt, bit_at-zero, bit_at_above, bit_at_or}
 use Rattle.std.specs.Int.{bit_at}
 use Rattle.memchr.specs.Find.{IsFirst, IsFirstByte, IsLast, Nowhere, Passes}
@@ -93,6 +94,19 @@ module _ (test : List ℕ → ℕ → Bool) (t : List ℕ) where
         told = λ k bound one. grind (arith, last, others k, top.above k, h.told k bound);
         marked = λ p lo hi pass. grind (arith, last, others (p + 64 - end), h.marked p);
       }
+
+  -- four loads without a mark
+  pub all-clear : (at a b c d : ℕ) → AreMarks test t at (at + 16) (at + 64) a → AreMarks test t (at + 16) (at + 16 + 16) (at + 16 + 64) b
+      → AreMarks test t (at + 32) (at + 32 + 16) (at + 32 + 64) c → AreMarks test t (at + 48) (at + 48 + 16) (at + 48 + 64) d
+      → bit_or (bit_or a b) (bit_or c d) ≡ 0 → Nowhere (PassesAt test t) at (at + 64)
+  all-clear at a b c d first second third fourth is p lo hi =
+      let left = le_or_l (bit_or a b) (bit_or c d) in
+      let right = le_or_r (bit_or a b) (bit_or c d) in
+      ⊎_elim (λ (lt : p < at + 16). none at (at + 16) (at + 64) a first (omega (arith, is, left, le_or_l a b)) p lo lt) (λ (ge : at + 16 ≤ p).
+      ⊎_elim (λ (lt : p < at + 16 + 16). none (at + 16) (at + 16 + 16) (at + 16 + 64) b second (omega (arith, is, left, le_or_r a b)) p ge lt) (λ (more : at + 16 + 16 ≤ p).
+      ⊎_elim (λ (lt : p < at + 32 + 16). none (at + 32) (at + 32 + 16) (at + 32 + 64) c third (omega (arith, is, right, le_or_l c d)) p (omega arith) lt) (λ (most : at + 32 + 16 ≤ p).
+      none (at + 48) (at + 48 + 16) (at + 48 + 64) d fourth (omega (arith, is, right, le_or_r c d)) p (omega arith) (omega arith))
+      (cases_lt p (at + 32 + 16))) (cases_lt p (at + 16 + 16))) (cases_lt p (at + 16))
 
   -- ---- the windows of a walk
 

@@ -15,6 +15,7 @@ use Rattle.hip_match.specs.CharLaws.{char_at-ascii, char_at-end, char_at-starts}
 use Rattle.std.proofs.Common.{append-nil}
 use Rattle.std.proofs.lemmas.Bool.{false≢true}
 use Rattle.std.proofs.lemmas.List.{drop_all}
+use Rattle.std.proofs.lemmas.Nat.{le_bytes_4}
 use Rattle.std.proofs.lemmas.Nat.Bits.{bit_at-trailing_zeros}
 use Rattle.std.proofs.lemmas.Str.{IsCharBoundary-before_ascii, IsCharBoundary-end, IsCharBoundary-start}
 
@@ -47,3 +48,5 @@ pub ruleset white_space = (nonempty-append_kept, nonempty-append_dropped)
 pub ruleset wide_code = (second, third, fourth, is_two, is_three, is_four)
 
 pub ruleset wide_code_before = (room_2, room_3, before_two, before_three, before_four)
+
+pub ruleset word = (le_bytes_4)

@@ -69,12 +69,15 @@ module _ (t p : List ℕ) where
         pub front-room : past + part.lead ≤ at
         front-room = let low = found.low in let high = found.high in omega (arith, low, high)
 
-        pub front-before : Nowhere (OccursAt t p) from (at - part.lead)
+        front-before : Nowhere (OccursAt t p) from (at - part.lead)
         front-before k lo hi h = ⊎_elim (λ (lt : k < past). before k lo lt h) (λ (ge : past ≤ k). found.before (k + part.lead) (omega arith) (omega arith) (part-stands k h)) (cases_lt k past)
 
         pub front-tried : ¬ ((part.lead ≤ at) × OccursAt t p (at - part.lead)) → Nowhere (OccursAt t p) from (at - part.lead + 1)
         front-tried off k lo hi h =
             ⊎_elim (λ (lt : k < at - part.lead). front-before k lo lt h) (λ (ge : at - part.lead ≤ k). (let same : k ≡ at - part.lead = omega arith in off (omega (arith, front-room), rw same at h))) (cases_lt k (at - part.lead))
+
+        pub front-whole : from ≤ past → OccursAt t p (at - part.lead) → IsFirst (OccursAt t p) from (length t) (Some (at - part.lead))
+        front-whole le here = (record { low = omega (arith, front-room); high = (let high = found.high in omega (arith, high)); before = front-before }, here)
 
       pub front-found : (r : Option ℕ) → 0 < length p → from ≤ past → past ≤ length t → FindsNeedle (drop past t) p 0 r → IsFirst (OccursAt t p) from (length t) (option_map (λ i. past + i) r)
       front-found None some le room none = λ k lo hi h. grind (arith, cases_lt k past, before k, h.fits, length-drop past t, OccursAt-in_drop past k, none (k - past))

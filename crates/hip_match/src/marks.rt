@@ -1,10 +1,10 @@
 //! The places of a text that pass a test, found 64 at a time from either end.
 //!
 //! Functions that aren't inlined take a test by value, so that a walk's own fields stay in registers.
-ghost use Rattle.std.specs.Prelude.{◌≡◌, ◌≢◌, ◌+◌, ◌-◌, ◌<◌, ◌≤◌, ℕ, Bool, List, None, Some, length, IfSome, MatchOption};
+ghost use Rattle.std.specs.Prelude.{◌≡◌, ◌≢◌, ◌+◌, ◌-◌, ◌<◌, ◌≤◌, ℕ, Bool, IsTrue, List, None, Some, length, IfSome, MatchOption};
 ghost use Rattle.memchr.specs.Find.{IsFirst, IsLast, Nowhere};
 ghost use Rattle.hip_match.specs.Marks.{Ahead, AreMarks, Behind, PassesAt, stands};
-ghost use Rattle.hip_match.specs.Needles.{bytes_of};
+ghost use Rattle.hip_match.specs.Needles.{bytes_of, packed};
 
 use crate::bits::{bits_below, bits_from, highest, lowest, shifted_up, without, without_lowest};
 use crate::byte_test::OneByte;
@@ -35,6 +35,17 @@ pub(crate) fn block<T: PlaceTest>(test: &T, bytes: &[u8], at: usize) -> u64
         | lanes_moved(test, bytes, at + LANES, LANES)
         | lanes_moved(test, bytes, at + 2 * LANES, 2 * LANES)
         | lanes_moved(test, bytes, at + 3 * LANES, 3 * LANES)
+}
+
+// Whether none of the 64 places from `at` on passes.
+#[inline(always)]
+pub(crate) fn is_clear<T: PlaceTest>(test: &T, bytes: &[u8], at: usize) -> bool
+    requires { at + 64 + T.reach test.now ≤ length bytes.now }
+    ensures { IsTrue result → Nowhere (PassesAt (T.places test.now) bytes.now) at (at + 64) }
+{
+    let first = test.lanes(bytes, at) | test.lanes(bytes, at + LANES);
+    let second = test.lanes(bytes, at + 2 * LANES) | test.lanes(bytes, at + 3 * LANES);
+    first | second == 0
 }
 
 // The marks of a text that has fewer than 64 places: bit k is of the place k.
@@ -244,7 +255,7 @@ impl FrontMarks {
         }
         let read = match test {
             Needle::One(byte) => self.read(&Bytes(OneByte(byte)), bytes, from),
-            _ => read_needle(*self, test, bytes, from),
+            _ => read_needle(self.next, self.is_far, test.word(), test.reach(), bytes, from),
         };
         self.load(read);
         self.pop(&test, bytes, from)
@@ -364,7 +375,7 @@ impl BackMarks {
         }
         let read = match test {
             Needle::One(byte) => self.read(&Bytes(OneByte(byte)), bytes, to),
-            _ => read_needle_back(*self, test, bytes, to),
+            _ => read_needle_back(self.start, self.is_far, test.word(), test.reach(), bytes, to),
         };
         self.load(read);
         self.pop(&test, bytes, to)
@@ -385,37 +396,57 @@ impl BackMarks {
     }
 }
 
-// Reads the marks of a needle as `FrontMarks::read` does. Each width has a loop of its own.
+// Reads the marks of a needle, whose bytes are a word, as `FrontMarks::read` does. Each width has a loop of its own.
 #[inline(never)]
-fn read_needle(marks: FrontMarks, test: Needle, bytes: &[u8], from: usize) -> (usize, u64)
-    requires done { marks.bits ≡ 0 }
-    requires ahead { Ahead (stands (bytes_of test)) bytes.now from marks.next marks.bits }
-    ensures ahead { Ahead (stands (bytes_of test)) bytes.now from result.0 result.1 }
-    ensures end { result.1 ≡ 0 → Nowhere (PassesAt (stands (bytes_of test)) bytes.now) from (length bytes.now) }
-    ensures goes_on { marks.next ≤ result.0 }
+fn read_needle(
+    next: usize,
+    is_far: bool,
+    word: u32,
+    reach: usize,
+    bytes: &[u8],
+    from: usize,
+) -> (usize, u64)
+    requires few { reach ≤ 3 }
+    requires ahead { Ahead (stands (packed word reach)) bytes.now from next 0 }
+    ensures ahead { Ahead (stands (packed word reach)) bytes.now from result.0 result.1 }
+    ensures end { result.1 ≡ 0 → Nowhere (PassesAt (stands (packed word reach)) bytes.now) from (length bytes.now) }
+    ensures goes_on { next ≤ result.0 }
 {
-    match test {
-        Needle::One(a) => marks.read(&Needle::One(a), bytes, from),
-        Needle::Two(a, b) => marks.read(&Needle::Two(a, b), bytes, from),
-        Needle::Three(a, b, c) => marks.read(&Needle::Three(a, b, c), bytes, from),
-        Needle::Four(a, b, c, d) => marks.read(&Needle::Four(a, b, c, d), bytes, from),
+    let bits = 0;
+    let marks = FrontMarks { next, bits, is_far };
+    let [a, b, c, d] = word.to_le_bytes();
+    match reach {
+        0 => marks.read(&Needle::One(a), bytes, from),
+        1 => marks.read(&Needle::Two(a, b), bytes, from),
+        2 => marks.read(&Needle::Three(a, b, c), bytes, from),
+        _ => marks.read(&Needle::Four(a, b, c, d), bytes, from),
     }
 }
 
-// Reads the marks of a needle as `BackMarks::read` does.
+// Reads the marks of a needle, whose bytes are a word, as `BackMarks::read` does.
 #[inline(never)]
-fn read_needle_back(marks: BackMarks, test: Needle, bytes: &[u8], to: usize) -> (usize, u64)
-    requires done { marks.bits ≡ 0 }
-    requires behind { Behind (stands (bytes_of test)) bytes.now to marks.start marks.bits }
-    ensures behind { Behind (stands (bytes_of test)) bytes.now to result.0 result.1 }
-    ensures end { result.1 ≡ 0 → Nowhere (PassesAt (stands (bytes_of test)) bytes.now) 0 to }
-    ensures goes_on { result.0 ≤ marks.start }
+fn read_needle_back(
+    start: usize,
+    is_far: bool,
+    word: u32,
+    reach: usize,
+    bytes: &[u8],
+    to: usize,
+) -> (usize, u64)
+    requires few { reach ≤ 3 }
+    requires behind { Behind (stands (packed word reach)) bytes.now to start 0 }
+    ensures behind { Behind (stands (packed word reach)) bytes.now to result.0 result.1 }
+    ensures end { result.1 ≡ 0 → Nowhere (PassesAt (stands (packed word reach)) bytes.now) 0 to }
+    ensures goes_on { result.0 ≤ start }
 {
-    match test {
-        Needle::One(a) => marks.read(&Needle::One(a), bytes, to),
-        Needle::Two(a, b) => marks.read(&Needle::Two(a, b), bytes, to),
-        Needle::Three(a, b, c) => marks.read(&Needle::Three(a, b, c), bytes, to),
-        Needle::Four(a, b, c, d) => marks.read(&Needle::Four(a, b, c, d), bytes, to),
+    let bits = 0;
+    let marks = BackMarks { start, bits, is_far };
+    let [a, b, c, d] = word.to_le_bytes();
+    match reach {
+        0 => marks.read(&Needle::One(a), bytes, to),
+        1 => marks.read(&Needle::Two(a, b), bytes, to),
+        2 => marks.read(&Needle::Three(a, b, c), bytes, to),
+        _ => marks.read(&Needle::Four(a, b, c, d), bytes, to),
     }
 }
 

@@ -1,12 +1,13 @@
 //! Tests of a place of a text, sixteen at a time.
 
 ghost use Rattle.std.specs.Prelude.{◌≡◌, ◌+◌, ◌<◌, ◌≤◌, ℕ, Bool, IsTrue, List, [], ◌∷◌, length, slice_index, take, MatchOption};
+ghost use Rattle.std.specs.Int.{to_le_bytes, w32};
 ghost use Rattle.memchr.specs.Find.{Nowhere};
 ghost use Rattle.hip_match.specs.Marks.{AreMarks, PassesAt, by_byte, stands};
-ghost use Rattle.hip_match.specs.Needles.{bytes_of, reach_of};
+ghost use Rattle.hip_match.specs.Needles.{bytes_of, packed, reach_of};
 
 use crate::byte_test::{ByteTest, OneByte, byte_before, byte_from};
-use crate::marks::{BLOCK, block};
+use crate::marks::{BLOCK, is_clear};
 
 /// A test of a place of a text, which reads the byte there and some behind it.
 pub trait PlaceTest: Copy {
@@ -109,6 +110,15 @@ impl PlaceTest for Pair {
 // The number of blocks after which a needle's last byte is searched for.
 const BLOCKS: usize = 16;
 
+// The number whose bytes these are, the first the lowest.
+#[tactic(auto, using(crate::proofs::Rules::word))]
+#[inline(always)]
+fn word_of(bytes: [u8; 4]) -> u32
+    ensures { to_le_bytes w32 result ≡ bytes }
+{
+    u32::from_le_bytes(bytes)
+}
+
 /// One to four bytes that stand one after another.
 #[derive(Clone, Copy)]
 pub enum Needle {
@@ -146,6 +156,19 @@ impl Needle {
         }
     }
 
+    /// Its bytes as one number, the first the lowest.
+    #[inline(always)]
+    pub(crate) fn word(&self) -> u32
+        ensures { packed result (reach_of self.now) ≡ bytes_of self.now }
+    {
+        match *self {
+            Needle::One(a) => word_of([a, 0, 0, 0]),
+            Needle::Two(a, b) => word_of([a, b, 0, 0]),
+            Needle::Three(a, b, c) => word_of([a, b, c, 0]),
+            Needle::Four(a, b, c, d) => word_of([a, b, c, d]),
+        }
+    }
+
     // Whether its last two bytes stand at none of the 64 places that belong to those from `at` on.
     #[inline(always)]
     fn ends_nowhere(&self, bytes: &[u8], at: usize) -> bool
@@ -154,9 +177,9 @@ impl Needle {
     {
         match *self {
             Needle::One(_) => false,
-            Needle::Two(a, b) => block(&Pair(a, b), bytes, at) == 0,
-            Needle::Three(_, b, c) => block(&Pair(b, c), bytes, at + 1) == 0,
-            Needle::Four(_, _, c, d) => block(&Pair(c, d), bytes, at + 2) == 0,
+            Needle::Two(a, b) => is_clear(&Pair(a, b), bytes, at),
+            Needle::Three(_, b, c) => is_clear(&Pair(b, c), bytes, at + 1),
+            Needle::Four(_, _, c, d) => is_clear(&Pair(c, d), bytes, at + 2),
         }
     }
 }

@@ -129,7 +129,9 @@ fn first_place(
         let at = front.next_needle(part.needle, bytes, len.min(past + lead))?;
         let start = at - lead;
         if stands_whole(bytes, at, needle, part) {
-            front.skip_to(len.min(at + width));
+            if width > 1 {
+                front.skip_to(len.min(at + width));
+            }
             return Some(start);
         }
         past = start + 1;

@@ -1,17 +1,15 @@
 use Rattle.std.proofs.Common.{◌≡◌, ◌+◌, ◌-◌, None, Some, arith, length, min, true≢false, sym, ◌∙◌}
-use Rattle.hip_match.proofs.TextLemmas.{front-before, front-found, front-none, front-room, front-tried, rest_slice}
+use Rattle.hip_match.proofs.TextLemmas.{front-found, front-none, front-room, front-tried, front-whole, rest_slice}
 use Rattle.hip_match.proofs.texts.first_place.Goals as goal
 
 pub returns-in_err-at-clause-found : goal.returns-in_err-at-clause-found
 returns-in_err-at-clause-found c = rw c.from_residual.ensures (front-none c.args.bytes.now c.args.needle.now c.args.part c.requires.part _ _ c.loop-tries.invariant.2 (rw c.min.ensures at c.in_err-at.ensures.found))
 
-pub returns-then-stands_whole-clause-found : goal.returns-then-stands_whole-clause-found
-returns-then-stands_whole-clause-found c =
-    let found = (rw c.min.ensures at c.in_ok-at.ensures.found).0 in
-    let tried = c.loop-tries.invariant in
-    let here = (c.stands_whole.ensures.0 c.if-stands_whole.true).1 in
-    let room = front-room c.args.bytes.now c.args.needle.now c.args.part c.requires.part _ _ tried.2 _ found in
-    (record { low = omega (arith, tried, room); high = (let high = found.high in omega (arith, high)); before = front-before c.args.bytes.now c.args.needle.now c.args.part c.requires.part _ _ tried.2 _ found }, here)
+pub returns-then-width-gt1-clause-found : goal.returns-then-width-gt1-clause-found
+returns-then-width-gt1-clause-found c = front-whole c.args.bytes.now c.args.needle.now c.args.part c.requires.part _ _ c.loop-tries.invariant.2 _ (rw c.min.ensures at c.in_ok-at.ensures.found).0 c.loop-tries.invariant.0 (c.stands_whole.ensures.0 c.if-stands_whole.true).1
+
+pub returns-else-width-gt1-clause-found : goal.returns-else-width-gt1-clause-found
+returns-else-width-gt1-clause-found c = front-whole c.args.bytes.now c.args.needle.now c.args.part c.requires.part _ _ c.loop-tries.invariant.2 _ (rw c.min.ensures at c.in_ok-at.ensures.found).0 c.loop-tries.invariant.0 (c.stands_whole.ensures.0 c.if-stands_whole.true).1
 
 pub loop-tries-preserved : goal.loop-tries-preserved
 loop-tries-preserved c =
