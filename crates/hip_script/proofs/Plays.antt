@@ -1,9 +1,11 @@
 -- The text that is written for the lines of a script, a run or a line at a time.
-use Rattle.std.proofs.Common.{◌≡◌, ℕ, ◌+◌, ◌<◌, ◌≤◌, ◌⊎◌, Bool, true, false, inl, inr, codes, ap₂, List, [], ◌∷◌, ◌++◌, length, take, drop, get_or, map, Option, refl, sym, ap, ◌∙◌, subst, append_assoc, arith, ⊎_elim}
+use Rattle.std.proofs.Common.{◌≡◌, ℕ, ◌+◌, ◌-◌, ◌^◌, ◌<◌, ◌≤◌, ◌⊎◌, Bool, true, false, inl, inr, codes, ap₂, List, [], ◌∷◌, ◌++◌, length, take, drop, get_or, map, Option, refl, sym, ap, ◌∙◌, subst, append_assoc, arith, ⊎_elim}
 use Rattle.std.proofs.lemmas.Bool.{cases_lt, le-ltb, lt-ltb}
 use Rattle.std.proofs.lemmas.List.{append-nil, map-append, map_more, take_all, take-append-drop}
+use Rattle.std.proofs.Math.Nat.{le_trans, min-le_left}
 use Rattle.std.specs.Io.KnownBytes.{Appends}
-use Rattle.hipstr.specs.{Run.Run, Slot.SlotState, Slot.state_at, Step.Costs, Step.Step, declared.command.Answer.Answer, declared.command.Command.Command, declared.command.Command.TheVariants.New}
+use Rattle.hipstr.proofs.Counts.{counts-more}
+use Rattle.hipstr.specs.{Meter.RisesAtLeast, Run.Run, Slot.SlotState, Slot.state_at, Step.Costs, Step.Step, Step.counts_of, declared.command.Answer.Answer, declared.command.Command.Command, declared.command.Command.TheVariants.New}
 use Rattle.hip_script.proofs.Appended.{appends-none, appends-then}
 use Rattle.hip_script.specs.Performed.{AsideText, PerformsAt, Place, PlaysLine, Tells}
 use Rattle.hip_script.specs.Played.{Answers, FieldsText, IsPlayed, IsPlayedInPart, State, Writes, WritesAll, at_start, fields_cost, printed_show}
@@ -20,7 +22,7 @@ pub record IsPlayedSoFar (shares : Bool) (lines waiting : List Spoken) (place : 
   pub state : State
   pub writes : WritesAll shares at_start done text state
   pub slots : state.slots ≡ place.slots
-  pub low : state.least ≤ place.counted
+  pub low : RisesAtLeast 0 place.counted state.least
   pub high : place.counted ≤ state.most
   pub written : Appends old place.written text
   pub all : done ++ waiting ≡ lines
@@ -30,14 +32,14 @@ writes-said : (shares : Bool) (old new : State) (command : Command) (text : List
 writes-said shares old new (New a) text answers = answers
 writes-said shares old new command text answers = answers
 
-abbrev behind : State → List SlotState → ℕ → State
-behind old slots cost = record { slots = slots; least = old.least; most = old.most + cost }
+abbrev behind : State → List SlotState → ℕ → ℕ → State
+behind old slots count cost = record { slots = slots; least = old.least + count; most = old.most + cost }
 
 writes-step : (shares : Bool) (old : State) (command : Command) (answer : Answer) (between : List SlotState) (cost : ℕ)
     → Step shares old.slots command answer between → Costs shares old.slots command cost
-    → Writes shares old (says command) (printed_answer answer) (behind old between cost)
+    → Writes shares old (says command) (printed_answer answer) (behind old between (counts_of old.slots command answer) cost)
 writes-step shares old command answer between cost step costs =
-    writes-said shares old (behind old between cost) command (printed_answer answer) (record {
+    writes-said shares old (behind old between (counts_of old.slots command answer) cost) command (printed_answer answer) (record {
       command = command;
       answer = answer;
       cost = cost;
@@ -49,26 +51,28 @@ writes-step shares old command answer between cost step costs =
       printed = refl;
     })
 
-writes-run : (shares : Bool) (old : State) (commands : List Command) (answers : List Answer) (new : List SlotState) (total : ℕ)
-    → Run shares old.slots commands answers new total → WritesAll shares old (map says commands) (printed_answers answers) (behind old new total)
-writes-run shares old [] [] new total run = (
+writes-run : (shares : Bool) (old : State) (commands : List Command) (answers : List Answer) (new : List SlotState) (least most : ℕ)
+    → Run shares old.slots commands answers new least most → WritesAll shares old (map says commands) (printed_answers answers) (behind old new least most)
+writes-run shares old [] [] new least most run = (
   refl,
-  ap (λ slots. behind old slots total) run.0 ∙ ap (λ most. record { slots = old.slots; least = old.least; most = most }) (let none = run.1 in omega arith),
+  ap (λ slots. behind old slots least most) run.0
+  ∙ ap₂ (λ least most. record { slots = old.slots; least = least; most = most }) (let none = run.1 in omega arith) (let none = run.2 in omega arith),
 )
-writes-run shares old (c ∷ cs) (a ∷ xs) new total run =
-    let mid = behind old run.0 run.1 in
-    let rest = run.2 in
-    let same : (old.most + run.1) + rest ≡ old.most + total = (let is = run.6 in omega arith) in
-    let later = writes-run shares mid cs xs new rest run.5 in (
+writes-run shares old (c ∷ cs) (a ∷ xs) new least most run =
+    let count = counts_of old.slots c a in
+    let mid = behind old run.0 count run.1 in
+    let counted : old.least + count + run.2 ≡ old.least + least = (let less = run.7 in omega arith) in
+    let paid : old.most + run.1 + run.3 ≡ old.most + most = (let more = run.8 in omega arith) in
+    let later = writes-run shares mid cs xs new run.2 run.3 run.6 in (
       mid,
       printed_answer a,
       printed_answers xs,
-      writes-step shares old c a run.0 run.1 run.3 run.4,
-      subst (λ (most : ℕ). WritesAll shares mid (map says cs) (printed_answers xs) (record { slots = new; least = old.least; most = most })) same later,
+      writes-step shares old c a run.0 run.1 run.4 run.5,
+      rw (counted, paid) at later,
       refl,
     )
-writes-run shares old [] (a ∷ xs) new total run = absurd run
-writes-run shares old (c ∷ cs) [] new total run = absurd run
+writes-run shares old [] (a ∷ xs) new least most run = absurd run
+writes-run shares old (c ∷ cs) [] new least most run = absurd run
 
 writes-then : (shares : Bool) (old mid new : State) (first more : List Spoken) (before after : List ℕ) → WritesAll shares old first before mid
     → WritesAll shares mid more after new → WritesAll shares old (first ++ more) (before ++ after) new
@@ -97,7 +101,7 @@ played-none shares slots counted old empty none = record {
   state = at_start;
   writes = (refl, refl);
   slots = sym empty;
-  low = omega arith;
+  low = omega (arith, min-le_left 0 (2 ^ 128 - 1));
   high = omega arith;
   written = appends-none old;
   all = refl;
@@ -106,19 +110,17 @@ played-none shares slots counted old empty none = record {
 pub played-run : (shares : Bool) (lines : List Spoken) (commands : List Command) (place new : Place) (old : Option (List ℕ))
     → IsPlayedSoFar shares lines (map says commands) place old → PerformsAt shares commands place new → IsPlayedSoFar shares lines [] new old
 played-run shares lines commands place new old so_far performs =
-    let run = subst (λ (slots : List SlotState). Run shares slots commands performs.answers new.slots performs.total) (sym so_far.slots) performs.run in
-    let low = so_far.low in
+    let run = subst (λ (slots : List SlotState). Run shares slots commands performs.answers new.slots performs.least performs.most) (sym so_far.slots) performs.run in
     let high = so_far.high in
-    let never_falls = performs.rises.never_falls in
     let at_most = performs.rises.at_most in
     record {
       done = lines;
       text = so_far.text ++ printed_answers performs.answers;
-      state = behind so_far.state new.slots performs.total;
-      writes = rw (sym so_far.all) (writes-then shares at_start so_far.state (behind so_far.state new.slots performs.total) so_far.done (map says commands) so_far.text
-          (printed_answers performs.answers) so_far.writes (writes-run shares so_far.state commands performs.answers new.slots performs.total run));
+      state = behind so_far.state new.slots performs.least performs.most;
+      writes = rw (sym so_far.all) (writes-then shares at_start so_far.state (behind so_far.state new.slots performs.least performs.most) so_far.done (map says commands) so_far.text
+          (printed_answers performs.answers) so_far.writes (writes-run shares so_far.state commands performs.answers new.slots performs.least performs.most run));
       slots = refl;
-      low = omega arith;
+      low = counts-more 0 place.counted new.counted so_far.state.least performs.least so_far.low performs.copied;
       high = omega arith;
       written = appends-then old place.written new.written so_far.text (printed_answers performs.answers) so_far.written performs.written;
       all = append-nil lines;
@@ -129,18 +131,18 @@ pub record AsideWrites (shares : Bool) (state : State) (line : Spoken) (text : L
   pub new : State
   pub writes : Writes shares state line text new
   pub slots_are : new.slots ≡ slots
-  pub low : new.least ≤ counts
+  pub low : RisesAtLeast 0 counts new.least
   pub high : counts ≤ new.most
 
 aside-writes : (shares : Bool) (state : State) (slots : List SlotState) (aside : Aside) (counted counts : ℕ) (text : List ℕ) → state.slots ≡ slots
-    → state.least ≤ counted → counted ≤ state.most → AsideText shares slots aside counted counts text
+    → RisesAtLeast 0 counted state.least → counted ≤ state.most → AsideText shares slots aside counted counts text
     → AsideWrites shares state (aside_says aside) text slots counts
 aside-writes shares state slots (Show s) counted counts text same low high tells =
     let is = tells.1 in record {
       new = state;
       writes = (tells.0 ∙ ap (λ t. printed_show t s) (sym same), refl);
       slots_are = same;
-      low = omega arith;
+      low = rw is low;
       high = omega arith;
     }
 aside-writes shares state slots Copied counted counts text same low high tells =
@@ -148,7 +150,7 @@ aside-writes shares state slots Copied counted counts text same low high tells =
       new = record { slots = state.slots; least = counted; most = counted };
       writes = (counted, low, high, tells.0, refl);
       slots_are = same;
-      low = omega arith;
+      low = rw is (omega (arith, min-le_left counted (2 ^ 128 - 1)));
       high = omega arith;
     }
 aside-writes shares state slots (FieldsOf s separator) counted counts text same low high tells =
@@ -157,7 +159,7 @@ aside-writes shares state slots (FieldsOf s separator) counted counts text same 
       new = record { slots = state.slots; least = state.least; most = state.most + fields_cost shares state.slots s separator };
       writes = (subst (λ (t : List SlotState). FieldsText t s separator text) (sym same) tells.0, refl);
       slots_are = same;
-      low = omega arith;
+      low = le_trans low never_falls;
       high = omega arith;
     }
 

@@ -1,7 +1,7 @@
 -- Single steps of playing. Only private functions cite these.
 use Rattle.std.specs.Prelude.{◌≡◌, ℕ, ◌⊎◌, Bool, List, [], ◌∷◌, ◌++◌, Option}
 use Rattle.std.specs.Io.KnownBytes.{Appends}
-use Rattle.hipstr.specs.Meter.{RisesAtMost}
+use Rattle.hipstr.specs.Meter.{RisesAtLeast, RisesAtMost}
 use Rattle.hipstr.specs.Run.{Run}
 use Rattle.hipstr.specs.Slot.{SlotState}
 use Rattle.hipstr.specs.declared.command.Answer.{Answer}
@@ -16,9 +16,11 @@ use Rattle.hip_script.specs.declared.line.Line.TheVariants.{Command as CommandLi
 -- the bytes that were written are the printed answers of some run
 pub record Performs (shares : Bool) (old : List SlotState) (commands : List Command) (new : List SlotState) (counted counts : ℕ) (before after : Option (List ℕ)) : Type 0 where
   pub answers : List Answer
-  pub total : ℕ
-  pub run : Run shares old commands answers new total
-  pub rises : RisesAtMost counted counts total
+  pub least : ℕ
+  pub most : ℕ
+  pub run : Run shares old commands answers new least most
+  pub copied : RisesAtLeast counted counts least
+  pub rises : RisesAtMost counted counts most
   pub written : Appends before after (printed_answers answers)
 
 -- the text of a line that is no command, for which the meter goes from one number to another

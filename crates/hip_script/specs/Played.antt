@@ -3,9 +3,10 @@ use Rattle.std.specs.Prelude.{◌≡◌, ℕ, ◌+◌, ◌≤◌, ◌⊎◌, nat
 use Rattle.std.specs.Io.KnownBytes.{Appends, Keeps}
 use Rattle.std.specs.Option.{option_or}
 use Rattle.hip_fields.specs.Records.{records_cost, records_of}
+use Rattle.hipstr.specs.Meter.{RisesAtLeast}
 use Rattle.hipstr.specs.Runs.{lines}
 use Rattle.hipstr.specs.Slot.{SlotState, empty_slot, slot_at, state_at, text_at}
-use Rattle.hipstr.specs.Step.{Costs, Step, not_text_fault, slot_fault, unless}
+use Rattle.hipstr.specs.Step.{Costs, Step, counts_of, not_text_fault, slot_fault, unless}
 use Rattle.hipstr.specs.declared.command.Answer.{Answer}
 use Rattle.hipstr.specs.declared.command.Answer.TheVariants.{Refused}
 use Rattle.hipstr.specs.declared.command.Command.{Command}
@@ -18,7 +19,7 @@ use Rattle.hip_script.specs.Told.{says}
 use Rattle.hip_script.specs.declared.fault.PlayFault.{PlayFault}
 use Rattle.hip_script.specs.declared.fault.PlayFault.TheVariants.{NotACommand, ReadFailed, WriteFailed, Memory}
 
--- the slots between two lines, and between which numbers the meter is
+-- the slots between two lines, and how many bytes were counted at least and at most
 pub record State : Type 0 where
   pub slots : List SlotState
   pub least : ℕ
@@ -36,7 +37,7 @@ pub record Answers (shares : Bool) (old : State) (line : Spoken) (text : List �
   pub is : says command ≡ line
   pub step : Step shares old.slots command answer new.slots
   pub costs : Costs shares old.slots command cost
-  pub least : new.least ≡ old.least
+  pub least : new.least ≡ old.least + counts_of old.slots command answer
   pub most : new.most ≡ old.most + cost
   pub printed : text ≡ printed_answer answer
 
@@ -69,7 +70,7 @@ fields_cost shares slots s separator =
 abbrev pub Writes : Bool → State → Spoken → List ℕ → State → Type 0
 Writes shares old (SayShow s) text new = (text ≡ printed_show old.slots s) × (new ≡ old)
 Writes shares old SayCopied text new =
-    (n : ℕ) × (old.least ≤ n) × (n ≤ old.most) × (text ≡ printed_number n) × (new ≡ record { slots = old.slots; least = n; most = n })
+    (n : ℕ) × RisesAtLeast 0 n old.least × (n ≤ old.most) × (text ≡ printed_number n) × (new ≡ record { slots = old.slots; least = n; most = n })
 Writes shares old (SayFields s separator) text new =
     FieldsText old.slots s separator text
     × (new ≡ record { slots = old.slots; least = old.least; most = old.most + fields_cost shares old.slots s separator })

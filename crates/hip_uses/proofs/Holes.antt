@@ -130,16 +130,6 @@ cuts-hole text from left right hole opens closes before_is name_is = (
 pub end-is : (text : List ℕ) (from n : ℕ) → n ≡ length text → slice_range text from n ≡ drop from text
 end-is text from n size = take_all (n - from) (drop from text) (omega (arith, size, length-drop from text))
 
--- the text behind two opening braces, where no closing ones follow
-pub unclosed : (text : List ℕ) (left n : ℕ) (behind : List ℕ) → IsPair text 123 left → ((k : ℕ) → left + 2 ≤ k → ¬ IsPair text 125 k) → behind ≡ slice_range text (left + 2) n → n ≡ length text
-    → (front : List ℕ) × (text ≡ front ++ (opening ++ behind)) × Lacks closing behind
-unclosed text left n behind opens none is size =
-    let all : behind ≡ drop (left + 2) text = is ∙ end-is text (left + 2) n size in (
-      take left text,
-      sym (take-append-drop left text) ∙ ap (λ l. take left text ++ l) (pair-here 123 text left opens ∙ ap (λ l. opening ++ l) (sym all)),
-      subst (Lacks closing) (sym all) (pair-lacks 125 text (left + 2) none),
-    )
-
 -- a character of one byte finds each of its byte
 pub finds-byte : (sign byte : ℕ) (text : List ℕ) → sign ≡ byte → byte < 128 → IsUtf8 text → FindsByte (char_ends (λ c. c == sign) text) text byte
 finds-byte sign byte text named low utf8 = record {

@@ -1,5 +1,5 @@
 -- One hole more of a template.
-use Rattle.std.proofs.Common.{◌≡◌, ℕ, ◌+◌, ◌-◌, ◌*◌, ◌<◌, List, [], ◌∷◌, ◌++◌, Option, None, Some, Result, Ok, Err, length, take, drop, get_or, refl, append_assoc, take-append-drop, arith, Bor, HashMap, flat_map, option_map, IsSome, OnOk}
+use Rattle.std.proofs.Common.{◌≡◌, ℕ, ◌+◌, ◌-◌, ◌*◌, ◌<◌, List, [], ◌∷◌, ◌++◌, Option, None, Some, Result, Ok, Err, length, take, drop, get_or, refl, append_assoc, take-append-drop, arith, Bor, HashMap, flat_map, option_map, subst, IsSome, OnOk}
 use Rattle.std.specs.HashMap.{Updates}
 use Rattle.std.proofs.lemmas.Grind.{common_steps}
 use Rattle.std.proofs.lemmas.List.{drop_more, flat_map_more, get_or-map, length-map}
@@ -7,7 +7,7 @@ use Rattle.std.proofs.lemmas.List.Folds.{flat_map-map}
 use Rattle.hipstr.specs.Join.{joined}
 use Rattle.hipstr.specs.Handle.{Handle}
 use Rattle.hip_uses.specs.Number.{text_bytes, same_text}
-use Rattle.hip_uses.specs.Template.{AllKnown, all_shown, FillFails, CutsHole, HoleFails, IsParsed, IsUnknown, filled, value_in, value_of, value_with, woven, written}
+use Rattle.hip_uses.specs.Template.{AllKnown, all_shown, FillFails, CutsHole, CutsHoles, HoleFails, IsUnknown, filled, value_in, value_of, value_with, woven, written}
 use Rattle.hip_uses.specs.declared.template.Hole.{Hole}
 use Rattle.hip_uses.specs.declared.fault.TemplateFault.{TemplateFault}
 use Rattle.hip_uses.specs.declared.fault.TemplateFault.TheVariants.{Unclosed, Unknown, Memory}
@@ -91,9 +91,11 @@ pub written-more : {B S P : Type 0} (template rest : List ℕ) (holes more : Lis
     → CutsHole rest hole after → more ≡ holes ++ hole ∷ [] → written more ++ after ≡ template
 written-more template rest holes more hole after so_far cut pushed = grind (arith, common_steps)
 
--- a template is parsed as its rest is, behind one hole more
-pub parsed-more : {B S P : Type 0} (template rest : List ℕ) (holes more : List (Hole B S P)) (hole : Hole B S P) (after : List ℕ)
-    → ((later : List (Hole B S P)) (last : List ℕ) → IsParsed rest later last → IsParsed template (holes ++ later) last)
-    → CutsHole rest hole after → more ≡ holes ++ hole ∷ []
-    → (later : List (Hole B S P)) (last : List ℕ) → IsParsed after later last → IsParsed template (more ++ later) last
-parsed-more template rest holes more hole after so_far cut pushed later last parsed = grind (arith, append_assoc)
+-- one hole more is cut
+cuts-behind : {B S P : Type 0} (template rest : List ℕ) (holes : List (Hole B S P)) (hole : Hole B S P) (after : List ℕ) → CutsHoles template holes rest → CutsHole rest hole after → CutsHoles template (holes ++ hole ∷ []) after
+cuts-behind template rest [] hole after same cut = (after, subst (λ text. CutsHole text hole after) same cut, refl)
+cuts-behind template rest (first ∷ holes) hole after so_far cut = (so_far.0, so_far.1, cuts-behind so_far.0 rest holes hole after so_far.2 cut)
+
+pub cuts-more : {B S P : Type 0} (template rest : List ℕ) (holes more : List (Hole B S P)) (hole : Hole B S P) (after : List ℕ) → CutsHoles template holes rest
+    → CutsHole rest hole after → more ≡ holes ++ hole ∷ [] → CutsHoles template more after
+cuts-more template rest holes more hole after so_far cut pushed = rw pushed (cuts-behind template rest holes hole after so_far cut)

@@ -19,12 +19,19 @@ opening = codes "{{"
 abbrev pub closing : List ℕ
 closing = codes "}}"
 
--- the text is cut at its holes: at the first `{{`, at the first `}}` behind it, and so on in what follows, up to a rest without `{{`
+-- a hole at the front of a text, with what lies before it and behind it: it opens at the first `{{` and ends at the first `}}` behind that
+abbrev pub CutsHole : {B S P : Type 0} → List ℕ → Hole B S P → List ℕ → Type 0
+CutsHole text hole after =
+    (behind : List ℕ) × IsParted opening text hole.before.items behind × IsParted closing behind hole.name.items after
+
+-- holes one behind another, and what lies behind the last
+abbrev pub CutsHoles : {B S P : Type 0} → List ℕ → List (Hole B S P) → List ℕ → Type 0
+CutsHoles text [] after = after ≡ text
+CutsHoles text (hole ∷ holes) after = (behind : List ℕ) × CutsHole text hole behind × CutsHoles behind holes after
+
+-- the text is cut at its holes, up to a rest without `{{`
 abbrev pub IsParsed : {B S P : Type 0} → List ℕ → List (Hole B S P) → List ℕ → Type 0
-IsParsed text [] rest = (rest ≡ text) × Lacks opening text
-IsParsed text (hole ∷ holes) rest =
-    (behind : List ℕ) × (after : List ℕ) × IsParted opening text hole.before.items behind
-    × IsParted closing behind hole.name.items after × IsParsed after holes rest
+IsParsed text holes rest = CutsHoles text holes rest × Lacks opening rest
 
 -- a hole and what lies before it, as they are written
 abbrev pub hole_written : {B S P : Type 0} → Hole B S P → List ℕ
@@ -68,10 +75,11 @@ filled values holes = flat_map (hole_filled values) holes
 abbrev pub AllKnown : {B S P : Type 0} → List (Handle × Handle) → List (Hole B S P) → Type 0
 AllKnown values holes = All (λ hole. IsSome (value_of values hole.name.items)) holes
 
--- behind a `{{` there is this text alone, without `}}`
+-- behind some holes, no `}}` follows the next `{{`: the fault tells what lies behind that
 abbrev pub ParseFails : {B S P : Type 0} → List ℕ → TemplateFault B S P → Type 0
-ParseFails template (Unclosed text) =
-    (front : List ℕ) × (template ≡ front ++ (opening ++ text.items)) × Lacks closing text.items
+ParseFails {B} {S} {P} template (Unclosed text) =
+    (holes : List (Hole B S P)) × (rest : List ℕ) × (before : List ℕ) × CutsHoles template holes rest
+    × IsParted opening rest before text.items × Lacks closing text.items
 ParseFails template (Unknown name) = ⊥
 ParseFails template Memory = Unit {0}
 
@@ -98,11 +106,6 @@ IsNextPair text brace from result = MatchOption result ((k : ℕ) → from ≤ k
 -- the first place at or after `from` where a pattern occurs, if there is one
 abbrev pub IsNextStart : (ℕ → Option ℕ) → ℕ → Option ℕ → Type 0
 IsNextStart ends from result = MatchOption result ((k : ℕ) → from ≤ k → ends k ≡ None) (λ start. (end : ℕ) × StartsFirst ends from (start, end))
-
--- a hole at the front of a text, with what lies before it and behind it
-abbrev pub CutsHole : {B S P : Type 0} → List ℕ → Hole B S P → List ℕ → Type 0
-CutsHole text hole after =
-    (behind : List ℕ) × IsParted opening text hole.before.items behind × IsParted closing behind hole.name.items after
 
 -- the fault tells this name, or that memory was refused
 abbrev pub IsUnknown : {B S P : Type 0} → List ℕ → TemplateFault B S P → Type 0

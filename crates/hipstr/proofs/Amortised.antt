@@ -1,11 +1,11 @@
 -- Lemmas on the amortised cost of runs.
 use Rattle.std.proofs.Common.{◌≡◌, ◌∙◌, ℕ, zero, suc, ◌+◌, ◌*◌, ◌<◌, ◌≤◌, Bool, false, List, [], ◌∷◌, ◌++◌, length, take, get_or, slice_set, Option, Some, None, MatchOption, refl, ap, subst, sym, arith}
 use Rattle.std.proofs.lemmas.List.{take_more}
-use Rattle.hip_bytes.specs.{Cost.handle_pot, Cost.PushIsPaid, Meter.RisesAtMost, declared.kind.Kind.Kind}
+use Rattle.hip_bytes.specs.{Cost.handle_pot, Cost.PushIsPaid, Meter.RisesAtLeast, Meter.RisesAtMost, declared.kind.Kind.Kind}
 use Rattle.hip_bytes.specs.declared.kind.Kind.TheVariants.{Inline, Borrowed, Allocated}
 use Rattle.hipstr.proofs.InPlace.{InPlace}
 use Rattle.hipstr.specs.Amortised.{added_to, pots, pushed_onto_owner, rises, CostsAmortised, PushesArePaid, RunAmortised}
-use Rattle.hipstr.specs.{Slot.SlotState, Slot.slot_at, Step.Step, Step.Costs, declared.command.Command.Command, declared.command.Answer.Answer}
+use Rattle.hipstr.specs.{Slot.SlotState, Slot.slot_at, Step.Step, Step.Costs, Step.counts_of, declared.command.Command.Command, declared.command.Answer.Answer}
 
 -- the pots grow by no more than they rise
 pub pots-rise : (old new : List SlotState) → pots new ≤ pots old + rises old new
@@ -67,11 +67,12 @@ RunAmortised-take_more shares old mid new commands i default answers more total 
     rw (take_more commands i default within, added) (RunAmortised-append shares old mid new (take i commands) answers total (get_or commands i default) answer amortised run step costs)
 
 -- ---- a command that is performed
--- The step of a command, the bytes that it copies, and that a push is paid, where the meter goes from `before` to `after`.
+-- The step of a command, the bytes that it copies at most and at least, and that a push is paid, where the meter goes from `before` to `after`.
 abbrev pub IsPerformed : Bool → List SlotState → Answer → List SlotState → ℕ → ℕ → Command → Type 0
 IsPerformed shares old answer new before after command = record {
   step : Step shares old command answer new;
   counted : (cost : ℕ) × Costs shares old command cost × RisesAtMost before after cost;
+  copied : RisesAtLeast before after (counts_of old command answer);
   paid : PushesArePaid shares old command new before after;
 }
 

@@ -1,4 +1,5 @@
 pub mod Amortised
+pub mod Counts
 pub mod InPlace
 pub mod Joins
 pub mod Lent

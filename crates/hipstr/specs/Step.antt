@@ -1,6 +1,6 @@
 -- One step of the list machine: what a command may answer, what it leaves of the slots, and how many bytes it copies at most.
 -- `shares` says whether owners are shared.
-use Rattle.std.specs.Prelude.{◌≡◌, ℕ, ◌+◌, ◌-◌, ◌*◌, ◌^◌, ◌<◌, ◌≤◌, ◌⊎◌, Bool, true, false, ◌&&◌, List, [], ◌∷◌, ◌++◌, length, map, take, drop, max, Option, Some, None, is_none, if◌then◌else◌, nat_le, nat_lt, slice_set, MatchOption, Result, Ok, Err, codes, refl}
+use Rattle.std.specs.Prelude.{◌≡◌, ℕ, ◌+◌, ◌-◌, ◌*◌, ◌^◌, ◌<◌, ◌≤◌, ◌⊎◌, Bool, true, false, ◌&&◌, List, [], ◌∷◌, ◌++◌, length, map, take, drop, max, Option, Some, None, is_none, if◌then◌else◌, nat_eq, nat_le, nat_lt, slice_set, MatchOption, Result, Ok, Err, codes, refl}
 use Rattle.std.specs.Char.{is_whitespace, to_ascii_lowercase, to_ascii_uppercase}
 use Rattle.std.specs.Cmp.Lexicographic.{slice_cmp}
 use Rattle.std.specs.List.{join_by, repeat}
@@ -322,6 +322,16 @@ copies_of shares slots (Once s t u end pattern) =
     option_cost (λ parts. parts_cost shares (slot_at slots s) (parts.0 ∷ parts.1 ∷ [])) (parted_slot slots s end pattern)
 -- any other copies none
 copies_of shares slots command = 0
+
+-- the bytes that a command counts at least where it is done: those that it is given or adds, and those of a repetition, but where that is
+-- a clone, and of a join. Any other may count none.
+abbrev pub counts_of : List SlotState → Command → Answer → ℕ
+counts_of slots (Inline t bytes) Done = length bytes.now
+counts_of slots (Copy t bytes) Done = length bytes.now
+counts_of slots (Push t bytes) Done = length bytes.now
+counts_of slots (Repeat s t n) Done = if nat_eq n 1 then 0 else n * length (slot_at slots s).items
+counts_of slots (Join first count sep t) Done = length (joined_slots slots first count sep.now)
+counts_of slots command answer = 0
 
 -- the bytes that are copied, none where there is a fault
 abbrev pub unless : Option Reason → ℕ → ℕ

@@ -1,8 +1,8 @@
 ghost use Rattle.std.specs.Prelude.{◌≡◌, ℕ, ◌+◌, false, IfOk, OnErr};
-ghost use Rattle.hip_bytes.specs.Meter.{RisesAtMost};
+ghost use Rattle.hip_bytes.specs.Meter.{RisesAtLeast, RisesAtMost};
 ghost use Rattle.hipstr.specs.Amortised.{pots, PushesArePaid, RunAmortised};
 ghost use Rattle.hipstr.specs.Reason.{answer_of};
-ghost use Rattle.hipstr.specs.Step.{Step, Costs};
+ghost use Rattle.hipstr.specs.Step.{Step, Costs, counts_of};
 ghost use Rattle.hipstr.specs.Run.{Run};
 
 use crate::command::{Answer, Command, Reason};
@@ -32,6 +32,8 @@ impl<'b, B: Backend> Pool<'b, B> {
         ensures step { Step B.SHARES self.old command.now (answer_of result) self.new }
         ensures counted { (cost : ℕ) × Costs B.SHARES self.old command.now cost
             × RisesAtMost meter.old meter.new cost }
+        ensures copied { RisesAtLeast meter.old meter.new
+            (counts_of self.old command.now (answer_of result)) }
         ensures paid { PushesArePaid B.SHARES self.old command.now self.new meter.old meter.new }
     {
         match *command {
@@ -89,8 +91,8 @@ pub fn run<'b, B: Backend>(
     meter: &mut Meter,
 ) -> Result<Vec<Answer>, AllocError>
     ensures run { IfOk result
-        (λ answers. (total : ℕ) × Run B.SHARES pool.old commands.now answers.items pool.new total
-        × RisesAtMost meter.old meter.new total) }
+        (λ answers. (least most : ℕ) × Run B.SHARES pool.old commands.now answers.items pool.new least most
+        × RisesAtLeast meter.old meter.new least × RisesAtMost meter.old meter.new most) }
     ensures amortised { B.SHARES ≡ false
         → IfOk result (λ answers. (total : ℕ)
         × RunAmortised B.SHARES pool.old commands.now answers.items pool.new total

@@ -1,9 +1,9 @@
 //! Commands that change a slot's value at its end.
-ghost use Rattle.hip_bytes.specs.Meter.{RisesAtMost};
+ghost use Rattle.hip_bytes.specs.Meter.{RisesAtLeast, RisesAtMost};
 ghost use Rattle.hipstr.specs.Amortised.{PushesArePaid};
 ghost use Rattle.hipstr.specs.declared.command.Command.{Command};
 ghost use Rattle.hipstr.specs.Reason.{answer_of};
-ghost use Rattle.hipstr.specs.Step.{Step, cost_of};
+ghost use Rattle.hipstr.specs.Step.{Step, cost_of, counts_of};
 
 use crate::command::{Answer, Reason};
 use crate::pool::Pool;
@@ -23,6 +23,8 @@ impl<'b, B: Backend> Pool<'b, B> {
             (answer_of result) self.new }
         ensures counted { RisesAtMost meter.old meter.new
             (cost_of B.SHARES self.old (Command.Push t addition.entry)) }
+        ensures copied { RisesAtLeast meter.old meter.new
+            (counts_of self.old (Command.Push t addition.entry) (answer_of result)) }
         ensures paid { PushesArePaid B.SHARES self.old
             (Command.Push t addition.entry) self.new meter.old meter.new }
     {

@@ -1,12 +1,12 @@
 //! The command that joins slots.
-ghost use Rattle.std.specs.Prelude.{◌≡◌, ◌↔◌, ◌≤◌, ◌<◌, ◌+◌, ◌^◌, nat_le, length, take, drop, map, IfOk};
+ghost use Rattle.std.specs.Prelude.{◌≡◌, ◌↔◌, ◌≤◌, ◌<◌, ◌+◌, ◌^◌, nat_le, length, take, drop, map, IfOk, OnOk};
 ghost use Rattle.std.specs.Option.{SomeIff};
 ghost use Rattle.hip_bytes.specs.Join.{gap_at, join_cost};
 ghost use Rattle.hip_bytes.specs.Kinds.{HoldsByLength};
-ghost use Rattle.hip_bytes.specs.Meter.{RisesAtMost};
+ghost use Rattle.hip_bytes.specs.Meter.{RisesAtLeast, RisesAtMost};
 ghost use Rattle.hipstr.specs.declared.command.Command.{Command};
 ghost use Rattle.hipstr.specs.Reason.{answer_of};
-ghost use Rattle.hipstr.specs.Step.{Step, cost_of, items_of, joined_slots};
+ghost use Rattle.hipstr.specs.Step.{Step, cost_of, counts_of, items_of, joined_slots};
 
 use crate::command::{Answer, Reason};
 use crate::pool::{Pool, Slot};
@@ -27,6 +27,8 @@ impl<'b, B: Backend> Pool<'b, B> {
             (answer_of result) self.new }
         ensures counted { RisesAtMost meter.old meter.new
             (cost_of B.SHARES self.old (Command.Join first count sep.entry t)) }
+        ensures copied { RisesAtLeast meter.old meter.new
+            (counts_of self.old (Command.Join first count sep.entry t) (answer_of result)) }
     {
         self.find_all(first, count)?;
         self.find(t)?;
@@ -52,6 +54,8 @@ impl<'b, B: Backend> Pool<'b, B> {
             ↔ (2 ^ 64 ≤ length (joined_slots self.now first count sep.now)) }
         ensures counted { RisesAtMost meter.old meter.new
             (join_cost B.SHARES (length (joined_slots self.now first count sep.now))) }
+        ensures copied { OnOk result (RisesAtLeast meter.old meter.new
+            (length (joined_slots self.now first count sep.now))) }
         ensures refused_counts_none { result ≡ Err GrowFault.TooLong → meter.new ≡ meter.old }
     {
         if self.joined_len(first, count, sep).is_none() {

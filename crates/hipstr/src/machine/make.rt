@@ -1,8 +1,8 @@
 //! Commands that make a slot's value.
-ghost use Rattle.hip_bytes.specs.Meter.{RisesAtMost};
+ghost use Rattle.hip_bytes.specs.Meter.{RisesAtLeast, RisesAtMost};
 ghost use Rattle.hipstr.specs.declared.command.Command.{Command};
 ghost use Rattle.hipstr.specs.Reason.{answer_of};
-ghost use Rattle.hipstr.specs.Step.{Step, cost_of};
+ghost use Rattle.hipstr.specs.Step.{Step, cost_of, counts_of};
 
 use crate::command::{Answer, Reason};
 use crate::pool::{Pool, Slot};
@@ -29,6 +29,8 @@ impl<'b, B: Backend> Pool<'b, B> {
             (answer_of result) self.new }
         ensures counted { RisesAtMost meter.old meter.new
             (cost_of B.SHARES self.old (Command.Inline t bytes.entry)) }
+        ensures copied { RisesAtLeast meter.old meter.new
+            (counts_of self.old (Command.Inline t bytes.entry) (answer_of result)) }
     {
         self.find(t)?;
         let Some(handle) = HipByt::try_inline_metered(bytes, meter) else {
@@ -58,6 +60,8 @@ impl<'b, B: Backend> Pool<'b, B> {
             (answer_of result) self.new }
         ensures counted { RisesAtMost meter.old meter.new
             (cost_of B.SHARES self.old (Command.Copy t bytes.entry)) }
+        ensures copied { RisesAtLeast meter.old meter.new
+            (counts_of self.old (Command.Copy t bytes.entry) (answer_of result)) }
     {
         self.find(t)?;
         let handle = HipByt::from_slice_metered(alloc, bytes, meter)?;
@@ -138,6 +142,8 @@ impl<'b, B: Backend> Pool<'b, B> {
         ensures step { Step B.SHARES self.old (Command.Repeat s t n) (answer_of result) self.new }
         ensures counted { RisesAtMost meter.old meter.new
             (cost_of B.SHARES self.old (Command.Repeat s t n)) }
+        ensures copied { RisesAtLeast meter.old meter.new
+            (counts_of self.old (Command.Repeat s t n) (answer_of result)) }
     {
         let source = self.find(s)?;
         self.find(t)?;

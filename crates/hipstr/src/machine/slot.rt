@@ -6,7 +6,7 @@ ghost use Rattle.hip_bytes.specs.Change.{IsPushed, IsRewritten, IsShortened, Shr
 ghost use Rattle.hip_bytes.specs.Cost.{OwnNeedsMemory, PushIsPaid, PushNeedsMemory, WriteNeedsMemory};
 ghost use Rattle.hip_bytes.specs.Cost.{owned_cost, push_cost, shortened_cost, shrink_cost, write_cost};
 ghost use Rattle.hip_bytes.specs.Made.{IsOwned};
-ghost use Rattle.hip_bytes.specs.Meter.{RisesAtMost};
+ghost use Rattle.hip_bytes.specs.Meter.{RisesAtLeast, RisesAtMost};
 ghost use Rattle.hipstr.specs.Slot.{state_of};
 ghost use Rattle.hipstr.specs.Step.{SlotAnswers, SlotPops, addition_fault, end_fault, not_text_fault};
 ghost use Rattle.hipstr.specs.Step.{SlotMutates, mutate_cost, set_fault, text_fault, unless};
@@ -35,6 +35,7 @@ impl<'b, B: Backend> Slot<'b, B> {
         ensures counted { RisesAtMost meter.old meter.new
             (unless (addition_fault (state_of self.old) addition.now)
             (push_cost B.SHARES (length (state_of self.old).handle.items) (length addition.now))) }
+        ensures copied { OnOk result (RisesAtLeast meter.old meter.new (length addition.now)) }
         ensures paid { PushIsPaid B.SHARES (state_of self.old).handle (state_of self.new).handle
             (length addition.now) meter.old meter.new }
     {

@@ -1,6 +1,6 @@
 use Rattle.std.proofs.Common.{◌+◌, get_or, arith}
 use Rattle.std.proofs.lemmas.Grind.{common_steps}
-use Rattle.hipstr.proofs.{Amortised.step-paid, Amortised.RunAmortised-take_more, Runs.Run-take_more}
+use Rattle.hipstr.proofs.{Amortised.step-paid, Amortised.RunAmortised-take_more, Counts.counts-more, Runs.Run-take_more}
 use Rattle.hipstr.specs.declared.command.Command.TheVariants.{New}
 use Rattle.hipstr.proofs.machine.run.Goals as goal
 
@@ -13,8 +13,10 @@ loop-command-preserved g c =
     record {
       run = (
         _,
-        Run-take_more _ _ _ _ _ _ _ _ _ _ _ c.perform.ensures.counted.0 c.loop-command-test.true so_far.1 step c.perform.ensures.counted.1 c.push_reserved.ensures.items,
-        record { never_falls = omega (arith, so_far.2.never_falls, c.perform.ensures.counted.2.never_falls); at_most = omega (arith, so_far.2.at_most, c.perform.ensures.counted.2.at_most) },
+        _,
+        Run-take_more _ _ _ _ _ _ _ _ _ _ _ _ c.perform.ensures.counted.0 c.loop-command-test.true so_far.2 step c.perform.ensures.counted.1 c.push_reserved.ensures.items,
+        counts-more _ _ _ _ _ so_far.3 (rw (← c.from.ensures) at c.perform.ensures.copied),
+        record { never_falls = omega (arith, so_far.4.never_falls, c.perform.ensures.counted.2.never_falls); at_most = omega (arith, so_far.4.at_most, c.perform.ensures.counted.2.at_most) },
       );
       amortised = λ unshared.
           let before = c.loop-command.invariant.amortised unshared in

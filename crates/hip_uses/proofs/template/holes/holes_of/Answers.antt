@@ -2,13 +2,13 @@ use Rattle.std.proofs.Common.{◌≡◌, ◌∙◌, ◌+◌, ℕ, List, [], ap, 
 use Rattle.std.proofs.lemmas.Str.{IsCharBoundary-start}
 use Rattle.hip_uses.specs.Template.{CutsHole}
 use Rattle.hip_uses.specs.declared.template.Hole.{Hole}
-use Rattle.hip_uses.proofs.Holes.{cuts-hole, pair-end, pair-lacks, unclosed}
-use Rattle.hip_uses.proofs.Templates.{parsed-more, written-more}
+use Rattle.hip_uses.proofs.Holes.{cuts-hole, end-is, pair-end, pair-lacks, pair-parts}
+use Rattle.hip_uses.proofs.Templates.{cuts-more, written-more}
 use Rattle.hip_uses.proofs.template.holes.holes_of.Goals as goal
 
 pub loop-open-init : goal.loop-open-init
 loop-open-init g c =
-    record { from_at = IsCharBoundary-start _ c.as_str-text.utf8; written = grind arith; parsed = λ more rest parsed. grind arith }
+    record { from_at = IsCharBoundary-start _ c.as_str-text.utf8; written = grind arith; parsed = refl }
 
 pub next_pair-requires-in-Some-clause-boundary : goal.next_pair-requires-in-Some-clause-boundary
 next_pair-requires-in-Some-clause-boundary g c = pair-end 123 c.as_str-text.result.now c.in-Some.open (omega arith) c.as_str-text.utf8 c.in-Some.ensures.is
@@ -20,11 +20,11 @@ pub returns-in_default-next_pair-clause-fault : goal.returns-in_default-next_pai
 returns-in_default-next_pair-clause-fault g c =
     let text = c.as_str-text.result.now in
     let same = sym c.as_str-text.ensures.items in
+    let from = c.loop-open.from in
     let left = c.in-Some.open in
     let behind = c.in_ok-behind.behind.items in
-    let shown : behind ≡ slice_range text (left + 2) (length text) = c.in_ok-behind.ensures ∙ ap (λ (l : List ℕ). slice_range l (left + 2) (length text)) same in
-    let found = unclosed text left (length text) behind c.in-Some.ensures.is c.in_default-next_pair.ensures shown refl in
-    (found.0, same ∙ found.1, found.2)
+    let shown : behind ≡ drop (left + 2) text = c.in_ok-behind.ensures ∙ ap (λ (l : List ℕ). slice_range l (left + 2) (length text)) same ∙ end-is text (left + 2) (length text) refl in
+    (c.loop-open.holes.items, drop from text, slice_range text from left, rw (← c.as_str-text.ensures.items) c.loop-open.invariant.parsed, rw shown (pair-parts 123 text from left c.in-Some.ensures), rw shown (pair-lacks 125 text (left + 2) c.in_default-next_pair.ensures))
 
 pub part-requires-in-Some-2-clause-start_at_boundary : goal.part-requires-in-Some-2-clause-start_at_boundary
 part-requires-in-Some-2-clause-start_at_boundary g c = grind (arith, pair-end 123 c.as_str-text.result.now c.in-Some.open)
@@ -46,14 +46,8 @@ loop-open-preserved g c =
     record {
       from_at = pair-end 125 text right (omega arith) c.as_str-text.utf8 closes.is;
       written = written-more text (drop from text) c.loop-open.holes.items _ hole (drop (right + 2) text) c.loop-open.invariant.written cut c.in_ok-push.ensures.items;
-      parsed = parsed-more text (drop from text) c.loop-open.holes.items _ hole (drop (right + 2) text) c.loop-open.invariant.parsed cut c.in_ok-push.ensures.items;
+      parsed = cuts-more text (drop from text) c.loop-open.holes.items _ hole (drop (right + 2) text) c.loop-open.invariant.parsed cut c.in_ok-push.ensures.items;
     }
 
 pub returns-clause-parsed : goal.returns-clause-parsed
-returns-clause-parsed g c =
-    let AHole : Type 0 = Hole g.row.B.Denot g.row.B-Sole.Denot g.row.B-Extent.Denot in
-    let text = c.as_str-text.result.now in
-    let from = c.loop-open.from in
-    let holes = c.loop-open.holes.items in
-    let lacks = pair-lacks 123 text from c.in_default.ensures in
-    rw (← c.as_str-text.ensures.items, ← append-nil holes) (c.loop-open.invariant.parsed [] (drop from text) (refl, lacks))
+returns-clause-parsed g c = rw (← c.as_str-text.ensures.items) (c.loop-open.invariant.parsed, pair-lacks 123 c.as_str-text.result.now c.loop-open.from c.in_default.ensures)

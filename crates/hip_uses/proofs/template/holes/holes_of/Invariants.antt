@@ -1,6 +1,5 @@
-use Rattle.std.proofs.Common.{◌≡◌, ◌++◌, ℕ, ◌-◌, List, drop, length, IsCharBoundary}
-use Rattle.hip_uses.specs.Template.{IsParsed, written}
-use Rattle.hip_uses.specs.declared.template.Hole.{Hole}
+use Rattle.std.proofs.Common.{◌≡◌, ◌++◌, ◌-◌, drop, length, IsCharBoundary}
+use Rattle.hip_uses.specs.Template.{CutsHoles, written}
 use Rattle.hip_uses.proofs.template.holes.holes_of.Given as goal
 
 -- the text up to `from` is cut at its holes
@@ -8,7 +7,7 @@ abbrev pub invariant-loop-open : goal.invariant-loop-open
 invariant-loop-open g l = record {
   from_at : IsCharBoundary l.text l.from;
   written : written l.holes.items ++ drop l.from l.text ≡ l.text;
-  parsed : (more : List (Hole g.row.B.Denot g.row.B-Sole.Denot g.row.B-Extent.Denot)) (rest : List ℕ) → IsParsed (drop l.from l.text) more rest → IsParsed l.text (l.holes.items ++ more) rest;
+  parsed : CutsHoles l.text l.holes.items (drop l.from l.text);
 }
 
 abbrev pub decreases-loop-open : goal.decreases-loop-open

@@ -1,7 +1,7 @@
 use Rattle.std.proofs.Common.{◌∙◌, ap, refl, rules, slice_set, subst, sym}
-use Rattle.hip_bytes.specs.Meter.{RisesAtMost}
-use Rattle.hipstr.specs.{Step.cost_of, declared.command.Command.TheVariants.Repeat, Slot.state_of}
-use Rattle.hipstr.proofs.Places.{repeat-counted, repeat-refused, repeat-step}
+use Rattle.hip_bytes.specs.Meter.{RisesAtLeast, RisesAtMost}
+use Rattle.hipstr.specs.{Step.cost_of, Step.counts_of, declared.command.Command.TheVariants.Repeat, declared.command.Answer.TheVariants.Done, Reason.grow_reason_of, Slot.state_of}
+use Rattle.hipstr.proofs.{Counts.refused-counts, Counts.repeat-counts, Places.repeat-counted, Places.repeat-refused, Places.repeat-step}
 use Rattle.hipstr.proofs.pool.Pool.make_repeat.Goals.{in-Bytes+in_ok-repeat_metered-in-Bytes, in-Text+in_ok-repeat_metered-in-Text}
 use Rattle.hipstr.proofs.pool.Pool.make_repeat.Goals as goal
 
@@ -20,6 +20,7 @@ returns-in_err-repeat_metered-in-Bytes g c =
           (sym (ap state_of c.in-Bytes.is) ∙ c.in_ok-source.ensures.slot) refl (search rules) c.in_err-repeat_metered-in-Bytes.ensures.repeated;
       counted = repeat-counted g.B.Backend.SHARES c.args.self.now c.args.s c.args.t c.args.n _ _ _ _ c.in_ok-source.ensures.found c.in_ok-find.ensures.found
           (sym (ap state_of c.in-Bytes.is) ∙ c.in_ok-source.ensures.slot) c.in_err-repeat_metered-in-Bytes.ensures.repeated c.in_err-repeat_metered-in-Bytes.ensures.counted c.in_err-repeat_metered-in-Bytes.ensures.refused_counts_none;
+      copied = refused-counts (counts_of c.args.self.now (Repeat c.args.s c.args.t c.args.n)) _ (grow_reason_of c.in_err-repeat_metered-in-Bytes.field-0.0) refl (search rules) c.in_err-repeat_metered-in-Bytes.ensures.counted;
     }
 
 pub returns-in_err-repeat_metered-in-Text : goal.returns-in_err-repeat_metered-in-Text
@@ -29,6 +30,7 @@ returns-in_err-repeat_metered-in-Text g c =
           (sym (ap state_of c.in-Text.is) ∙ c.in_ok-source.ensures.slot) refl (search rules) c.in_err-repeat_metered-in-Text.ensures.repeated;
       counted = repeat-counted g.B.Backend.SHARES c.args.self.now c.args.s c.args.t c.args.n _ _ _ _ c.in_ok-source.ensures.found c.in_ok-find.ensures.found
           (sym (ap state_of c.in-Text.is) ∙ c.in_ok-source.ensures.slot) c.in_err-repeat_metered-in-Text.ensures.repeated c.in_err-repeat_metered-in-Text.ensures.counted c.in_err-repeat_metered-in-Text.ensures.refused_counts_none;
+      copied = refused-counts (counts_of c.args.self.now (Repeat c.args.s c.args.t c.args.n)) _ (grow_reason_of c.in_err-repeat_metered-in-Text.field-0.0) refl (search rules) c.in_err-repeat_metered-in-Text.ensures.counted;
     }
 
 pub returns-clause-counted : goal.returns-clause-counted
@@ -39,4 +41,14 @@ returns-clause-counted g c = elim c.match-source.branch [
   | in-Text+in_ok-repeat_metered-in-Text w ↦ subst (λ m. RisesAtMost c.args.meter.now m (cost_of g.B.Backend.SHARES c.args.self.now (Repeat c.args.s c.args.t c.args.n))) (sym w.meter-is)
       (repeat-counted g.B.Backend.SHARES c.args.self.now c.args.s c.args.t c.args.n _ _ _ _ c.in_ok-source.ensures.found c.in_ok-find.ensures.found
       (sym (ap state_of w.in-Text.is) ∙ c.in_ok-source.ensures.slot) w.in_ok-repeat_metered-in-Text.ensures.repeated w.in_ok-repeat_metered-in-Text.ensures.counted w.in_ok-repeat_metered-in-Text.ensures.refused_counts_none)
+]
+
+pub returns-clause-copied : goal.returns-clause-copied
+returns-clause-copied g c = elim c.match-source.branch [
+  | in-Bytes+in_ok-repeat_metered-in-Bytes w ↦ subst (λ m. RisesAtLeast c.args.meter.now m (counts_of c.args.self.now (Repeat c.args.s c.args.t c.args.n) Done)) (sym w.meter-is)
+      (repeat-counts c.args.self.now c.args.s c.args.t c.args.n _ _ _ _ _ (sym (ap state_of w.in-Bytes.is) ∙ c.in_ok-source.ensures.slot) w.in_ok-repeat_metered-in-Bytes.ensures.repeated
+      w.in_ok-repeat_metered-in-Bytes.ensures.counted w.in_ok-repeat_metered-in-Bytes.ensures.copied)
+  | in-Text+in_ok-repeat_metered-in-Text w ↦ subst (λ m. RisesAtLeast c.args.meter.now m (counts_of c.args.self.now (Repeat c.args.s c.args.t c.args.n) Done)) (sym w.meter-is)
+      (repeat-counts c.args.self.now c.args.s c.args.t c.args.n _ _ _ _ _ (sym (ap state_of w.in-Text.is) ∙ c.in_ok-source.ensures.slot) w.in_ok-repeat_metered-in-Text.ensures.repeated
+      w.in_ok-repeat_metered-in-Text.ensures.counted w.in_ok-repeat_metered-in-Text.ensures.copied)
 ]
