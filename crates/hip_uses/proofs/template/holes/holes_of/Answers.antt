@@ -8,7 +8,7 @@ use Rattle.hip_uses.proofs.template.holes.holes_of.Goals as goal
 
 pub loop-open-init : goal.loop-open-init
 loop-open-init g c =
-    record { from_at = IsCharBoundary-start _ c.as_str-text.utf8; written = grind arith; parsed = refl }
+    record { from_at = IsCharBoundary-start _ c.as_str-text.utf8; written = grind arith; parsed = grind arith }
 
 pub next_pair-requires-in-Some-clause-boundary : goal.next_pair-requires-in-Some-clause-boundary
 next_pair-requires-in-Some-clause-boundary g c = pair-end 123 c.as_str-text.result.now c.in-Some.open (omega arith) c.as_str-text.utf8 c.in-Some.ensures.is
