@@ -42,9 +42,9 @@ pub use borsh_fault::BorshFault;
 pub use grow_fault::GrowFault;
 pub use hip_byt::HipByt;
 pub use hip_raw::{
-    Allocated, Appended, Backend, Block, Borrowed, ByteSink, ByteSource, Extent, FromRead, Fuse,
-    Inline, IoFault, Length, Meter, Rc, Room, SliceSource, Sole, Span, ToWrite, Unique, VecSink,
-    Whole, copy_counted, fill_counted,
+    Allocated, Appended, Backend, Block, Borrowed, ByteSink, ByteSource, Extent, Filling, FromRead,
+    Fuse, Inline, IoFault, Length, Meter, Rc, Room, SliceSource, Sole, Span, ToWrite, Unique,
+    VecSink, Whole, copy_counted, fill_counted,
 };
 pub use json_fault::JsonFault;
 pub use kind::{INLINE_CAPACITY, Kind};

@@ -2,7 +2,6 @@
 ghost use Rattle.std.specs.Prelude.{◌≡◌, IfErr, IfNone, IfOk, IfSome, IsOkAnd, IsUtf8};
 ghost use Rattle.std.specs.Str.{encode_utf8_all};
 ghost use Rattle.std.specs.Str.Lossy.{utf8_lossy};
-ghost use Rattle.std.specs.String.{string_bytes};
 ghost use Rattle.bstr.specs.Utf8.{lossy_chars};
 ghost use Rattle.hip_bytes.specs.Kinds.{HoldsByLength};
 ghost use Rattle.hip_text.specs.Decode.{FromUtf8Answers, IsCauseOf, ReadAnswers, refusal_of};
@@ -10,7 +9,7 @@ ghost use Rattle.hip_text.specs.Decode.{FromUtf8Answers, IsCauseOf, ReadAnswers,
 use super::HipStr;
 use crate::faults::BytesFault;
 use crate::from_utf8_error::FromUtf8Error;
-use hip_bytes::{Backend, HipByt};
+use hip_bytes::{Backend, Filling, HipByt, Meter};
 use simdutf8::is_utf8;
 use std::alloc::{AllocError, Global};
 use std::str;
@@ -42,11 +41,11 @@ impl<'b, B: Backend> HipStr<'b, B> {
         if is_utf8(bytes.as_slice()) {
             return Ok(HipStr { bytes });
         }
-        let Ok(string) = repaired(alloc, bytes.as_slice()) else {
+        let Ok(text) = repaired(alloc, bytes.as_slice()) else {
             return Err(bytes);
         };
-        match HipStr::from_string(alloc, string) {
-            Ok(text) => Ok(text),
+        match HipByt::from_vec(alloc, text) {
+            Ok(bytes) => Ok(HipStr { bytes }),
             Err(_) => Err(bytes),
         }
     }
@@ -95,15 +94,17 @@ fn fault_of(bytes: &[u8]) -> Option<Utf8Error>
 }
 
 /// The text of these bytes, with U+FFFD for each fault. Room for as many bytes is taken at once.
-fn repaired(alloc: Global, bytes: &[u8]) -> Result<String, AllocError>
-    ensures { IfOk result (λ text. string_bytes text ≡ utf8_lossy bytes.now) }
+fn repaired(alloc: Global, bytes: &[u8]) -> Result<Vec<u8>, AllocError>
+    ensures repaired { IfOk result (λ text. text.items ≡ utf8_lossy bytes.now) }
+    ensures utf8 { IfOk result (λ text. IsUtf8 text.items) }
 {
-    let mut text = String::with_capacity(alloc, bytes.len())?;
+    let mut meter = Meter::new();
+    let mut text = Filling::with_capacity(alloc, bytes.len())?;
     for chunk in bytes.utf8_chunks() {
-        text.push_str(chunk.valid())?;
+        text.push_slice(chunk.valid().as_bytes(), &mut meter)?;
         if !chunk.invalid().is_empty() {
-            text.push('\u{FFFD}')?;
+            text.push_slice("\u{FFFD}".as_bytes(), &mut meter)?;
         }
     }
-    Ok(text)
+    Ok(text.into_vec())
 }
