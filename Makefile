@@ -27,10 +27,10 @@ $(foreach name,$(LIBRARIES),$(eval $(call library,$(name))))
 $(PLAY): $(call sources,hip_play) $(call below,hip_play)
 	cd crates/hip_play && rt run > /dev/null && touch out/hip_play
 
-# Copies hipstr and what it stands on into another repository of the kit's: make vendor INTO=DIR.
+# Copies hipstr and what it stands on into another repository of the kit's: make vendor INTO=DIR. With USES=1 hip_uses too.
 .PHONY: vendor
 vendor:
-	@scripts/vendor.sh "$(INTO)"
+	@scripts/vendor.sh "$(INTO)" $(USES)
 
 # The README's program, in a repository of its own, before anything is proved.
 .PHONY: check-readme

@@ -1,7 +1,9 @@
 #!/usr/bin/env bash
-# vendor.sh INTO   Copies hipstr and hip_fields, with the crates below them, into the repository INTO: their sources, specs, proofs and
-#                  licences into INTO/crates, and their lines into INTO/crates.txt. What stands there already stays as it is: a crate that an
-#                  earlier run copied is copied anew, and any other under such a name, or another line for it, ends the run before it begins.
+# vendor.sh INTO [USES]   Copies hipstr and hip_fields, and hip_uses where a second word is given, with the crates below them, into the
+#                         repository INTO: their sources, specs, proofs and licences into INTO/crates, and their lines into INTO/crates.txt.
+#                         What stands there already stays as it is: a crate that an earlier run copied is copied anew, and any other under
+#                         such a name, or another line for it, ends the run before it begins. Where INTO has no crate of its own yet, it gets
+#                         the folder crates/app and its line. Its .gitignore gets out/, where proofs and libraries are kept.
 set -eu
 into=${1:-}
 [ -n "$into" ] && [ -d "$into" ] || { echo "vendor: tell the folder of a repository, as in make vendor INTO=../mine" >&2; exit 2; }
@@ -18,7 +20,7 @@ below() {
     done
 }
 crates=
-below hipstr hip_fields
+below hipstr hip_fields ${2:+hip_uses}
 
 for crate in $crates; do
     line=$(grep "^$crate:" crates.txt)
@@ -51,3 +53,10 @@ for crate in $crates; do
         echo "crates/$crate copied"
     fi
 done
+if [ "$(cut -d: -f1 "$into/crates.txt" | grep -cvxF "$(tr ' ' '\n' <<< "$crates")" || true)" = 0 ]; then
+    mkdir -p "$into/crates/app/src"
+    echo 'app: hipstr' >> "$into/crates.txt"
+    echo "crates/app made, and its line added to crates.txt"
+fi
+grep -qsx 'out/' "$into/.gitignore" || echo 'out/' >> "$into/.gitignore"
+echo "The first rt run, or rt check, proves these crates: some 30 minutes of four processors, 4 GB a check, 4 GB of disk. rt try needs no proof."
