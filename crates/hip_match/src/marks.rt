@@ -255,7 +255,14 @@ impl FrontMarks {
         }
         let read = match test {
             Needle::One(byte) => self.read(&Bytes(OneByte(byte)), bytes, from),
-            _ => read_needle(self.next, self.is_far, test.word(), test.reach(), bytes, from),
+            _ => read_needle(
+                self.next,
+                self.is_far,
+                test.word(),
+                test.reach(),
+                bytes,
+                from,
+            ),
         };
         self.load(read);
         self.pop(&test, bytes, from)
@@ -375,7 +382,14 @@ impl BackMarks {
         }
         let read = match test {
             Needle::One(byte) => self.read(&Bytes(OneByte(byte)), bytes, to),
-            _ => read_needle_back(self.start, self.is_far, test.word(), test.reach(), bytes, to),
+            _ => read_needle_back(
+                self.start,
+                self.is_far,
+                test.word(),
+                test.reach(),
+                bytes,
+                to,
+            ),
         };
         self.load(read);
         self.pop(&test, bytes, to)
@@ -440,7 +454,11 @@ fn read_needle_back(
     ensures goes_on { result.0 ≤ start }
 {
     let bits = 0;
-    let marks = BackMarks { start, bits, is_far };
+    let marks = BackMarks {
+        start,
+        bits,
+        is_far,
+    };
     let [a, b, c, d] = word.to_le_bytes();
     match reach {
         0 => marks.read(&Needle::One(a), bytes, to),

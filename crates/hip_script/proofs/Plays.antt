@@ -56,7 +56,7 @@ writes-run : (shares : Bool) (old : State) (commands : List Command) (answers : 
 writes-run shares old [] [] new least most run = (
   refl,
   ap (λ slots. behind old slots least most) run.0
-  ∙ ap₂ (λ least most. record { slots = old.slots; least = least; most = most }) (let none = run.1 in omega arith) (let none = run.2 in omega arith),
+      ∙ ap₂ (λ least most. record { slots = old.slots; least = least; most = most }) (let none = run.1 in omega arith) (let none = run.2 in omega arith),
 )
 writes-run shares old (c ∷ cs) (a ∷ xs) new least most run =
     let count = counts_of old.slots c a in

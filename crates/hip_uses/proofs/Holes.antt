@@ -12,7 +12,7 @@ use Rattle.hipstr.specs.CharLaws.{char_at-ascii, char_ends-is, char_ends-yes, is
 use Rattle.hipstr.specs.Occurrence.{StartsFirst, is_boundary}
 use Rattle.hipstr.specs.Parted.{IsParted, Lacks}
 use Rattle.hipstr.specs.Texts.{text_ends}
-use Rattle.hip_uses.specs.Template.{CutsHole, HasByte, IsFirstPair, IsNextPair, IsNextStart, IsPair, closing, opening}
+use Rattle.hip_uses.specs.Template.{CutsHole, HasByte, IsFirstPair, IsNextPair, IsNextStart, IsPair}
 use Rattle.hip_uses.specs.declared.template.Hole.{Hole}
 
 -- the occurrences in a text are these bytes of it

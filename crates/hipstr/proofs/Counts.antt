@@ -1,5 +1,5 @@
 -- The bytes that a command counts at least.
-use Rattle.std.proofs.Common.{◌≡◌, ◌≢◌, ℕ, ◌+◌, ◌-◌, ◌*◌, ◌^◌, ◌≤◌, nat_eq, Bool, true, false, if◌then◌else◌, refl, List, length, min, sym, subst, ap, ◌∙◌, OnOk, IfOk, Result, Ok, Err, arith}
+use Rattle.std.proofs.Common.{◌≡◌, ◌≢◌, ℕ, ◌+◌, ◌-◌, ◌*◌, ◌^◌, nat_eq, Bool, true, false, if◌then◌else◌, refl, List, length, subst, ap, ◌∙◌, OnOk, IfOk, Result, Ok, Err, arith}
 use Rattle.std.proofs.Math.Nat.{min-le_left}
 use Rattle.std.proofs.lemmas.Bool.Decides.{nat_tests}
 use Rattle.std.proofs.Concat.{length-repeat}

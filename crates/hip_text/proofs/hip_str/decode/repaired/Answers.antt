@@ -10,9 +10,9 @@ loop-chunk-preserved-in-Continue-branch-3 c =
     let some : 0 < length c.in-Some.chunk.invalid.now = search rules in
     let text = utf8_lossy_chunk _ _ _ _ steps.0 steps.3.0 steps.3.1 some in (
       rw (c.in_ok-push_slice-2.ensures.items, c.in_ok-push_slice.ensures.items, c.as_bytes-then-not-is_empty.ensures.value, c.as_bytes.ensures.value, c.valid.ensures)
-      (simp append_assoc (rw text at c.loop-chunk.invariant.0)),
+          (simp append_assoc (rw text at c.loop-chunk.invariant.0)),
       rw (c.in_ok-push_slice-2.ensures.items, c.in_ok-push_slice.ensures.items)
-      (IsUtf8-append _ _ (IsUtf8-append _ _ c.loop-chunk.invariant.1 c.as_bytes.ensures.utf8) c.as_bytes-then-not-is_empty.ensures.utf8),
+          (IsUtf8-append _ _ (IsUtf8-append _ _ c.loop-chunk.invariant.1 c.as_bytes.ensures.utf8) c.as_bytes-then-not-is_empty.ensures.utf8),
     )
 
 pub loop-chunk-preserved : goal.loop-chunk-preserved

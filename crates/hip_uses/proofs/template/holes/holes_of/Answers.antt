@@ -1,4 +1,4 @@
-use Rattle.std.proofs.Common.{◌≡◌, ◌∙◌, ◌+◌, ℕ, List, [], ap, drop, length, refl, sym, arith, slice_range, append-nil}
+use Rattle.std.proofs.Common.{◌≡◌, ◌∙◌, ◌+◌, ℕ, List, ap, drop, length, refl, sym, arith, slice_range}
 use Rattle.std.proofs.lemmas.Str.{IsCharBoundary-start}
 use Rattle.hip_uses.specs.Template.{CutsHole}
 use Rattle.hip_uses.specs.declared.template.Hole.{Hole}
