@@ -53,9 +53,9 @@ for crate in $crates; do
         echo "crates/$crate copied"
     fi
 done
-if [ "$(cut -d: -f1 "$into/crates.txt" | grep -cvxF "$(tr ' ' '\n' <<< "$crates")" || true)" = 0 ]; then
+if [ "$(sed '/^#/d; /^$/d; s/[: ].*//' "$into/crates.txt" | grep -cvxF "$(tr ' ' '\n' <<< "$crates")" || true)" = 0 ]; then
     mkdir -p "$into/crates/app/src"
-    echo 'app: hipstr' >> "$into/crates.txt"
+    echo "app: hipstr${2:+ hip_uses}" >> "$into/crates.txt"
     echo "crates/app made, and its line added to crates.txt"
 fi
 grep -qsx 'out/' "$into/.gitignore" || echo 'out/' >> "$into/.gitignore"

@@ -148,7 +148,7 @@ aside-writes shares state slots (Show s) counted counts text same low high tells
 aside-writes shares state slots Copied counted counts text same low high tells =
     let is = tells.1 in record {
       new = record { slots = state.slots; least = counted; most = counted };
-      writes = (counted, low, high, tells.0, refl);
+      writes = (counted, low, high, tells.2, tells.0, refl);
       slots_are = same;
       low = rw is (omega (arith, min-le_left counted (2 ^ 128 - 1)));
       high = omega arith;

@@ -1,5 +1,5 @@
 -- Single steps of playing. Only private functions cite these.
-use Rattle.std.specs.Prelude.{◌≡◌, ℕ, ◌⊎◌, Bool, List, [], ◌∷◌, ◌++◌, Option}
+use Rattle.std.specs.Prelude.{◌≡◌, ℕ, ◌^◌, ◌<◌, ◌⊎◌, Bool, List, [], ◌∷◌, ◌++◌, Option}
 use Rattle.std.specs.Io.KnownBytes.{Appends}
 use Rattle.hipstr.specs.Meter.{RisesAtLeast, RisesAtMost}
 use Rattle.hipstr.specs.Run.{Run}
@@ -26,7 +26,7 @@ pub record Performs (shares : Bool) (old : List SlotState) (commands : List Comm
 -- the text of a line that is no command, for which the meter goes from one number to another
 abbrev pub AsideText : Bool → List SlotState → Aside → ℕ → ℕ → List ℕ → Type 0
 AsideText shares slots (Show s) counted counts text = (text ≡ printed_show slots s) × (counts ≡ counted)
-AsideText shares slots Copied counted counts text = (text ≡ printed_number counted) × (counts ≡ counted)
+AsideText shares slots Copied counted counts text = (text ≡ printed_number counted) × (counts ≡ counted) × (counted < 2 ^ 128)
 AsideText shares slots (FieldsOf s separator) counted counts text =
     FieldsText slots s separator text × RisesAtMost counted counts (fields_cost shares slots s separator)
 

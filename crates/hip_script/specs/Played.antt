@@ -1,5 +1,5 @@
 -- The playing of a script: the promise of `play_to`. `shares` says whether owners are shared.
-use Rattle.std.specs.Prelude.{◌≡◌, ℕ, ◌+◌, ◌≤◌, ◌⊎◌, nat_lt, Bool, List, [], ◌∷◌, ◌++◌, length, replicate, Option, Result, Ok, Err, MatchOption, codes, if◌then◌else◌}
+use Rattle.std.specs.Prelude.{◌≡◌, ℕ, ◌+◌, ◌^◌, ◌<◌, ◌≤◌, ◌⊎◌, nat_lt, Bool, List, [], ◌∷◌, ◌++◌, length, replicate, Option, Result, Ok, Err, MatchOption, codes, if◌then◌else◌}
 use Rattle.std.specs.Io.KnownBytes.{Appends, Keeps}
 use Rattle.std.specs.Option.{option_or}
 use Rattle.hip_fields.specs.Records.{records_cost, records_of}
@@ -70,7 +70,7 @@ fields_cost shares slots s separator =
 abbrev pub Writes : Bool → State → Spoken → List ℕ → State → Type 0
 Writes shares old (SayShow s) text new = (text ≡ printed_show old.slots s) × (new ≡ old)
 Writes shares old SayCopied text new =
-    (n : ℕ) × RisesAtLeast 0 n old.least × (n ≤ old.most) × (text ≡ printed_number n) × (new ≡ record { slots = old.slots; least = n; most = n })
+    (n : ℕ) × RisesAtLeast 0 n old.least × (n ≤ old.most) × (n < 2 ^ 128) × (text ≡ printed_number n) × (new ≡ record { slots = old.slots; least = n; most = n })
 Writes shares old (SayFields s separator) text new =
     FieldsText old.slots s separator text
     × (new ≡ record { slots = old.slots; least = old.least; most = old.most + fields_cost shares old.slots s separator })
