@@ -1,4 +1,4 @@
--- The bytes of a needle of one to four, and laws of the places where such a one stands.
+-- The bytes of a needle of one to four.
 use Rattle.std.specs.Prelude.{ℕ, ◌+◌, List, [], ◌∷◌, take}
 use Rattle.std.specs.Int.{to_le_bytes, w32}
 use Rattle.hip_match.specs.declared.place_test.Needle.{Needle}
@@ -17,6 +17,6 @@ reach_of (Two a b) = 1
 reach_of (Three a b c) = 2
 reach_of (Four a b c d) = 3
 
--- the bytes of a needle that are held by a word, the first the lowest
+-- the bytes of a needle that a word holds, the first the lowest
 abbrev pub packed : ℕ → ℕ → List ℕ
 packed word reach = take (reach + 1) (to_le_bytes w32 word)

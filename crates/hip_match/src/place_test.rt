@@ -156,7 +156,7 @@ impl Needle {
         }
     }
 
-    /// Its bytes as one number, the first the lowest.
+    /// Its bytes as one number, the first the lowest. A call takes that in a register; an enum's bytes would be stored one by one.
     #[inline(always)]
     pub(crate) fn word(&self) -> u32
         ensures { packed result (reach_of self.now) ≡ bytes_of self.now }

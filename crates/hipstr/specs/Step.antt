@@ -1,4 +1,5 @@
--- One step of the list machine: what a command may answer, what it leaves of the slots, and how many bytes it copies at most.
+-- One step of the list machine: what a command may answer, what it leaves of the slots, how many bytes it copies at most, and how
+-- many it counts at least.
 -- `shares` says whether owners are shared.
 use Rattle.std.specs.Prelude.{◌≡◌, ℕ, ◌+◌, ◌-◌, ◌*◌, ◌^◌, ◌<◌, ◌≤◌, ◌⊎◌, Bool, true, false, ◌&&◌, List, [], ◌∷◌, ◌++◌, length, map, take, drop, max, Option, Some, None, is_none, if◌then◌else◌, nat_eq, nat_le, nat_lt, slice_set, MatchOption, Result, Ok, Err, codes, refl}
 use Rattle.std.specs.Char.{is_whitespace, to_ascii_lowercase, to_ascii_uppercase}
