@@ -101,9 +101,11 @@ fn repaired(alloc: Global, bytes: &[u8]) -> Result<Vec<u8>, AllocError>
     let mut meter = Meter::new();
     let mut text = Filling::with_capacity(alloc, bytes.len())?;
     for chunk in bytes.utf8_chunks() {
-        text.push_slice(chunk.valid().as_bytes(), &mut meter)?;
-        if !chunk.invalid().is_empty() {
-            text.push_slice("\u{FFFD}".as_bytes(), &mut meter)?;
+        let valid = chunk.valid().as_bytes();
+        if chunk.invalid().is_empty() {
+            text.push_slice(valid, &mut meter)?;
+        } else {
+            text.push_behind(valid, "\u{FFFD}".as_bytes(), &mut meter)?;
         }
     }
     Ok(text.into_vec())
