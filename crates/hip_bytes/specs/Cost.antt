@@ -1,7 +1,7 @@
 -- The greatest number of bytes that a call copies, and where it may need memory, by the kind and the length that there are. `shares` says
 -- whether owners are shared.
 use Rattle.std.specs.Prelude.{◌≡◌, ℕ, ◌+◌, ◌*◌, ◌<◌, ◌≤◌, min, Bool, true, false, length, if◌then◌else◌, nat_le, refl}
-use Rattle.hip_raw.specs.Meter.{pot, unless_shared, times_copied}
+use Rattle.hip_raw.specs.Meter.{RisesAtLeast, pot, unless_shared, times_copied}
 use Rattle.hip_bytes.specs.Handle.{Handle}
 use Rattle.hip_bytes.specs.declared.kind.Kind.{Kind}
 use Rattle.hip_bytes.specs.declared.kind.Kind.TheVariants.{Inline, Borrowed, Allocated}
@@ -13,11 +13,21 @@ clone_cost shares Inline len = min len INLINE_CAPACITY
 clone_cost shares Borrowed len = 0
 clone_cost shares Allocated len = unless_shared shares len
 
+-- the bytes that are copied where another value lends them: none of a handle's own
+abbrev pub lent_count : Kind → ℕ → ℕ
+lent_count Inline len = 0
+lent_count Borrowed len = len
+lent_count Allocated len = 0
+
 -- a part of `len` bytes: none from borrowed, and on a shared owner none past what a handle holds in itself
 abbrev pub cut_cost : Bool → Kind → ℕ → ℕ
 cut_cost shares Inline len = min len INLINE_CAPACITY
 cut_cost shares Borrowed len = 0
 cut_cost shares Allocated len = if nat_le len INLINE_CAPACITY then len else unless_shared shares len
+
+-- a meter that stood at `before` stands at `after`: it has counted the part's bytes, but those that the part shares with its source
+abbrev pub PartCounts : Bool → Handle → Handle → ℕ → ℕ → Type 0
+PartCounts shares source part before after = RisesAtLeast before after (cut_cost shares source.kind (length part.items))
 
 -- bytes that are taken over in a vector
 abbrev pub taken_cost : Bool → ℕ → ℕ

@@ -3,8 +3,8 @@
 use Rattle.std.specs.Prelude.{◌≡◌, ℕ, ◌+◌, ◌-◌, ◌⊎◌, Bool, List, length, Option, Some, None, Result, Ok, Err}
 use Rattle.std.specs.Char.{is_whitespace}
 use Rattle.hip_text.specs.Handle.{Handle}
-use Rattle.hip_text.specs.Cost.{CutNeedsMemory}
-use Rattle.hip_text.specs.Meter.{RisesAtMost}
+use Rattle.hip_text.specs.Cost.{CutNeedsMemory, cut_cost}
+use Rattle.hip_text.specs.Meter.{RisesAtLeast, RisesAtMost}
 use Rattle.hip_match.specs.Characters.{char_ends}
 use Rattle.hip_match.specs.Parted.{IsParted, Lacks}
 use Rattle.hip_match.specs.Trims.{TrimsFront, TrimsBack}
@@ -88,6 +88,11 @@ abbrev pub PartsIfAnyCosts : Bool → Option Two → Handle → ℕ → ℕ → 
 PartsIfAnyCosts shares None source before after = after ≡ before
 PartsIfAnyCosts shares (Some (front, back)) source before after =
     RisesAtMost before after (part_cost shares source front + part_cost shares source back)
+
+-- like `PartCounts`, of two parts
+abbrev pub PartsCount : Bool → Handle → Handle → Handle → ℕ → ℕ → Type 0
+PartsCount shares source front back before after =
+    RisesAtLeast before after (cut_cost shares source.kind (length front.items) + cut_cost shares source.kind (length back.items))
 
 -- the part, or the parts, at the ranges that are found in the source
 abbrev pub StripAnswers : {T E : Type 0} → (T → Handle) → FindsOne → Ends → Handle → Result (Option T) E → Type 0

@@ -1,5 +1,5 @@
 //! The calls that take a text apart.
-ghost use Rattle.std.specs.Prelude.{◌≡◌, IfSome};
+ghost use Rattle.std.specs.Prelude.{◌≡◌, IfOk, IfSome};
 ghost use Rattle.hip_match.specs.Leftmost.{leftmost};
 ghost use Rattle.hip_match.specs.Occurrence.{IsCut};
 ghost use Rattle.hip_match.specs.Pieces.{rsplit, rsplit_terminator, rsplitn};
@@ -9,6 +9,8 @@ ghost use Rattle.hip_match.specs.Runs.{lines, split_whitespace, split_ascii_whit
 ghost use Rattle.hip_match.specs.Trims.{strip_prefix, strip_suffix, split_once, rsplit_once};
 ghost use Rattle.hip_cuts.specs.Cut.{LeavesBetween, LeavesEnd, LeavesStart, found_in, space_ends};
 ghost use Rattle.hip_cuts.specs.Cut.{OnceAnswers, OnceCosts, StripAnswers, StripCosts, TrimAnswers, TrimCosts};
+ghost use Rattle.hip_text.specs.Cost.{PartCounts};
+ghost use Rattle.hip_cuts.specs.Cut.{PartsCount};
 ghost use Rattle.hip_cuts.specs.Cut.{PartIfAny, PartIfAnyCosts, PartsIfAny, PartsIfAnyCosts};
 ghost use Rattle.hip_cuts.specs.Walks.{GoesOver};
 
@@ -179,7 +181,9 @@ pub trait TextCuts<B: Backend>: PieceSource {
         ensures trimmed { TrimAnswers Self.handle LeavesBetween space_ends
             (Self.handle self.now) result }
         ensures counted { TrimCosts B.SHARES LeavesBetween space_ends
-            (Self.handle self.now) meter.old meter.new };
+            (Self.handle self.now) meter.old meter.new }
+        ensures copied { IfOk result
+            (λ part. PartCounts B.SHARES (Self.handle self.now) (Self.handle part) meter.old meter.new) };
 
     /// The text without white space at its front.
     fn trim_start(&self, alloc: Global) -> Result<Self, AllocError>
@@ -191,7 +195,9 @@ pub trait TextCuts<B: Backend>: PieceSource {
         ensures trimmed { TrimAnswers Self.handle LeavesEnd space_ends
             (Self.handle self.now) result }
         ensures counted { TrimCosts B.SHARES LeavesEnd space_ends
-            (Self.handle self.now) meter.old meter.new };
+            (Self.handle self.now) meter.old meter.new }
+        ensures copied { IfOk result
+            (λ part. PartCounts B.SHARES (Self.handle self.now) (Self.handle part) meter.old meter.new) };
 
     /// The text without white space at its end.
     fn trim_end(&self, alloc: Global) -> Result<Self, AllocError>
@@ -203,7 +209,9 @@ pub trait TextCuts<B: Backend>: PieceSource {
         ensures trimmed { TrimAnswers Self.handle LeavesStart space_ends
             (Self.handle self.now) result }
         ensures counted { TrimCosts B.SHARES LeavesStart space_ends
-            (Self.handle self.now) meter.old meter.new };
+            (Self.handle self.now) meter.old meter.new }
+        ensures copied { IfOk result
+            (λ part. PartCounts B.SHARES (Self.handle self.now) (Self.handle part) meter.old meter.new) };
 
     /// The text without the longest front of occurrences of `pattern`, and without the longest back of them in what is left.
     fn trim_matches<P: DoubleEndedPattern>(
@@ -226,7 +234,9 @@ pub trait TextCuts<B: Backend>: PieceSource {
         ensures trimmed { TrimAnswers Self.handle LeavesBetween (P.ends pattern)
             (Self.handle self.now) result }
         ensures counted { TrimCosts B.SHARES LeavesBetween (P.ends pattern)
-            (Self.handle self.now) meter.old meter.new };
+            (Self.handle self.now) meter.old meter.new }
+        ensures copied { IfOk result
+            (λ part. PartCounts B.SHARES (Self.handle self.now) (Self.handle part) meter.old meter.new) };
 
     /// The text without the longest front of occurrences of `pattern`. An empty pattern removes nothing.
     fn trim_start_matches<P: Pattern>(&self, alloc: Global, pattern: P) -> Result<Self, AllocError>
@@ -245,7 +255,9 @@ pub trait TextCuts<B: Backend>: PieceSource {
         ensures trimmed { TrimAnswers Self.handle LeavesEnd (P.ends pattern)
             (Self.handle self.now) result }
         ensures counted { TrimCosts B.SHARES LeavesEnd (P.ends pattern)
-            (Self.handle self.now) meter.old meter.new };
+            (Self.handle self.now) meter.old meter.new }
+        ensures copied { IfOk result
+            (λ part. PartCounts B.SHARES (Self.handle self.now) (Self.handle part) meter.old meter.new) };
 
     /// The text without the longest back of occurrences of `pattern`. An empty pattern removes nothing.
     fn trim_end_matches<P: ReversePattern>(
@@ -268,7 +280,9 @@ pub trait TextCuts<B: Backend>: PieceSource {
         ensures trimmed { TrimAnswers Self.handle LeavesStart (P.ends pattern)
             (Self.handle self.now) result }
         ensures counted { TrimCosts B.SHARES LeavesStart (P.ends pattern)
-            (Self.handle self.now) meter.old meter.new };
+            (Self.handle self.now) meter.old meter.new }
+        ensures copied { IfOk result
+            (λ part. PartCounts B.SHARES (Self.handle self.now) (Self.handle part) meter.old meter.new) };
 
     /// The text without one occurrence of `pattern` at its front, if there is one.
     fn strip_prefix<P: Pattern>(
@@ -291,7 +305,9 @@ pub trait TextCuts<B: Backend>: PieceSource {
         ensures stripped { StripAnswers Self.handle strip_prefix (P.ends pattern)
             (Self.handle self.now) result }
         ensures counted { StripCosts B.SHARES strip_prefix (P.ends pattern)
-            (Self.handle self.now) meter.old meter.new };
+            (Self.handle self.now) meter.old meter.new }
+        ensures copied { IfOk result (λ found. IfSome found
+            (λ part. PartCounts B.SHARES (Self.handle self.now) (Self.handle part) meter.old meter.new)) };
 
     /// The text without one occurrence of `pattern` at its end, if there is one.
     fn strip_suffix<P: ReversePattern>(
@@ -314,7 +330,9 @@ pub trait TextCuts<B: Backend>: PieceSource {
         ensures stripped { StripAnswers Self.handle strip_suffix (P.ends pattern)
             (Self.handle self.now) result }
         ensures counted { StripCosts B.SHARES strip_suffix (P.ends pattern)
-            (Self.handle self.now) meter.old meter.new };
+            (Self.handle self.now) meter.old meter.new }
+        ensures copied { IfOk result (λ found. IfSome found
+            (λ part. PartCounts B.SHARES (Self.handle self.now) (Self.handle part) meter.old meter.new)) };
 
     /// The text before the first occurrence of `pattern` and the text behind it, if there is one.
     fn split_once<P: Pattern>(
@@ -337,7 +355,10 @@ pub trait TextCuts<B: Backend>: PieceSource {
         ensures parts { OnceAnswers Self.handle split_once (P.ends pattern)
             (Self.handle self.now) result }
         ensures counted { OnceCosts B.SHARES split_once (P.ends pattern)
-            (Self.handle self.now) meter.old meter.new };
+            (Self.handle self.now) meter.old meter.new }
+        ensures copied { IfOk result (λ found. IfSome found
+            (λ parts. PartsCount B.SHARES (Self.handle self.now) (Self.handle parts.0)
+            (Self.handle parts.1) meter.old meter.new)) };
 
     /// The text before the last occurrence of `pattern` and the text behind it, if there is one.
     fn rsplit_once<P: ReversePattern>(
@@ -360,7 +381,10 @@ pub trait TextCuts<B: Backend>: PieceSource {
         ensures parts { OnceAnswers Self.handle rsplit_once (P.ends pattern)
             (Self.handle self.now) result }
         ensures counted { OnceCosts B.SHARES rsplit_once (P.ends pattern)
-            (Self.handle self.now) meter.old meter.new };
+            (Self.handle self.now) meter.old meter.new }
+        ensures copied { IfOk result (λ found. IfSome found
+            (λ parts. PartsCount B.SHARES (Self.handle self.now) (Self.handle parts.0)
+            (Self.handle parts.1) meter.old meter.new)) };
 }
 
 impl<'b, B: Backend> TextCuts<B> for HipStr<'b, B> {
@@ -684,6 +708,8 @@ fn part_at<'b, B: Backend>(
     requires { IfSome range (IsCut text.now.items) }
     ensures part { PartIfAny (λ part. part) range text.now result }
     ensures counted { PartIfAnyCosts B.SHARES range text.now meter.old meter.new }
+    ensures copied { IfOk result (λ found. IfSome found
+        (λ part. PartCounts B.SHARES text.now part meter.old meter.new)) }
 {
     let Some((start, end)) = range else {
         return Ok(None);
@@ -703,6 +729,8 @@ fn parts_at<'b, B: Backend>(
         (λ ranges. IsCut text.now.items ranges.0 × IsCut text.now.items ranges.1) }
     ensures parts { PartsIfAny (λ part. part) ranges text.now result }
     ensures counted { PartsIfAnyCosts B.SHARES ranges text.now meter.old meter.new }
+    ensures copied { IfOk result (λ found. IfSome found
+        (λ parts. PartsCount B.SHARES text.now parts.0 parts.1 meter.old meter.new)) }
 {
     let Some((front, back)) = ranges else {
         return Ok(None);

@@ -1,5 +1,5 @@
 //! Bytes that an owner holds.
-ghost use Rattle.std.specs.Prelude.{◌≡◌, ◌+◌, ◌*◌, ◌-◌, ◌^◌, ◌<◌, ◌≤◌, ◌==◌, ◌++◌, max, min, map, false, true, [], length, take, vec_capacity, vec_len, IsSome, IfSome, IfOk, IfErr, OnErr, slice_range, slice_set, if◌then◌else◌, IsOk};
+ghost use Rattle.std.specs.Prelude.{◌≡◌, ◌+◌, ◌*◌, ◌-◌, ◌^◌, ◌<◌, ◌≤◌, ◌==◌, ◌++◌, max, min, map, false, true, [], length, take, vec_capacity, vec_len, IsSome, IfSome, IfOk, IfErr, OnOk, OnErr, slice_range, slice_set, if◌then◌else◌, IsOk};
 ghost use Rattle.std.specs.Char.{to_ascii_lowercase, to_ascii_uppercase};
 ghost use Rattle.std.specs.Fn.{FnOnceReturnsAtMut, FnOnceTakesAtMut};
 ghost use Rattle.hip_raw.specs.Appended.{OnDone, OnShared, OnMemory, OnRefused};
@@ -214,6 +214,8 @@ impl<B: Backend> Allocated<B> {
         ensures fits { IfOk result (λ made. length made.items ≤ made.capacity) }
         ensures counted { RisesAtMost meter.old meter.new
             (unless_shared B.SHARES (range.end - range.start)) }
+        ensures copied { OnOk result (RisesAtLeast meter.old meter.new
+            (unless_shared B.SHARES (range.end - range.start))) }
         ensures refused_copies_nothing { OnErr result (meter.new ≡ meter.old) }
     {
         let len = range.end - range.start;

@@ -1,5 +1,5 @@
 //! The promises of an owner of bytes.
-ghost use Rattle.std.specs.Prelude.{◌≡◌, ℕ, ◌+◌, ◌*◌, ◌^◌, ◌<◌, ◌≤◌, Bool, false, true, List, ◌++◌, length, replicate, take, vec_capacity, vec_len, IsSome, IfOk, IfErr, IfSome, OnErr};
+ghost use Rattle.std.specs.Prelude.{◌≡◌, ℕ, ◌+◌, ◌*◌, ◌^◌, ◌<◌, ◌≤◌, Bool, false, true, List, ◌++◌, length, replicate, take, vec_capacity, vec_len, IsSome, IfOk, IfErr, IfSome, OnOk, OnErr};
 ghost use Rattle.std.specs.Borrow.{sem, LendsIf};
 ghost use Rattle.hip_raw.specs.Appended.{OnDone, OnShared, OnMemory, OnRefused};
 ghost use Rattle.hip_raw.specs.Held.{OwnAnswers};
@@ -55,6 +55,7 @@ pub trait Backend: Drop + Sized {
         ensures fits { IfOk result (λ made. length (items made.0) ≤ capacity made.0) }
         ensures bound { IfOk result (λ made. length (items made.0) < 2 ^ 64) }
         ensures counted { RisesAtMost meter.old meter.new (unless_shared SHARES len) }
+        ensures copied { OnOk result (RisesAtLeast meter.old meter.new (unless_shared SHARES len)) }
         ensures refused_copies_nothing { OnErr result (meter.new ≡ meter.old) };
 
     /// An owner of the vector's bytes. A refused vector is handed back.

@@ -72,7 +72,7 @@ abbrev pub IsPerformed : Bool → List SlotState → Answer → List SlotState �
 IsPerformed shares old answer new before after command = record {
   step : Step shares old command answer new;
   counted : (cost : ℕ) × Costs shares old command cost × RisesAtMost before after cost;
-  copied : RisesAtLeast before after (counts_of old command answer);
+  copied : RisesAtLeast before after (counts_of shares old command answer new);
   paid : PushesArePaid shares old command new before after;
 }
 

@@ -1,9 +1,10 @@
 -- Commands that are a call on one slot, which changes where it stands.
-use Rattle.std.proofs.Common.{◌≡◌, ◌∙◌, ℕ, ◌<◌, inl, inr, Bool, true, false, List, length, map, max, get_or, slice_set, Option, Some, None, Result, Ok, Err, MatchOption, ap, refl, subst, sym}
+use Rattle.std.proofs.Common.{◌≡◌, ◌∙◌, ℕ, ◌<◌, inl, inr, Bool, true, false, List, length, map, max, get_or, slice_set, Option, Some, None, Result, Ok, Err, MatchOption, OnOk, ap, refl, subst, sym}
 use Rattle.std.specs.{Borrow.Bor, Char.to_ascii_lowercase, Char.to_ascii_uppercase, Option.option_or}
 use Rattle.hip_bytes.specs.Change.{IsPushed, IsRewritten, IsShortened, IsShrunk}
-use Rattle.hip_bytes.specs.Cost.{owned_cost, push_cost, shortened_cost, shrink_cost, write_cost, CutNeedsMemory, OwnNeedsMemory, PushNeedsMemory, WriteNeedsMemory}
-use Rattle.hip_bytes.specs.{Handle.Handle, Made.IsOwned, Meter.RisesAtMost}
+use Rattle.hip_bytes.specs.Cost.{lent_count, owned_cost, push_cost, shortened_cost, shrink_cost, write_cost, CutNeedsMemory, OwnNeedsMemory, PushNeedsMemory, WriteNeedsMemory}
+use Rattle.hip_bytes.specs.{Handle.Handle, Made.IsOwned, Meter.RisesAtLeast, Meter.RisesAtMost}
+use Rattle.hipstr.proofs.Counts.{counts-none}
 use Rattle.hipstr.proofs.Places.{put-is, state-there}
 use Rattle.hipstr.proofs.Steps.{as-it-was, faulted, neither, no-other, performed, replaced, slot-there}
 use Rattle.hipstr.specs.{Reason.answer_of, declared.command.Answer.Answer, declared.command.Command.Command, declared.command.Reason.Reason, declared.command.Reason.TheVariants.Memory}
@@ -118,6 +119,20 @@ module _ (shares : Bool) {old new : List SlotState} {t : ℕ} {was slot : SlotSt
 
   pub lower-step : IsRewritten shares was.handle slot.handle (map to_ascii_lowercase was.handle.items) → slot.is_text ≡ was.is_text → Step shares old (Lower t) Done new
   lower-step done flag = performed shares old (Lower t) Done new (slot-there old t at.within) (rewritten (map to_ascii_lowercase) done flag)
+
+  -- the bytes that a call on the slot counts at least
+  pub lent-counts : (m n : ℕ) → RisesAtLeast m n (lent_count was.handle.kind (length was.handle.items)) → RisesAtLeast m n (lent_count (slot_at old t).kind (length (slot_at old t).items))
+  lent-counts m n = subst (λ (s : SlotState). RisesAtLeast m n (lent_count s.handle.kind (length s.handle.items))) at.is_was
+
+  pub refused-counted : (count : Answer → List SlotState → ℕ) (answer : Answer) (reason : Reason) (m n most : ℕ) → count (Refused reason) new ≡ 0 → answer ≡ Refused reason → RisesAtMost m n most
+      → RisesAtLeast m n (count answer new)
+  refused-counted count answer reason m n most none is counted = rw (is, none) (counts-none counted)
+
+  pub answered-counts : (count : Answer → List SlotState → ℕ) (fault : Option Reason) (Needs : Type 0) (is_text : Bool) (P : Handle → Type 0) (result : Result Answer Reason) (m n most : ℕ)
+      → count Done new ≡ lent_count (slot_at old t).kind (length (slot_at old t).items) → ((reason : Reason) → count (Refused reason) new ≡ 0) → SlotAnswers fault Needs is_text P was result slot
+      → OnOk result (RisesAtLeast m n (lent_count was.handle.kind (length was.handle.items))) → RisesAtMost m n most → RisesAtLeast m n (count (answer_of result) new)
+  answered-counts count fault Needs is_text P (Ok answer) m n most is none answers copied counted = rw (answers.1, is) (lent-counts m n copied)
+  answered-counts count fault Needs is_text P (Err reason) m n most is none answers copied counted = rw (none reason) (counts-none counted)
 
   -- the bytes that a call on the slot may copy
   there : (copies : SlotState → ℕ) → copies was ≡ unless (slot_fault old t) (copies (state_at old t))

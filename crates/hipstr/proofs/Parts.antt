@@ -1,15 +1,17 @@
 -- Lemmas on the parts that a script draws: in the spare slots, and then in their own.
-use Rattle.std.proofs.Common.{◌≡◌, ◌∙◌, ℕ, zero, suc, ◌+◌, ◌-◌, ◌<◌, ◌≤◌, inl, inr, Bool, true, false, List, [], ◌∷◌, ◌++◌, length, map, take, drop, replicate, slice_set, slice_range, get_or, Option, Some, None, Result, Ok, Err, ap, refl, subst, sym, arith, drop-drop, length-take-le}
-use Rattle.std.proofs.{Math.ListN.drop_of_length-le, lemmas.List.Edits.sets-eq, Math.Seq.sets, lemmas.Bool.false≢true}
+use Rattle.std.proofs.Common.{◌≡◌, ◌∙◌, ℕ, zero, suc, ◌+◌, ◌-◌, ◌<◌, ◌≤◌, inl, inr, Bool, true, false, List, [], ◌∷◌, ◌++◌, length, map, take, drop, replicate, slice_set, slice_range, get_or, Option, Some, None, Result, Ok, Err, IfOk, IfSome, ap, refl, subst, sym, arith, drop-drop, length-take-le}
+use Rattle.std.proofs.{Math.ListN.drop_of_length-le, lemmas.List.Edits.sets-eq, lemmas.List.take_more_set, Math.Seq.sets, Math.Seq.drop-append_seam, Math.Seq.take-append_seam, lemmas.Bool.false≢true}
 use Rattle.std.proofs.lemmas.List.{map-append, take-map, drop-map, append-nil, append_assoc, length-append, length-map, length-replicate, length-set, length-take}
 use borrow.Rule.Slice.PartMut.{put_mid}
-use Rattle.hip_bytes.specs.{Cost.CutNeedsMemory, Handle.Handle, Made.CutAnswers, Meter.RisesAtMost, declared.kind.Kind.Kind}
+use Rattle.hip_bytes.proofs.Costs.{nothing_copied}
+use Rattle.hip_bytes.specs.{Cost.CutNeedsMemory, Cost.PartCounts, Handle.Handle, Made.CutAnswers, Meter.RisesAtLeast, Meter.RisesAtMost, declared.kind.Kind.Kind}
 use Rattle.hip_cuts.specs.Piece.{IsPartAt, Left, part_cost, parts_cost, LastPiece, LastCosts}
 use Rattle.hip_match.proofs.DrawLemmas.{TakesEnd-back}
 use Rattle.hip_match.specs.{Draw.draw, Draw.but_last, declared.draw.End.End, declared.draw.End.TheVariants.Front, declared.draw.End.TheVariants.Back}
+use Rattle.hipstr.proofs.Counts.{counts-more, counts-none}
 use Rattle.hipstr.proofs.Places.{placed}
 use Rattle.hipstr.specs.Cut.{PutsParts, SomeNeedsMemory, has_back}
-use Rattle.hipstr.specs.Parts.{DrawsPart, HoldParts, put_all}
+use Rattle.hipstr.specs.Parts.{DrawsPart, HoldParts, part_count, parts_count, put_all}
 use Rattle.hipstr.specs.Slot.{SlotState, empty_slot, slot_at}
 
 -- ---- one part
@@ -20,9 +22,10 @@ first-of r s l m same = ap (λ (l : List (ℕ × ℕ)). head l) same where
   head (x ∷ l) = x
 
 pub draws-back : {E : Type 0} (shares : Bool) (old new : Left) (result : Option (Result Handle E)) (before after : ℕ)
-    → LastPiece old result new → LastCosts shares old result new before after → DrawsPart shares Back old result new before after
-draws-back shares old new None before after last costs = (last.0, costs)
-draws-back shares old new (Some part) before after last costs =
+    → LastPiece old result new → LastCosts shares old result new before after → IfSome result (λ drawn. IfOk drawn (λ part. PartCounts shares old.source part before after))
+    → DrawsPart shares Back old result new before after
+draws-back shares old new None before after last costs copied = (last.0, costs)
+draws-back shares old new (Some part) before after last costs copied =
     let takes = TakesEnd-back old.rest new.rest (Some last.0) last.1 in
     let takes_2 = TakesEnd-back old.rest new.rest (Some costs.0) costs.1 in (
       last.0,
@@ -30,6 +33,7 @@ draws-back shares old new (Some part) before after last costs =
       last.3,
       subst (λ (range : ℕ × ℕ). RisesAtMost before after (part_cost shares old.source range))
           (first-of costs.0 last.0 (draw new.rest []) (draw new.rest []) (sym (takes_2 []).0 ∙ (takes []).0)) costs.2,
+      copied,
     )
 
 -- ---- the parts so far, in the spare slots
@@ -46,6 +50,20 @@ hold-next source [] range part (slot ∷ slots) holds within is = (refl, is, ap 
 hold-next source (first ∷ drawn) range part [] holds within is = absurd holds
 hold-next source (first ∷ drawn) range part (slot ∷ slots) holds within is = (holds.0, holds.1, hold-next source drawn range part slots holds.2 (omega (arith, within)) is)
 
+count-append : (shares : Bool) (source : Handle) (parts more : List SlotState) → parts_count shares source (parts ++ more) ≡ parts_count shares source parts + parts_count shares source more
+count-append shares source [] more = omega arith
+count-append shares source (part ∷ parts) more = ap (λ n. part_count shares source part + n) (count-append shares source parts more) ∙ omega arith
+
+-- the bytes that were counted by the parts so far, and by one more
+count-next : (shares : Bool) (source : Handle) (slots : List SlotState) (count : ℕ) (part : Handle) (before mid after : ℕ) → count < length slots
+    → RisesAtLeast before mid (parts_count shares source (take count slots)) → PartCounts shares source part mid after
+    → RisesAtLeast before after (parts_count shares source (take (count + 1) (slice_set slots count (record { is_text = true; handle = part }))))
+count-next shares source slots count part before mid after within so_far counts =
+    let slot : SlotState = record { is_text = true; handle = part } in
+    let same : parts_count shares source (take (count + 1) (slice_set slots count slot)) ≡ parts_count shares source (take count slots) + part_count shares source slot =
+    ap (parts_count shares source) (take_more_set slots count slot within) ∙ count-append shares source (take count slots) (slot ∷ []) ∙ omega arith in
+    rw same (counts-more before mid after _ _ so_far counts)
+
 cost-append : (shares : Bool) (source : Handle) (drawn more : List (ℕ × ℕ)) → parts_cost shares source (drawn ++ more) ≡ parts_cost shares source drawn + parts_cost shares source more
 cost-append shares source [] more = omega arith
 cost-append shares source (range ∷ drawn) more = ap (λ n. part_cost shares source range + n) (cost-append shares source drawn more) ∙ omega arith
@@ -61,15 +79,16 @@ pub record SoFar (shares : Bool) (source : Handle) (all to_come : List (ℕ × �
   pub holds : HoldParts source drawn slots
   pub whole : all ≡ drawn ++ to_come
   pub rises : RisesAtMost before after (parts_cost shares source drawn)
+  pub counts : RisesAtLeast before after (parts_count shares source (take count slots))
 
 pub so-far-none : (shares : Bool) (source : Handle) (all : List (ℕ × ℕ)) (slots : List SlotState) (before : ℕ)
     → slots ≡ replicate (length slots) empty_slot → SoFar shares source all all 0 slots before before
-so-far-none shares source all slots before empty = record { drawn = []; count_is = refl; holds = empty; whole = refl; rises = record { never_falls = omega arith; at_most = omega arith } }
+so-far-none shares source all slots before empty = record { drawn = []; count_is = refl; holds = empty; whole = refl; rises = record { never_falls = omega arith; at_most = omega arith }; counts = counts-none (nothing_copied before 0) }
 
 pub so-far-next : (shares : Bool) (source : Handle) (all to_come later : List (ℕ × ℕ)) (range : ℕ × ℕ) (count : ℕ) (slots : List SlotState) (part : Handle) (before mid after : ℕ)
     → SoFar shares source all to_come count slots before mid → to_come ≡ range ∷ later → count < length slots → IsPartAt source range part → RisesAtMost mid after (part_cost shares source range)
-    → SoFar shares source all later (count + 1) (slice_set slots count (record { is_text = true; handle = part })) before after
-so-far-next shares source all to_come later range count slots part before mid after so_far is within is_part rises = record {
+    → PartCounts shares source part mid after → SoFar shares source all later (count + 1) (slice_set slots count (record { is_text = true; handle = part })) before after
+so-far-next shares source all to_come later range count slots part before mid after so_far is within is_part rises counts = record {
   drawn = so_far.drawn ++ range ∷ [];
   count_is = omega (arith, so_far.count_is, length-append so_far.drawn (range ∷ []));
   holds = subst (λ n. HoldParts source (so_far.drawn ++ range ∷ []) (slice_set slots n (record { is_text = true; handle = part }))) (sym so_far.count_is)
@@ -79,12 +98,14 @@ so-far-next shares source all to_come later range count slots part before mid af
     never_falls = omega (arith, so_far.rises.never_falls, rises.never_falls);
     at_most = omega (arith, so_far.rises.at_most, rises.at_most, cost-append shares source so_far.drawn (range ∷ []));
   };
+  counts = count-next shares source slots count part before mid after within so_far.counts counts;
 }
 
 -- all were drawn
 pub record AllDrawn (shares : Bool) (source : Handle) (all : List (ℕ × ℕ)) (count : ℕ) (slots : List SlotState) (before after : ℕ) : Type 0 where
   pub made : (count ≡ length all) × HoldParts source all slots
   pub rises : RisesAtMost before after (parts_cost shares source all)
+  pub counts : RisesAtLeast before after (parts_count shares source (take count slots))
 
 pub so-far-all : (shares : Bool) (source : Handle) (all to_come : List (ℕ × ℕ)) (count : ℕ) (slots : List SlotState) (before after : ℕ)
     → SoFar shares source all to_come count slots before after → to_come ≡ [] → AllDrawn shares source all count slots before after
@@ -93,6 +114,7 @@ so-far-all shares source all to_come count slots before after so_far none =
     record {
       made = (so_far.count_is ∙ ap length (sym is), subst (λ (l : List (ℕ × ℕ)). HoldParts source l slots) (sym is) so_far.holds);
       rises = subst (λ (l : List (ℕ × ℕ)). RisesAtMost before after (parts_cost shares source l)) (sym is) so_far.rises;
+      counts = so_far.counts;
     }
 
 -- one was refused
@@ -197,6 +219,7 @@ to-come rest later script i default range within draws =
 pub goes-on : {E : Type 0} (result : Result Handle E) (shares : Bool) (source at : Handle) (all rest later : List (ℕ × ℕ)) (script : List End) (i : ℕ) (default : End) (slots new : List SlotState) (part : Handle) (before mid after : ℕ)
     → SoFar shares source all (draw rest (drop i script)) i slots before mid → at ≡ source → i < length script → length script ≤ length slots
     → (range : ℕ × ℕ) × ((more : List End) → draw rest (get_or script i default ∷ more) ≡ range ∷ draw later more) × CutAnswers at (slice_range at.items range.0 range.1) result × RisesAtMost mid after (part_cost shares at range)
+    × IfOk result (λ part. PartCounts shares at part mid after)
     → result ≡ Ok part → new ≡ slice_set slots i (record { is_text = true; handle = part })
     → SoFar shares source all (draw later (drop (i + 1) script)) (i + 1) new before after
 goes-on {E} result shares source at all rest later script i default slots new part before mid after so_far is within room drawn made put =
@@ -204,12 +227,14 @@ goes-on {E} result shares source at all rest later script i default slots new pa
     (so-far-next shares source all (draw rest (drop i script)) (draw later (drop (i + 1) script)) drawn.0 i slots part before mid after so_far
     (to-come rest later script i default drawn.0 within drawn.1) (omega (arith, within, room))
     (subst (λ (handle : Handle). IsPartAt handle drawn.0 part) is (subst (λ (result : Result Handle E). CutAnswers at (slice_range at.items drawn.0.0 drawn.0.1) result) made drawn.2))
-    (subst (λ (handle : Handle). RisesAtMost mid after (part_cost shares handle drawn.0)) is drawn.3))
+    (subst (λ (handle : Handle). RisesAtMost mid after (part_cost shares handle drawn.0)) is drawn.3)
+    (subst (λ (handle : Handle). PartCounts shares handle part mid after) is (subst (λ (result : Result Handle E). IfOk result (λ part. PartCounts shares at part mid after)) made drawn.4)))
 
 pub is-refused : {E : Type 0} (result : Result Handle E) (error : E) (shares : Bool) (source at : Handle) (all rest later : List (ℕ × ℕ)) (script : List End) (i : ℕ) (default : End) (slots : List SlotState) (before mid after : ℕ)
     → SoFar shares source all (draw rest (drop i script)) i slots before mid → at ≡ source → i < length script
     → (range : ℕ × ℕ) × ((more : List End) → draw rest (get_or script i default ∷ more) ≡ range ∷ draw later more)
     × CutAnswers at (slice_range at.items range.0 range.1) result × RisesAtMost mid after (part_cost shares at range)
+    × IfOk result (λ part. PartCounts shares at part mid after)
     → result ≡ Err error → OneRefused shares source all before after
 is-refused {E} result error shares source at all rest later script i default slots before mid after so_far is within drawn refused =
     so-far-refused shares source all (draw rest (drop i script)) (draw later (drop (i + 1) script)) drawn.0 i slots before mid after so_far
@@ -258,6 +283,20 @@ pieces-put slots spare new text s first count ranges is counts holds within put 
       subst (λ (l : List SlotState). PutsParts (slot_at slots s) slots first (ranges (slot_at slots s)) l) (sym (put ∙ ap (λ n. put_all slots first (take n spare)) counted))
           (parts-put (slot_at slots s) (ranges (slot_at slots s)) spare slots first held (omega (arith, counted, within))),
     )
+
+-- the bytes that they count
+pub pieces-count : (shares : Bool) (slots spare new : List SlotState) (text : Handle) (s first count : ℕ) (before after : ℕ)
+    → text ≡ slot_at slots s → count ≤ length spare → first + count ≤ length slots → new ≡ put_all slots first (take count spare)
+    → RisesAtLeast before after (parts_count shares text (take count spare)) → RisesAtLeast before after (parts_count shares (slot_at slots s) (take count (drop first new)))
+pieces-count shares slots spare new text s first count before after is within room put counts =
+    let parts = take count spare in
+    let long : length parts ≡ count = length-take-le count spare within in
+    let there : new ≡ take first slots ++ (parts ++ drop (first + length parts) slots) =
+    put ∙ put-all-sets slots parts first ∙ sets-eq parts slots first (omega (arith, room, long)) ∙ append_assoc (take first slots) parts (drop (first + length parts) slots) in
+    let behind : drop first new ≡ parts ++ drop (first + length parts) slots =
+    ap (drop first) there ∙ ap (λ n. drop n (take first slots ++ (parts ++ drop (first + length parts) slots))) (sym (length-take-le first slots (omega (arith, room)))) ∙ drop-append_seam (take first slots) (parts ++ drop (first + length parts) slots) in
+    let found : take count (drop first new) ≡ parts = ap (take count) behind ∙ ap (λ n. take n (parts ++ drop (first + length parts) slots)) (sym long) ∙ take-append_seam parts (drop (first + length parts) slots) in
+    rw found (subst (λ (handle : Handle). RisesAtLeast before after (parts_count shares handle parts)) is counts)
 
 pub pieces-need : (slots : List SlotState) (text : Handle) (s : ℕ) (ranges : Handle → List (ℕ × ℕ)) → text ≡ slot_at slots s → SomeNeedsMemory text.kind (ranges text)
     → SomeNeedsMemory (slot_at slots s).kind (ranges (slot_at slots s))

@@ -1,8 +1,9 @@
 -- Pieces that are made in spare slots before they go to their targets, so that a refused one changes no slot.
-use Rattle.std.specs.Prelude.{◌≡◌, ◌≤◌, ℕ, ◌+◌, Bool, true, List, [], ◌∷◌, length, Option, Some, None, Result, Ok, Err, replicate, slice_range, slice_set}
+use Rattle.std.specs.Prelude.{◌≡◌, ◌≤◌, ℕ, ◌+◌, Bool, true, List, [], ◌∷◌, length, Option, Some, None, Result, Ok, Err, IfOk, replicate, slice_range, slice_set, take}
 use Rattle.hip_bytes.specs.Handle.{Handle}
+use Rattle.hip_bytes.specs.Cost.{PartCounts, cut_cost}
 use Rattle.hip_bytes.specs.Made.{CutAnswers}
-use Rattle.hip_bytes.specs.Meter.{RisesAtMost}
+use Rattle.hip_bytes.specs.Meter.{RisesAtLeast, RisesAtMost}
 use Rattle.hip_cuts.specs.Piece.{IsPartAt, Left, part_cost, parts_cost}
 use Rattle.hip_match.specs.Draw.{draw}
 use Rattle.hip_match.specs.declared.draw.End.{End}
@@ -25,18 +26,28 @@ abbrev pub PartsAnswer : {E : Type 0} → Handle → List (ℕ × ℕ) → List 
 PartsAnswer source ranges old (Ok count) new = (count ≡ length ranges) × HoldParts source ranges new
 PartsAnswer source ranges old (Err error) new = SomeNeedsMemory source.kind ranges × (new ≡ old)
 
--- like `PartsAnswer`, within the cost of these parts
+-- the bytes that a part of the source counts which became a slot, and those of parts in slots
+abbrev pub part_count : Bool → Handle → SlotState → ℕ
+part_count shares source part = cut_cost shares source.kind (length part.handle.items)
+
+abbrev pub parts_count : Bool → Handle → List SlotState → ℕ
+parts_count shares source [] = 0
+parts_count shares source (part ∷ parts) = part_count shares source part + parts_count shares source parts
+
+-- like `PartsAnswer`, within the cost of these parts, each of which is counted
 pub record MakesParts {E : Type 0} (shares : Bool) (source : Handle) (ranges : List (ℕ × ℕ)) (old : List SlotState) (result : Result ℕ E) (new : List SlotState) (before after : ℕ) : Type 0 where
   pub made : PartsAnswer source ranges old result new
   pub counted : RisesAtMost before after (parts_cost shares source ranges)
+  pub copied : IfOk result (λ count. RisesAtLeast before after (parts_count shares source (take count new)))
 
--- a draw of one part: at the range that this end draws of the ranges that were left, within that part's cost
+-- a draw of one part: at the range that this end draws of the ranges that were left, within that part's cost, and counted
 abbrev pub DrawsPart : {E : Type 0} → Bool → End → Left → Option (Result Handle E) → Left → ℕ → ℕ → Type 0
 DrawsPart shares end old None new before after = (old.rest ≡ []) × (after ≡ before)
 DrawsPart shares end old (Some part) new before after =
     (range : ℕ × ℕ) × ((script : List End) → draw old.rest (end ∷ script) ≡ range ∷ draw new.rest script)
     × CutAnswers old.source (slice_range old.source.items range.0 range.1) part
     × RisesAtMost before after (part_cost shares old.source range)
+    × IfOk part (λ handle. PartCounts shares old.source handle before after)
 
 -- these slots put one after another from a position on
 abbrev pub put_all : List SlotState → ℕ → List SlotState → List SlotState

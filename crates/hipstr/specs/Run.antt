@@ -11,6 +11,6 @@ abbrev pub Run : Bool → List SlotState → List Command → List Answer → Li
 Run shares old [] [] new least most = (new ≡ old) × (least ≡ 0) × (most ≡ 0)
 Run shares old (command ∷ commands) (answer ∷ answers) new least most =
     (between : List SlotState) × (cost less more : ℕ) × Step shares old command answer between × Costs shares old command cost
-    × Run shares between commands answers new less more × (least ≡ counts_of old command answer + less) × (most ≡ cost + more)
+    × Run shares between commands answers new less more × (least ≡ counts_of shares old command answer between + less) × (most ≡ cost + more)
 Run shares old [] (answer ∷ answers) new least most = ⊥
 Run shares old (command ∷ commands) [] new least most = ⊥

@@ -11,7 +11,7 @@ use Rattle.std.specs.Str.{is_utf8}
 use Rattle.std.specs.declared.ops.Bound.{Bound}
 use Rattle.std.specs.declared.ops.Bound.TheVariants.{Included, Unbounded}
 use Rattle.hip_bytes.specs.Change.{IsPushed, IsRewritten, IsShortened, IsShrunk, PopAnswers}
-use Rattle.hip_bytes.specs.Cost.{clone_cost, cut_cost, owned_cost, push_cost, shortened_cost, shrink_cost, write_cost, CutNeedsMemory, OwnNeedsMemory, PushNeedsMemory, WriteNeedsMemory}
+use Rattle.hip_bytes.specs.Cost.{clone_cost, cut_cost, lent_count, owned_cost, push_cost, shortened_cost, shrink_cost, write_cost, CutNeedsMemory, OwnNeedsMemory, PushNeedsMemory, WriteNeedsMemory}
 use Rattle.hip_bytes.specs.Join.{join_cost, repeat_cost, repeated_kind, RepeatNeedsMemory}
 use Rattle.hip_bytes.specs.Kinds.{by_length, Holds, HoldsByLength, IsEmptyInline}
 use Rattle.hip_bytes.specs.Made.{IsOwned, IsPart}
@@ -29,6 +29,7 @@ use Rattle.hip_match.specs.declared.draw.End.{End}
 use Rattle.hip_names.specs.Components.{path_order}
 use Rattle.hipstr.specs.Cut.{Leaves, PutsParts, SomeNeedsMemory, has_back, has_one_end, occurrences, parted, pieces_of, stripped, trims_one_end}
 use Rattle.hip_bytes.specs.Handle.{Handle}
+use Rattle.hipstr.specs.Parts.{part_count, parts_count}
 use Rattle.hipstr.specs.Reason.{reason_of, text_reason_of}
 use Rattle.hipstr.specs.Slot.{SlotState, empty_slot, slot_at, state_at, text_at, Replaces}
 use Rattle.hipstr.specs.declared.command.Command.{Command}
@@ -324,15 +325,28 @@ copies_of shares slots (Once s t u end pattern) =
 -- any other copies none
 copies_of shares slots command = 0
 
--- the bytes that a command counts at least where it is done: those that it is given or adds, and those of a repetition, but where that is
--- a clone, and of a join. Any other may count none.
-abbrev pub counts_of : List SlotState → Command → Answer → ℕ
-counts_of slots (Inline t bytes) Done = length bytes.now
-counts_of slots (Copy t bytes) Done = length bytes.now
-counts_of slots (Push t bytes) Done = length bytes.now
-counts_of slots (Repeat s t n) Done = if nat_eq n 1 then 0 else n * length (slot_at slots s).items
-counts_of slots (Join first count sep t) Done = length (joined_slots slots first count sep.now)
-counts_of slots command answer = 0
+-- the bytes that a command counts at least where it is done: those that it is given or adds; those of a clone, but for an owner's that is
+-- shared; those of each part, but for what it shares with its source; those that another value lent and that are made the slot's own, or
+-- written over; and those of a repetition, but where that is a clone, and of a join. Any other may count none.
+abbrev pub counts_of : Bool → List SlotState → Command → Answer → List SlotState → ℕ
+counts_of shares old (Inline t bytes) Done new = length bytes.now
+counts_of shares old (Copy t bytes) Done new = length bytes.now
+counts_of shares old (Clone s t) Done new = clone_cost shares (slot_at old s).kind (length (slot_at old s).items)
+counts_of shares old (Slice s t low high) Done new = part_count shares (slot_at old s) (state_at new t)
+counts_of shares old (Push t bytes) Done new = length bytes.now
+counts_of shares old (Upper t) Done new = lent_count (slot_at old t).kind (length (slot_at old t).items)
+counts_of shares old (Lower t) Done new = lent_count (slot_at old t).kind (length (slot_at old t).items)
+counts_of shares old (Set t i byte) Done new = lent_count (slot_at old t).kind (length (slot_at old t).items)
+counts_of shares old (Repeat s t n) Done new = if nat_eq n 1 then 0 else n * length (slot_at old s).items
+counts_of shares old (Join first count sep t) Done new = length (joined_slots old first count sep.now)
+counts_of shares old (Owned t) Done new = lent_count (slot_at old t).kind (length (slot_at old t).items)
+counts_of shares old (Trim s t side) Done new = part_count shares (slot_at old s) (state_at new t)
+counts_of shares old (TrimMatches s t side pattern) Done new = part_count shares (slot_at old s) (state_at new t)
+counts_of shares old (Strip s t end pattern) Done new = part_count shares (slot_at old s) (state_at new t)
+counts_of shares old (Pieces s how script first) (Number n) new = parts_count shares (slot_at old s) (take n (drop first new))
+counts_of shares old (Once s t u end pattern) Done new =
+    part_count shares (slot_at old s) (state_at new t) + part_count shares (slot_at old s) (state_at new u)
+counts_of shares old command answer new = 0
 
 -- the bytes that are copied, none where there is a fault
 abbrev pub unless : Option Reason → ℕ → ℕ

@@ -33,7 +33,7 @@ impl<'b, B: Backend> Pool<'b, B> {
         ensures counted { (cost : ℕ) × Costs B.SHARES self.old command.now cost
             × RisesAtMost meter.old meter.new cost }
         ensures copied { RisesAtLeast meter.old meter.new
-            (counts_of self.old command.now (answer_of result)) }
+            (counts_of B.SHARES self.old command.now (answer_of result) self.new) }
         ensures paid { PushesArePaid B.SHARES self.old command.now self.new meter.old meter.new }
     {
         match *command {

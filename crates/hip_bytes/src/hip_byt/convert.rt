@@ -1,8 +1,8 @@
 //! Conversions.
 ghost use Rattle.std.specs.Prelude.{◌≡◌, ◌<◌, length, IsOkAnd, IfOk, IfErr, OnOk, OnErr};
 ghost use Rattle.std.specs.Cow.{cow_slice_items, IsBorrowedSlice, IsOwnedSlice};
-ghost use Rattle.hip_raw.specs.Meter.{RisesAtMost};
-ghost use Rattle.hip_bytes.specs.Cost.{owned_cost};
+ghost use Rattle.hip_raw.specs.Meter.{RisesAtLeast, RisesAtMost};
+ghost use Rattle.hip_bytes.specs.Cost.{lent_count, owned_cost};
 ghost use Rattle.hip_bytes.specs.Kinds.{by_length, HasCapacity};
 ghost use Rattle.hip_bytes.specs.Made.{OwnedAnswers};
 
@@ -31,6 +31,8 @@ impl<'b, B: Backend> HipByt<'b, B> {
         ensures owned { OwnedAnswers self.entry result }
         ensures counted { RisesAtMost meter.old meter.new
             (owned_cost B.SHARES self.entry.kind (length self.entry.items)) }
+        ensures copied { OnOk result (RisesAtLeast meter.old meter.new
+            (lent_count self.entry.kind (length self.entry.items))) }
     {
         let _capacity = self.capacity();
         match self.into_repr() {

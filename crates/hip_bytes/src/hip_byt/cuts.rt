@@ -1,7 +1,7 @@
 //! Clones and parts.
-ghost use Rattle.std.specs.Prelude.{◌≡◌, ◌≤◌, ◌-◌, length, slice_range, None};
-ghost use Rattle.hip_raw.specs.Meter.{RisesAtMost};
-ghost use Rattle.hip_bytes.specs.Cost.{clone_cost, cut_cost};
+ghost use Rattle.std.specs.Prelude.{◌≡◌, ◌≤◌, ◌-◌, length, slice_range, None, IfOk, OnOk};
+ghost use Rattle.hip_raw.specs.Meter.{RisesAtLeast, RisesAtMost};
+ghost use Rattle.hip_bytes.specs.Cost.{clone_cost, cut_cost, PartCounts};
 ghost use Rattle.hip_bytes.specs.Made.{CloneAnswers, CutAnswers};
 ghost use Rattle.hip_bytes.specs.Range.{slice_fault, slice_of};
 ghost use Rattle.hip_bytes.specs.Slice.{SliceAnswers, slice_cost};
@@ -29,6 +29,8 @@ impl<'b, B: Backend> HipByt<'b, B> {
         ensures clone { CloneAnswers self.now result }
         ensures counted { RisesAtMost meter.old meter.new
             (clone_cost B.SHARES self.now.kind (length self.now.items)) }
+        ensures copied { OnOk result (RisesAtLeast meter.old meter.new
+            (clone_cost B.SHARES self.now.kind (length self.now.items))) }
     {
         let repr = match &self.bare.repr {
             Repr::Inline(inline) => Repr::Inline(inline.clone_metered(meter)),
@@ -55,6 +57,8 @@ impl<'b, B: Backend> HipByt<'b, B> {
         ensures part { CutAnswers self.now (slice_range self.now.items start end) result }
         ensures counted { RisesAtMost meter.old meter.new
             (cut_cost B.SHARES self.now.kind (end - start)) }
+        ensures copied { IfOk result
+            (λ part. PartCounts B.SHARES self.now part meter.old meter.new) }
     {
         let repr = match &self.bare.repr {
             Repr::Inline(inline) => {
@@ -99,6 +103,8 @@ impl<'b, B: Backend> HipByt<'b, B> {
     ) -> Result<Self, SliceRefusal<'_, 'b, B>>
         ensures slice { SliceAnswers self.now low high result }
         ensures counted { RisesAtMost meter.old meter.new (slice_cost B.SHARES self.now low high) }
+        ensures copied { IfOk result
+            (λ part. PartCounts B.SHARES self.now part meter.old meter.new) }
     {
         let len = self.len();
         match range_of(low, high, len) {
@@ -136,6 +142,8 @@ impl<'b, B: Backend> HipByt<'b, B> {
         ensures counted { R.has_bounds range
             → RisesAtMost meter.old meter.new
             (slice_cost B.SHARES self.now (R.start_bound range) (R.end_bound range)) }
+        ensures copied { IfOk result
+            (λ part. PartCounts B.SHARES self.now part meter.old meter.new) }
     {
         let low = bound_of(range.start_bound());
         let high = bound_of(range.end_bound());
@@ -170,6 +178,8 @@ impl<'b, B: Backend> HipByt<'b, B> {
         ensures counted { RisesAtMost meter.old meter.new
             (cut_cost B.SHARES self.now.kind
             (length (slice_of (R.start_bound range) (R.end_bound range) self.now.items))) }
+        ensures copied { IfOk result
+            (λ part. PartCounts B.SHARES self.now part meter.old meter.new) }
     {
         let (start, end) = sound_range(
             bound_of(range.start_bound()),
@@ -211,6 +221,8 @@ impl<'b, B: Backend> HipByt<'b, B> {
         ensures counted { RisesAtMost meter.old meter.new
             (cut_cost B.SHARES self.now.kind
             (length (slice_of (R.start_bound range) (R.end_bound range) self.now.items))) }
+        ensures copied { IfOk result
+            (λ part. PartCounts B.SHARES self.now part meter.old meter.new) }
     {
         self.slice_metered(alloc, range, meter)
     }

@@ -2,10 +2,10 @@
 ghost use Rattle.std.specs.Prelude.{◌≡◌, ◌+◌, ◌≤◌, false, length, map, IsSome, IfSome, IfNone, IfOk, OnOk, OnErr, OnSome};
 ghost use Rattle.std.specs.Char.{to_ascii_lowercase, to_ascii_uppercase};
 ghost use Rattle.std.specs.Fn.{FnOnceReturnsAtMut, FnOnceTakesAtMut};
-ghost use Rattle.hip_raw.specs.Meter.{RisesAtMost, times_copied};
+ghost use Rattle.hip_raw.specs.Meter.{RisesAtLeast, RisesAtMost, times_copied};
 ghost use Rattle.hip_bytes.specs.Repr.{handle_of};
 ghost use Rattle.hip_bytes.specs.Change.{WriteAnswers};
-ghost use Rattle.hip_bytes.specs.Cost.{write_cost, clone_cost, WriteNeedsMemory};
+ghost use Rattle.hip_bytes.specs.Cost.{write_cost, clone_cost, lent_count, WriteNeedsMemory};
 ghost use Rattle.hip_bytes.specs.Kinds.{owned_kind, HasCapacity};
 ghost use Rattle.hip_bytes.specs.Made.{CopyAnswers};
 
@@ -104,6 +104,8 @@ impl<'b, B: Backend> HipByt<'b, B> {
             (WriteNeedsMemory B.SHARES self.old.kind (length self.old.items)) }
         ensures counted { RisesAtMost meter.old meter.new
             (write_cost B.SHARES self.old.kind (length self.old.items)) }
+        ensures copied { OnOk result (RisesAtLeast meter.old meter.new
+            (lent_count self.old.kind (length self.old.items))) }
         ensures err { OnErr result (self.new ≡ self.old) }
     {
         let f = match &mut self.bare.repr {
@@ -148,6 +150,8 @@ impl<'b, B: Backend> HipByt<'b, B> {
             (WriteNeedsMemory B.SHARES self.old.kind (length self.old.items)) }
         ensures counted { RisesAtMost meter.old meter.new
             (write_cost B.SHARES self.old.kind (length self.old.items)) }
+        ensures copied { OnOk result (RisesAtLeast meter.old meter.new
+            (lent_count self.old.kind (length self.old.items))) }
     {
         self.with_to_mut_slice_metered(alloc, |_| (), meter)?;
         match self.as_mut_slice() {
@@ -176,6 +180,8 @@ impl<'b, B: Backend> HipByt<'b, B> {
             (map to_ascii_lowercase self.old.items) result self.new }
         ensures counted { RisesAtMost meter.old meter.new
             (write_cost B.SHARES self.old.kind (length self.old.items)) }
+        ensures copied { OnOk result (RisesAtLeast meter.old meter.new
+            (lent_count self.old.kind (length self.old.items))) }
     {
         self.with_to_mut_slice_metered(alloc, |bytes| make_ascii_lowercase(bytes), meter)
     }
@@ -225,6 +231,8 @@ impl<'b, B: Backend> HipByt<'b, B> {
             (map to_ascii_uppercase self.old.items) result self.new }
         ensures counted { RisesAtMost meter.old meter.new
             (write_cost B.SHARES self.old.kind (length self.old.items)) }
+        ensures copied { OnOk result (RisesAtLeast meter.old meter.new
+            (lent_count self.old.kind (length self.old.items))) }
     {
         self.with_to_mut_slice_metered(alloc, |bytes| make_ascii_uppercase(bytes), meter)
     }
@@ -272,6 +280,7 @@ where
     ensures kind { IfOk result (λ made. (handle_of made.0).kind ≡ Kind.Allocated) }
     ensures fits { IfOk result (λ made. length bytes.now ≤ (handle_of made.0).capacity) }
     ensures counted { RisesAtMost meter.old meter.new (times_copied B.SHARES (length bytes.now)) }
+    ensures copied { OnOk result (RisesAtLeast meter.old meter.new (length bytes.now)) }
 {
     let mut vec = copy_counted(alloc, bytes, meter)?;
     let answer = f(vec.as_mut_slice());

@@ -2,10 +2,10 @@
 ghost use Rattle.std.specs.Prelude.{◌≡◌, ◌<◌, IsOkAnd, IfOk, IfErr, OnOk, OnErr, length};
 ghost use Rattle.std.specs.Cow.{cow_str_bytes, IsBorrowedStr, IsOwnedStr};
 ghost use Rattle.std.specs.String.{string_bytes};
-ghost use Rattle.hip_bytes.specs.Cost.{owned_cost, taken_cost};
+ghost use Rattle.hip_bytes.specs.Cost.{lent_count, owned_cost, taken_cost};
 ghost use Rattle.hip_bytes.specs.Kinds.{by_length, HasCapacity};
 ghost use Rattle.hip_bytes.specs.Made.{MakeAnswers, OwnedAnswers};
-ghost use Rattle.hip_bytes.specs.Meter.{RisesAtMost};
+ghost use Rattle.hip_bytes.specs.Meter.{RisesAtLeast, RisesAtMost};
 ghost use Rattle.hip_bytes.specs.declared.kind.TheConstants.{INLINE_CAPACITY};
 
 use super::HipStr;
@@ -33,6 +33,8 @@ impl<'b, B: Backend> HipStr<'b, B> {
         ensures owned { OwnedAnswers self.entry result }
         ensures counted { RisesAtMost meter.old meter.new
             (owned_cost B.SHARES self.entry.kind (length self.entry.items)) }
+        ensures copied { OnOk result (RisesAtLeast meter.old meter.new
+            (lent_count self.entry.kind (length self.entry.items))) }
     {
         match self.into_bytes().into_owned_metered(alloc, meter) {
             Ok(bytes) => Ok(HipStr { bytes }),

@@ -1,10 +1,10 @@
 //! Clones and parts.
-ghost use Rattle.std.specs.Prelude.{◌≡◌, ◌≤◌, ◌-◌, IfOk, MatchOption, length, slice_range, None};
+ghost use Rattle.std.specs.Prelude.{◌≡◌, ◌≤◌, ◌-◌, IfOk, OnOk, MatchOption, length, slice_range, None};
 ghost use Rattle.std.specs.Str.{IsCharBoundary};
 ghost use Rattle.std.specs.Range.Bound.{start_index, end_index};
-ghost use Rattle.hip_bytes.specs.Cost.{clone_cost, cut_cost};
+ghost use Rattle.hip_bytes.specs.Cost.{clone_cost, cut_cost, PartCounts};
 ghost use Rattle.hip_bytes.specs.Made.{CloneAnswers, CutAnswers};
-ghost use Rattle.hip_bytes.specs.Meter.{RisesAtMost};
+ghost use Rattle.hip_bytes.specs.Meter.{RisesAtLeast, RisesAtMost};
 ghost use Rattle.hip_bytes.specs.Range.{slice_of};
 ghost use Rattle.hip_text.specs.Slice.{SliceAnswers, text_slice_fault, slice_cost};
 
@@ -54,6 +54,8 @@ impl<'b, B: Backend> HipStr<'b, B> {
         ensures clone { CloneAnswers self.now result }
         ensures counted { RisesAtMost meter.old meter.new
             (clone_cost B.SHARES self.now.kind (length self.now.items)) }
+        ensures copied { OnOk result (RisesAtLeast meter.old meter.new
+            (clone_cost B.SHARES self.now.kind (length self.now.items))) }
     {
         Ok(HipStr {
             bytes: self.bytes.clone_metered(alloc, meter)?,
@@ -77,6 +79,8 @@ impl<'b, B: Backend> HipStr<'b, B> {
         ensures part { CutAnswers self.now (slice_range self.now.items start end) result }
         ensures counted { RisesAtMost meter.old meter.new
             (cut_cost B.SHARES self.now.kind (end - start)) }
+        ensures copied { IfOk result
+            (λ part. PartCounts B.SHARES self.now part meter.old meter.new) }
     {
         Ok(HipStr {
             bytes: self.bytes.part_metered(alloc, start, end, meter)?,
@@ -108,6 +112,8 @@ impl<'b, B: Backend> HipStr<'b, B> {
     ) -> Result<Self, SliceRefusal<'_, 'b, B>>
         ensures slice { SliceAnswers self.now low high result }
         ensures counted { RisesAtMost meter.old meter.new (slice_cost B.SHARES self.now low high) }
+        ensures copied { IfOk result
+            (λ part. PartCounts B.SHARES self.now part meter.old meter.new) }
     {
         match text_range(self.as_str(), low, high) {
             Ok((start, end)) => match self.part_metered(alloc, start, end, meter) {
@@ -144,6 +150,8 @@ impl<'b, B: Backend> HipStr<'b, B> {
         ensures counted { R.has_bounds range
             → RisesAtMost meter.old meter.new
             (slice_cost B.SHARES self.now (R.start_bound range) (R.end_bound range)) }
+        ensures copied { IfOk result
+            (λ part. PartCounts B.SHARES self.now part meter.old meter.new) }
     {
         let low = bound_of(range.start_bound());
         let high = bound_of(range.end_bound());
@@ -178,6 +186,8 @@ impl<'b, B: Backend> HipStr<'b, B> {
         ensures counted { RisesAtMost meter.old meter.new
             (cut_cost B.SHARES self.now.kind
             (length (slice_of (R.start_bound range) (R.end_bound range) self.now.items))) }
+        ensures copied { IfOk result
+            (λ part. PartCounts B.SHARES self.now part meter.old meter.new) }
     {
         let low = bound_of(range.start_bound());
         let high = bound_of(range.end_bound());
@@ -217,6 +227,8 @@ impl<'b, B: Backend> HipStr<'b, B> {
         ensures counted { RisesAtMost meter.old meter.new
             (cut_cost B.SHARES self.now.kind
             (length (slice_of (R.start_bound range) (R.end_bound range) self.now.items))) }
+        ensures copied { IfOk result
+            (λ part. PartCounts B.SHARES self.now part meter.old meter.new) }
     {
         self.slice_metered(alloc, range, meter)
     }

@@ -1,10 +1,10 @@
 //! ASCII case.
-ghost use Rattle.std.specs.Prelude.{◌+◌, length, map};
+ghost use Rattle.std.specs.Prelude.{◌+◌, length, map, OnOk};
 ghost use Rattle.std.specs.Char.{to_ascii_lowercase, to_ascii_uppercase};
 ghost use Rattle.hip_bytes.specs.Change.{WriteAnswers};
-ghost use Rattle.hip_bytes.specs.Cost.{clone_cost, write_cost};
+ghost use Rattle.hip_bytes.specs.Cost.{clone_cost, lent_count, write_cost};
 ghost use Rattle.hip_bytes.specs.Made.{CopyAnswers};
-ghost use Rattle.hip_bytes.specs.Meter.{RisesAtMost};
+ghost use Rattle.hip_bytes.specs.Meter.{RisesAtLeast, RisesAtMost};
 
 use super::HipStr;
 use hip_bytes::{Backend, Meter};
@@ -32,6 +32,8 @@ impl<'b, B: Backend> HipStr<'b, B> {
             (map to_ascii_lowercase self.old.items) result self.new }
         ensures counted { RisesAtMost meter.old meter.new
             (write_cost B.SHARES self.old.kind (length self.old.items)) }
+        ensures copied { OnOk result (RisesAtLeast meter.old meter.new
+            (lent_count self.old.kind (length self.old.items))) }
     {
         self.bytes.make_ascii_lowercase_metered(alloc, meter)
     }
@@ -82,6 +84,8 @@ impl<'b, B: Backend> HipStr<'b, B> {
             (map to_ascii_uppercase self.old.items) result self.new }
         ensures counted { RisesAtMost meter.old meter.new
             (write_cost B.SHARES self.old.kind (length self.old.items)) }
+        ensures copied { OnOk result (RisesAtLeast meter.old meter.new
+            (lent_count self.old.kind (length self.old.items))) }
     {
         self.bytes.make_ascii_uppercase_metered(alloc, meter)
     }

@@ -24,7 +24,7 @@ impl<'b, B: Backend> Pool<'b, B> {
         ensures counted { RisesAtMost meter.old meter.new
             (cost_of B.SHARES self.old (Command.Push t addition.entry)) }
         ensures copied { RisesAtLeast meter.old meter.new
-            (counts_of self.old (Command.Push t addition.entry) (answer_of result)) }
+            (counts_of B.SHARES self.old (Command.Push t addition.entry) (answer_of result) self.new) }
         ensures paid { PushesArePaid B.SHARES self.old
             (Command.Push t addition.entry) self.new meter.old meter.new }
     {

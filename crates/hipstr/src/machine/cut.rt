@@ -1,13 +1,15 @@
 //! Commands that cut a text once, or in two.
-ghost use Rattle.std.specs.Prelude.{◌≡◌, ◌<◌, ℕ, false, length, None, Some, IfErr, IfOk, OnOk};
+ghost use Rattle.std.specs.Prelude.{◌≡◌, ◌<◌, ℕ, false, length, None, Some, IfErr, IfOk, IfSome, OnOk};
 ghost use Rattle.std.specs.Option.{option_or};
-ghost use Rattle.hip_bytes.specs.Meter.{RisesAtMost};
+ghost use Rattle.hip_bytes.specs.Meter.{RisesAtLeast, RisesAtMost};
+ghost use Rattle.hip_bytes.specs.Cost.{PartCounts};
+ghost use Rattle.hip_cuts.specs.Cut.{PartsCount};
 ghost use Rattle.hip_cuts.specs.Cut.{TrimAnswers, TrimCosts, StripAnswers, StripCosts, OnceAnswers, OnceCosts, space_ends};
 ghost use Rattle.hipstr.specs.declared.command.Command.{Command};
 ghost use Rattle.hipstr.specs.Cut.{Leaves, occurrences, stripped, parted, trims_one_end};
 ghost use Rattle.hipstr.specs.Reason.{answer_of};
 ghost use Rattle.hipstr.specs.Slot.{slot_at, state_at};
-ghost use Rattle.hipstr.specs.Step.{Step, Costs, cost_of, not_text_fault, slot_fault};
+ghost use Rattle.hipstr.specs.Step.{Step, Costs, cost_of, counts_of, not_text_fault, slot_fault};
 
 use crate::command::{Answer, Pat, Reason, Side};
 use crate::pool::{Pool, Slot};
@@ -46,6 +48,9 @@ impl<'b, B: Backend> Pool<'b, B> {
         ensures step { Step B.SHARES self.old (Command.Trim s t side) (answer_of result) self.new }
         ensures counted { (cost : ℕ) × Costs B.SHARES self.old (Command.Trim s t side) cost
             × RisesAtMost meter.old meter.new cost }
+        ensures copied { RisesAtLeast meter.old meter.new
+            (counts_of B.SHARES self.old (Command.Trim s t side)
+            (answer_of result) self.new) }
     {
         let text = self.text_for(s, t)?;
         let left = trimmed(alloc, text, side, meter)?;
@@ -67,6 +72,9 @@ impl<'b, B: Backend> Pool<'b, B> {
         ensures counted { (cost : ℕ)
             × Costs B.SHARES self.old (Command.TrimMatches s t side pattern.entry) cost
             × RisesAtMost meter.old meter.new cost }
+        ensures copied { RisesAtLeast meter.old meter.new
+            (counts_of B.SHARES self.old (Command.TrimMatches s t side pattern.entry)
+            (answer_of result) self.new) }
     {
         let text = self.text_for(s, t)?;
         if trims_one_end(side, pattern) {
@@ -90,6 +98,9 @@ impl<'b, B: Backend> Pool<'b, B> {
             (answer_of result) self.new }
         ensures counted { RisesAtMost meter.old meter.new
             (cost_of B.SHARES self.old (Command.Strip s t end pattern.entry)) }
+        ensures copied { RisesAtLeast meter.old meter.new
+            (counts_of B.SHARES self.old (Command.Strip s t end pattern.entry)
+            (answer_of result) self.new) }
     {
         let text = self.text_for(s, t)?;
         let Some(left) = stripped(alloc, text, end, pattern, meter)? else {
@@ -113,6 +124,9 @@ impl<'b, B: Backend> Pool<'b, B> {
             (answer_of result) self.new }
         ensures counted { RisesAtMost meter.old meter.new
             (cost_of B.SHARES self.old (Command.Once s t u end pattern.entry)) }
+        ensures copied { RisesAtLeast meter.old meter.new
+            (counts_of B.SHARES self.old (Command.Once s t u end pattern.entry)
+            (answer_of result) self.new) }
     {
         let source = self.find(s)?;
         self.find(t)?;
@@ -139,6 +153,8 @@ fn trimmed<'b, B: Backend>(
 ) -> Result<HipStr<'b, B>, AllocError>
     ensures trimmed { TrimAnswers (λ part. part) (Leaves side) space_ends text.now result }
     ensures counted { TrimCosts B.SHARES (Leaves side) space_ends text.now meter.old meter.new }
+    ensures copied { IfOk result
+        (λ part. PartCounts B.SHARES text.now part meter.old meter.new) }
 {
     match side {
         Side::Start => text.trim_start_metered(alloc, meter),
@@ -173,6 +189,8 @@ fn trimmed_of<'b, B: Backend>(
         (occurrences pattern.entry) text.now result }
     ensures counted { TrimCosts B.SHARES (Leaves side)
         (occurrences pattern.entry) text.now meter.old meter.new }
+    ensures copied { IfOk result
+        (λ part. PartCounts B.SHARES text.now part meter.old meter.new) }
 {
     match pattern {
         Pat::Text(pattern) => match side {
@@ -196,6 +214,8 @@ fn trimmed_matches<'b, B: Backend, P: DoubleEndedPattern>(
     ensures trimmed { TrimAnswers (λ part. part) (Leaves side) (P.ends pattern) text.now result }
     ensures counted { TrimCosts B.SHARES (Leaves side)
         (P.ends pattern) text.now meter.old meter.new }
+    ensures copied { IfOk result
+        (λ part. PartCounts B.SHARES text.now part meter.old meter.new) }
 {
     match side {
         Side::Start => text.trim_start_matches_metered(alloc, pattern, meter),
@@ -216,6 +236,8 @@ fn stripped<'b, B: Backend>(
         (occurrences pattern.entry) text.now result }
     ensures counted { StripCosts B.SHARES (stripped end)
         (occurrences pattern.entry) text.now meter.old meter.new }
+    ensures copied { IfOk result (λ found. IfSome found
+        (λ part. PartCounts B.SHARES text.now part meter.old meter.new)) }
 {
     match pattern {
         Pat::Text(pattern) => text_without(alloc, text, end, pattern, meter),
@@ -236,6 +258,8 @@ fn text_without<'b, B: Backend, P: ReversePattern>(
     ensures stripped { StripAnswers (λ part. part) (stripped end) (P.ends pattern) text.now result }
     ensures counted { StripCosts B.SHARES (stripped end)
         (P.ends pattern) text.now meter.old meter.new }
+    ensures copied { IfOk result (λ found. IfSome found
+        (λ part. PartCounts B.SHARES text.now part meter.old meter.new)) }
 {
     match end {
         End::Front => text.strip_prefix_metered(alloc, pattern, meter),
@@ -255,6 +279,8 @@ fn parted<'b, B: Backend>(
         (occurrences pattern.entry) text.now result }
     ensures counted { OnceCosts B.SHARES (parted end)
         (occurrences pattern.entry) text.now meter.old meter.new }
+    ensures copied { IfOk result (λ found. IfSome found
+        (λ parts. PartsCount B.SHARES text.now parts.0 parts.1 meter.old meter.new)) }
 {
     match pattern {
         Pat::Text(pattern) => two_parts(alloc, text, end, pattern, meter),
@@ -275,6 +301,8 @@ fn two_parts<'b, B: Backend, P: ReversePattern>(
     ensures parts { OnceAnswers (λ part. part) (parted end) (P.ends pattern) text.now result }
     ensures counted { OnceCosts B.SHARES (parted end)
         (P.ends pattern) text.now meter.old meter.new }
+    ensures copied { IfOk result (λ found. IfSome found
+        (λ parts. PartsCount B.SHARES text.now parts.0 parts.1 meter.old meter.new)) }
 {
     match end {
         End::Front => text.split_once_metered(alloc, pattern, meter),

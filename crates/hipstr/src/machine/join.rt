@@ -28,7 +28,7 @@ impl<'b, B: Backend> Pool<'b, B> {
         ensures counted { RisesAtMost meter.old meter.new
             (cost_of B.SHARES self.old (Command.Join first count sep.entry t)) }
         ensures copied { RisesAtLeast meter.old meter.new
-            (counts_of self.old (Command.Join first count sep.entry t) (answer_of result)) }
+            (counts_of B.SHARES self.old (Command.Join first count sep.entry t) (answer_of result) self.new) }
     {
         self.find_all(first, count)?;
         self.find(t)?;

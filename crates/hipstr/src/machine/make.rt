@@ -30,7 +30,7 @@ impl<'b, B: Backend> Pool<'b, B> {
         ensures counted { RisesAtMost meter.old meter.new
             (cost_of B.SHARES self.old (Command.Inline t bytes.entry)) }
         ensures copied { RisesAtLeast meter.old meter.new
-            (counts_of self.old (Command.Inline t bytes.entry) (answer_of result)) }
+            (counts_of B.SHARES self.old (Command.Inline t bytes.entry) (answer_of result) self.new) }
     {
         self.find(t)?;
         let Some(handle) = HipByt::try_inline_metered(bytes, meter) else {
@@ -61,7 +61,7 @@ impl<'b, B: Backend> Pool<'b, B> {
         ensures counted { RisesAtMost meter.old meter.new
             (cost_of B.SHARES self.old (Command.Copy t bytes.entry)) }
         ensures copied { RisesAtLeast meter.old meter.new
-            (counts_of self.old (Command.Copy t bytes.entry) (answer_of result)) }
+            (counts_of B.SHARES self.old (Command.Copy t bytes.entry) (answer_of result) self.new) }
     {
         self.find(t)?;
         let handle = HipByt::from_slice_metered(alloc, bytes, meter)?;
@@ -94,6 +94,9 @@ impl<'b, B: Backend> Pool<'b, B> {
         ensures step { Step B.SHARES self.old (Command.Clone s t) (answer_of result) self.new }
         ensures counted { RisesAtMost meter.old meter.new
             (cost_of B.SHARES self.old (Command.Clone s t)) }
+        ensures copied { RisesAtLeast meter.old meter.new
+            (counts_of B.SHARES self.old (Command.Clone s t)
+            (answer_of result) self.new) }
     {
         let source = self.find(s)?;
         self.find(t)?;
@@ -118,6 +121,9 @@ impl<'b, B: Backend> Pool<'b, B> {
             (answer_of result) self.new }
         ensures counted { RisesAtMost meter.old meter.new
             (cost_of B.SHARES self.old (Command.Slice s t low high)) }
+        ensures copied { RisesAtLeast meter.old meter.new
+            (counts_of B.SHARES self.old (Command.Slice s t low high)
+            (answer_of result) self.new) }
     {
         let source = self.find(s)?;
         self.find(t)?;
@@ -143,7 +149,7 @@ impl<'b, B: Backend> Pool<'b, B> {
         ensures counted { RisesAtMost meter.old meter.new
             (cost_of B.SHARES self.old (Command.Repeat s t n)) }
         ensures copied { RisesAtLeast meter.old meter.new
-            (counts_of self.old (Command.Repeat s t n) (answer_of result)) }
+            (counts_of B.SHARES self.old (Command.Repeat s t n) (answer_of result) self.new) }
     {
         let source = self.find(s)?;
         self.find(t)?;

@@ -1,6 +1,6 @@
 //! The command that takes a text apart.
 ghost use Rattle.std.specs.Prelude.{◌≡◌, ◌≤◌, ◌<◌, ◌+◌, ◌&&◌, ◌++◌, length, map, replicate, take, drop, nat_le, nat_lt, Err, is_ok, IfOk, OnErr};
-ghost use Rattle.hip_bytes.specs.Meter.{RisesAtMost};
+ghost use Rattle.hip_bytes.specs.Meter.{RisesAtLeast, RisesAtMost};
 ghost use Rattle.hip_match.specs.declared.draw.End.{End};
 ghost use Rattle.hipstr.specs.declared.command.Command.{Command};
 ghost use Rattle.hipstr.specs.declared.command.Reason.{Reason};
@@ -8,7 +8,7 @@ ghost use Rattle.hipstr.specs.Cut.{has_back, has_one_end, is_text};
 ghost use Rattle.hipstr.specs.Parts.{put_all};
 ghost use Rattle.hipstr.specs.Reason.{answer_of};
 ghost use Rattle.hipstr.specs.Slot.{state_of, slot_at, text_at, empty_slot};
-ghost use Rattle.hipstr.specs.Step.{Step, cost_of};
+ghost use Rattle.hipstr.specs.Step.{Step, cost_of, counts_of};
 
 use super::parts::{empty_all, make_parts};
 use crate::command::{Answer, How, Pat, Reason};
@@ -32,6 +32,9 @@ impl<'b, B: Backend> Pool<'b, B> {
             (answer_of result) self.new }
         ensures counted { RisesAtMost meter.old meter.new
             (cost_of B.SHARES self.old (Command.Pieces s how.entry script.entry first)) }
+        ensures copied { RisesAtLeast meter.old meter.new
+            (counts_of B.SHARES self.old (Command.Pieces s how.entry script.entry first)
+            (answer_of result) self.new) }
     {
         self.find(s)?;
         self.find_all(first, script.len())?;

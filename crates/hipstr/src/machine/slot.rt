@@ -4,7 +4,7 @@ ghost use Rattle.std.specs.Prelude.{IfErr, IfOk, OnOk, OnErr, is_none};
 ghost use Rattle.std.specs.Char.{to_ascii_lowercase, to_ascii_uppercase};
 ghost use Rattle.hip_bytes.specs.Change.{IsPushed, IsRewritten, IsShortened, ShrinkAnswers, WriteAnswers};
 ghost use Rattle.hip_bytes.specs.Cost.{OwnNeedsMemory, PushIsPaid, PushNeedsMemory, WriteNeedsMemory};
-ghost use Rattle.hip_bytes.specs.Cost.{owned_cost, push_cost, shortened_cost, shrink_cost, write_cost};
+ghost use Rattle.hip_bytes.specs.Cost.{lent_count, owned_cost, push_cost, shortened_cost, shrink_cost, write_cost};
 ghost use Rattle.hip_bytes.specs.Made.{IsOwned};
 ghost use Rattle.hip_bytes.specs.Meter.{RisesAtLeast, RisesAtMost};
 ghost use Rattle.hipstr.specs.Slot.{state_of};
@@ -122,6 +122,9 @@ impl<'b, B: Backend> Slot<'b, B> {
         ensures counted { RisesAtMost meter.old meter.new
             (write_cost B.SHARES (state_of self.old).handle.kind
             (length (state_of self.old).handle.items)) }
+        ensures copied { OnOk result (RisesAtLeast meter.old meter.new
+            (lent_count (state_of self.old).handle.kind
+            (length (state_of self.old).handle.items))) }
     {
         match self {
             Slot::Bytes(bytes) => bytes.make_ascii_uppercase_metered(alloc, meter),
@@ -137,6 +140,9 @@ impl<'b, B: Backend> Slot<'b, B> {
         ensures counted { RisesAtMost meter.old meter.new
             (write_cost B.SHARES (state_of self.old).handle.kind
             (length (state_of self.old).handle.items)) }
+        ensures copied { OnOk result (RisesAtLeast meter.old meter.new
+            (lent_count (state_of self.old).handle.kind
+            (length (state_of self.old).handle.items))) }
     {
         match self {
             Slot::Bytes(bytes) => bytes.make_ascii_lowercase_metered(alloc, meter),
@@ -160,6 +166,9 @@ impl<'b, B: Backend> Slot<'b, B> {
             (unless (set_fault (state_of self.old) i)
             (write_cost B.SHARES (state_of self.old).handle.kind
             (length (state_of self.old).handle.items))) }
+        ensures copied { OnOk result (RisesAtLeast meter.old meter.new
+            (lent_count (state_of self.old).handle.kind
+            (length (state_of self.old).handle.items))) }
     {
         let Slot::Bytes(bytes) = self else {
             return Err(Reason::NotBytes);
@@ -179,6 +188,9 @@ impl<'b, B: Backend> Slot<'b, B> {
         ensures counted { RisesAtMost meter.old meter.new
             (owned_cost B.SHARES (state_of self.old).handle.kind
             (length (state_of self.old).handle.items)) }
+        ensures copied { OnOk result (RisesAtLeast meter.old meter.new
+            (lent_count (state_of self.old).handle.kind
+            (length (state_of self.old).handle.items))) }
     {
         let (slot, answer) = mem::replace(self, Slot::empty()).into_owned(alloc, meter);
         *self = slot;
@@ -195,6 +207,9 @@ impl<'b, B: Backend> Slot<'b, B> {
         ensures counted { RisesAtMost meter.old meter.new
             (owned_cost B.SHARES (state_of self.entry).handle.kind
             (length (state_of self.entry).handle.items)) }
+        ensures copied { OnOk result.1 (RisesAtLeast meter.old meter.new
+            (lent_count (state_of self.entry).handle.kind
+            (length (state_of self.entry).handle.items))) }
     {
         match self {
             Slot::Bytes(bytes) => match bytes.into_owned_metered(alloc, meter) {

@@ -1,8 +1,8 @@
 //! Commands that write over a slot's items.
-ghost use Rattle.hip_bytes.specs.Meter.{RisesAtMost};
+ghost use Rattle.hip_bytes.specs.Meter.{RisesAtLeast, RisesAtMost};
 ghost use Rattle.hipstr.specs.declared.command.Command.{Command};
 ghost use Rattle.hipstr.specs.Reason.{answer_of};
-ghost use Rattle.hipstr.specs.Step.{Step, cost_of};
+ghost use Rattle.hipstr.specs.Step.{Step, cost_of, counts_of};
 
 use crate::command::{Answer, Reason};
 use crate::pool::Pool;
@@ -20,6 +20,9 @@ impl<'b, B: Backend> Pool<'b, B> {
         ensures step { Step B.SHARES self.old (Command.Upper t) (answer_of result) self.new }
         ensures counted { RisesAtMost meter.old meter.new
             (cost_of B.SHARES self.old (Command.Upper t)) }
+        ensures copied { RisesAtLeast meter.old meter.new
+            (counts_of B.SHARES self.old (Command.Upper t)
+            (answer_of result) self.new) }
     {
         self.find(t)?;
         self.slots[t].make_upper(alloc, meter)?;
@@ -36,6 +39,9 @@ impl<'b, B: Backend> Pool<'b, B> {
         ensures step { Step B.SHARES self.old (Command.Lower t) (answer_of result) self.new }
         ensures counted { RisesAtMost meter.old meter.new
             (cost_of B.SHARES self.old (Command.Lower t)) }
+        ensures copied { RisesAtLeast meter.old meter.new
+            (counts_of B.SHARES self.old (Command.Lower t)
+            (answer_of result) self.new) }
     {
         self.find(t)?;
         self.slots[t].make_lower(alloc, meter)?;
@@ -54,6 +60,9 @@ impl<'b, B: Backend> Pool<'b, B> {
         ensures step { Step B.SHARES self.old (Command.Set t i byte) (answer_of result) self.new }
         ensures counted { RisesAtMost meter.old meter.new
             (cost_of B.SHARES self.old (Command.Set t i byte)) }
+        ensures copied { RisesAtLeast meter.old meter.new
+            (counts_of B.SHARES self.old (Command.Set t i byte)
+            (answer_of result) self.new) }
     {
         self.find(t)?;
         self.slots[t].set(alloc, i, byte, meter)
@@ -69,6 +78,9 @@ impl<'b, B: Backend> Pool<'b, B> {
         ensures step { Step B.SHARES self.old (Command.Owned t) (answer_of result) self.new }
         ensures counted { RisesAtMost meter.old meter.new
             (cost_of B.SHARES self.old (Command.Owned t)) }
+        ensures copied { RisesAtLeast meter.old meter.new
+            (counts_of B.SHARES self.old (Command.Owned t)
+            (answer_of result) self.new) }
     {
         self.find(t)?;
         self.slots[t].make_owned(alloc, meter)

@@ -2,9 +2,9 @@ use Rattle.std.proofs.Common.{◌≡◌, ◌∙◌, ◌<◌, ◌≤◌, length, 
 use Rattle.std.proofs.lemmas.Bool.{false≢true, true_from_ne_false}
 use Rattle.std.proofs.lemmas.Result.{IfOk-from_err}
 use Rattle.std.specs.Fn.{FnOnceReturnsAtMut}
-use Rattle.hip_raw.specs.Meter.{RisesAtMost, times_copied}
+use Rattle.hip_raw.specs.Meter.{RisesAtLeast, RisesAtMost, times_copied}
 use Rattle.hip_bytes.proofs.Costs.{if_err}
-use Rattle.hip_bytes.specs.Cost.{write_cost, WriteNeedsMemory}
+use Rattle.hip_bytes.specs.Cost.{lent_count, write_cost, WriteNeedsMemory}
 use Rattle.std.specs.List.{refill}
 use Rattle.hip_bytes.specs.Handle.{Handle}
 use Rattle.hip_bytes.specs.Kinds.{HasCapacity, owned_kind}
@@ -12,7 +12,7 @@ use Rattle.hip_bytes.specs.Repr.{handle_of}
 use Rattle.hip_bytes.specs.declared.kind.Kind.TheVariants.{Borrowed}
 use Rattle.hip_bytes.specs.declared.kind.TheConstants.{INLINE_CAPACITY}
 use Rattle.hip_bytes.proofs.Pushes.{owner_handle}
-use Rattle.hip_bytes.proofs.Writes.{Apart, Rewrites, copied_long, copied_short, in_handle, in_owner, may_fail, refill-whole, refused}
+use Rattle.hip_bytes.proofs.Writes.{Apart, Rewrites, counted-exactly, copied_long, copied_short, in_handle, in_owner, may_fail, refill-whole, refused}
 use Rattle.hip_bytes.proofs.hip_byt.HipByt.with_to_mut_slice_metered.Goals as goal
 use Rattle.hip_bytes.proofs.hip_byt.HipByt.with_to_mut_slice_metered.Goals.{then-is_borrowed+then-len-le-INLINE_CAPACITY, else-is_borrowed+in_ok-repr, in-Borrowed, in-Allocated+in-Err}
 
@@ -31,6 +31,7 @@ returns-in-Inline g c =
       kept = does.2;
       memory = tt;
       counted = does.3;
+      copied = does.4;
       err = tt;
     }
 
@@ -48,6 +49,7 @@ returns-in-Ok g c =
       kept = does.2;
       memory = tt;
       counted = does.3;
+      copied = does.4;
       err = tt;
     }
 
@@ -80,6 +82,7 @@ returns-in_err-repr g c =
       kept = λ sole own. ap (λ (h : Handle). h.capacity) same;
       memory = if_err _ _ (subst (λ h. WriteNeedsMemory g.B.Backend.SHARES h.kind (length h.items)) same (may_fail g.B.Backend.SHARES mid.kind (length mid.items) apart long));
       counted = subst (λ h. RisesAtMost c.args.meter.now c.written.new.meter (write_cost g.B.Backend.SHARES h.kind (length h.items))) same (refused g.B.Backend.SHARES mid.kind (length mid.items) _ _ apart counted);
+      copied = IfOk-from_err _ (λ _. RisesAtLeast c.args.meter.now c.written.new.meter (lent_count c.args.self.now.kind (length c.args.self.now.items))) err;
       err = if_err _ _ same;
     }
 
@@ -112,8 +115,9 @@ returns g c =
           let size = w.f-answer.auto.arg2 ∙ ap length w.as_mut_slice-then-len-le-INLINE_CAPACITY.ensures.items in
           let whole = refill-whole inline w.f-answer.new.arg2 size in
           let counted = subst₂ (λ m xs. RisesAtMost c.args.meter.now m (length xs)) (sym w.meter-is) w.as_slice.ensures.items w.new_unchecked_metered-inline.ensures.counted in
+          let copied = subst₂ (λ m xs. RisesAtLeast c.args.meter.now m (length xs)) (sym w.meter-is) w.as_slice.ensures.items (counted-exactly _ _ _ w.new_unchecked_metered-inline.ensures.exact) in
           let is = ap (λ p. handle_of p.0) (sym w.repr-is) in
-          let does = subst₂ (λ h n. Rewrites g.B.Backend.SHARES h n c.args.meter.now c.if-is_borrowed.meter) same is (copied_short g.B.Backend.SHARES mid (refill (length inline) inline w.f-answer.new.arg2) _ _ lent short counted) in
+          let does = subst₂ (λ h n. Rewrites g.B.Backend.SHARES h n c.args.meter.now c.if-is_borrowed.meter) same is (copied_short g.B.Backend.SHARES mid (refill (length inline) inline w.f-answer.new.arg2) _ _ lent short counted copied) in
           let ran : FnOnceReturnsAtMut g.F.FnOnce c.match-self.f mid.items w.f-answer.result (refill (length inline) inline w.f-answer.new.arg2) =
           record { shown = w.as_mut_slice-then-len-le-INLINE_CAPACITY.result; shows = w.as_mut_slice-then-len-le-INLINE_CAPACITY.ensures.items ∙ copy; left = _; met = w.f-answer.ensures; leaves = sym whole } in
           record {
@@ -125,6 +129,7 @@ returns g c =
             kept = does.2;
             memory = tt;
             counted = does.3;
+            copied = does.4;
             err = tt;
           }
       | else-is_borrowed+in_ok-repr w ↦
@@ -134,9 +139,10 @@ returns g c =
           let items = w.as_slice-else-is_borrowed.ensures.items in
           let size = wrote.len ∙ ap length items in
           let counted = subst₂ (λ m xs. RisesAtMost c.args.meter.now m (times_copied g.B.Backend.SHARES (length xs))) (sym w.meter-is) items wrote.counted in
+          let copied = subst₂ (λ m xs. RisesAtLeast c.args.meter.now m (length xs)) (sym w.meter-is) items wrote.copied in
           let is = ap (λ p. handle_of p.0) (sym w.repr-is) in
           let does = subst₂ (λ h n. Rewrites g.B.Backend.SHARES h n c.args.meter.now c.if-is_borrowed.meter) same is
-          (copied_long g.B.Backend.SHARES mid made _ _ apart long wrote.kind size (subst (λ xs. length xs ≤ made.capacity) items wrote.fits) counted) in
+          (copied_long g.B.Backend.SHARES mid made _ _ apart long wrote.kind size (subst (λ xs. length xs ≤ made.capacity) items wrote.fits) counted copied) in
           record {
             ran = subst₂ (λ f h. FnOnceReturnsAtMut g.F.FnOnce f h.items c.if-is_borrowed.repr.1 new.items) still same
                 (subst₂ (λ p xs. FnOnceReturnsAtMut g.F.FnOnce c.match-self.f xs p.1 (handle_of p.0).items) (sym w.repr-is) items wrote.ran);
@@ -146,6 +152,7 @@ returns g c =
             kept = does.2;
             memory = tt;
             counted = does.3;
+            copied = does.4;
             err = tt;
           }
     ]

@@ -23,6 +23,7 @@ returns-in-Ok-part_metered g c =
     record {
       slice = (range.valid, subst (λ l. Holds c.in-Ok-part_metered.part (cut_kind c.args.self.now.kind (length l)) l) range.same c.in-Ok-part_metered.ensures.part);
       counted = subst (RisesAtMost _ _) (range.cost _) c.in-Ok-part_metered.ensures.counted;
+      copied = c.in-Ok-part_metered.ensures.copied;
     }
 
 pub returns-in-Err-part_metered : goal.returns-in-Err-part_metered
@@ -31,7 +32,8 @@ returns-in-Err-part_metered g c =
     record {
       slice = (range.valid, (c.in-Err-part_metered.ensures.part.0, subst (λ l. INLINE_CAPACITY < length l) range.same c.in-Err-part_metered.ensures.part.1));
       counted = subst (RisesAtMost _ _) (range.cost _) c.in-Err-part_metered.ensures.counted;
+      copied = tt;
     }
 
 pub returns-in-Err : goal.returns-in-Err
-returns-in-Err g c = record { slice = c.of_bounds.ensures; counted = record { never_falls = le_refl _; at_most = omega arith } }
+returns-in-Err g c = record { slice = c.of_bounds.ensures; counted = record { never_falls = le_refl _; at_most = omega arith }; copied = tt }

@@ -1,7 +1,9 @@
-use Rattle.std.proofs.Common.{◌≡◌, ◌≤◌, ◌∙◌, Bool, false, subst, length, map, replicate, refl, ap, sym, arith}
+use Rattle.std.proofs.Common.{◌≡◌, ◌≤◌, ◌∙◌, Bool, false, subst, length, map, replicate, take, refl, ap, sym, arith}
 use Rattle.std.proofs.lemmas.List.{length-map}
 use Rattle.hip_match.specs.Draw.{draw}
 use Rattle.std.specs.Prelude.{◌&&◌}
+use Rattle.hip_bytes.specs.Meter.{RisesAtLeast}
+use Rattle.hipstr.specs.Parts.{parts_count}
 use Rattle.hipstr.specs.{Cut.has_back, Slot.empty_slot, Slot.state_of}
 use Rattle.hipstr.proofs.Parts.{all-front, goes-on, has-ended, is-refused, script-ended, so-far-none}
 use Rattle.hipstr.proofs.machine.parts.make_drawn.Goals as goal
@@ -32,13 +34,13 @@ returns-in-Some-Err g c =
     let refused = is-refused c.in-Some-Err.field-0 _ g.B.Backend.SHARES c.args.walk.source c.loop-i.walk.source (draw c.args.walk.rest c.args.script.now) c.loop-i.walk.rest c.draw_at.new.walk.rest
     c.args.script.now c.loop-i.i _ (map state c.loop-i.spare) c.args.meter.now c.loop-i.meter c.draw_at.new.meter
     c.loop-i.invariant.so_far c.loop-i.invariant.source c.loop-i-test.true c.in-Some-Err.ensures.drawn c.in-Some-Err.field-0-is in
-    record { made = (refused.needs, c.empty_all.ensures ∙ ap (λ n. replicate n empty_slot) (let same : length c.loop-i.spare ≡ length (map state c.args.spare.now) = omega (arith, c.loop-i.auto.spare, length-map c.args.spare.now state) in same) ∙ sym c.requires.room.empty); counted = refused.rises }
+    record { made = (refused.needs, c.empty_all.ensures ∙ ap (λ n. replicate n empty_slot) (let same : length c.loop-i.spare ≡ length (map state c.args.spare.now) = omega (arith, c.loop-i.auto.spare, length-map c.args.spare.now state) in same) ∙ sym c.requires.room.empty); counted = refused.rises; copied = tt }
 
 pub returns-in-None : goal.returns-in-None
 returns-in-None g c =
     let all = has-ended g.B.Backend.SHARES c.args.walk.source (draw c.args.walk.rest c.args.script.now) c.loop-i.walk.rest c.args.script.now c.loop-i.i
     (map (state_of {B = g.row.B.Denot} {S = g.row.B-Sole.Denot} {P = g.row.B-Extent.Denot}) c.loop-i.spare) c.args.meter.now c.loop-i.meter c.draw_at.new.meter c.loop-i.invariant.so_far c.in-None.ensures.drawn.0 c.in-None.ensures.drawn.1 in
-    record { made = all.made; counted = all.rises }
+    record { made = all.made; counted = all.rises; copied = all.counts }
 
 pub draw_at-requires : goal.draw_at-requires
 draw_at-requires g c one_way =
@@ -49,7 +51,12 @@ returns g c =
     let state = state_of {B = g.row.B.Denot} {S = g.row.B-Sole.Denot} {P = g.row.B-Extent.Denot} in
     let all = script-ended g.B.Backend.SHARES c.args.walk.source (draw c.args.walk.rest c.args.script.now) c.loop-i.walk.rest c.args.script.now c.loop-i.i
     (map state c.loop-i.spare) c.args.meter.now c.loop-i.meter c.loop-i.invariant.so_far c.loop-i-test.false in
-    record { made = (omega (arith, all.made.0, c.loop-i-test.false, c.loop-i.auto.i-end), all.made.1); counted = all.rises }
+    let ended : c.loop-i.i ≡ length c.args.script.now = omega (arith, c.loop-i-test.false, c.loop-i.auto.i-end) in
+    record {
+      made = (omega (arith, all.made.0, ended), all.made.1);
+      counted = all.rises;
+      copied = subst (λ n. RisesAtLeast c.args.meter.now c.loop-i.meter (parts_count g.B.Backend.SHARES c.args.walk.source (take n (map state c.loop-i.spare)))) ended all.counts;
+    }
 
 pub bounds-script-i : goal.bounds-script-i
 bounds-script-i g c = c.loop-i-test.true

@@ -19,5 +19,5 @@ returns-in_err-handle g c =
           c.in_ok-find_all.ensures.found c.in_ok-find.ensures.found refl (search rules) refl c.in_err-handle.ensures.too_long;
       counted = join-counted _ g.B.Backend.SHARES c.args.self.now c.args.first c.args.count c.args.sep c.args.t _ _
           c.in_ok-find_all.ensures.found c.in_ok-find.ensures.found c.in_err-handle.ensures.too_long c.in_err-handle.ensures.counted c.in_err-handle.ensures.refused_counts_none;
-      copied = refused-counts (counts_of c.args.self.now (Join c.args.first c.args.count c.args.sep c.args.t)) _ (grow_reason_of c.in_err-handle.field-0.0) refl (search rules) c.in_err-handle.ensures.counted;
+      copied = refused-counts (λ answer. counts_of g.B.Backend.SHARES c.args.self.now (Join c.args.first c.args.count c.args.sep c.args.t) answer c.args.self.now) _ (grow_reason_of c.in_err-handle.field-0.0) refl (search rules) c.in_err-handle.ensures.counted;
     }

@@ -6,12 +6,13 @@ use Rattle.hipstr.specs.Cut.{pieces_of}
 use Rattle.hipstr.specs.Parts.{put_all}
 use Rattle.hipstr.specs.Reason.{answer_of}
 use Rattle.hipstr.specs.Slot.{SlotState, empty_slot, slot_at, state_at, state_of}
-use Rattle.hipstr.specs.Step.{copies_of, fault_of, Step, not_text_fault, one_end_fault}
+use Rattle.hipstr.specs.Step.{copies_of, counts_of, fault_of, Step, not_text_fault, one_end_fault}
 use Rattle.hipstr.specs.declared.command.Answer.{Answer}
 use Rattle.hipstr.specs.declared.command.Answer.TheVariants.{Number, Refused}
 use Rattle.hipstr.specs.declared.command.Command.TheVariants.{Pieces}
 use Rattle.hipstr.specs.declared.command.Reason.TheVariants.{NoSlot, Overlap, NotText, OneEnd, Memory}
-use Rattle.hipstr.proofs.Parts.{draw-within, empty-length, hold-within, pieces-cost, pieces-need, pieces-put, spare-emptied}
+use Rattle.hipstr.proofs.Counts.{refused-counts}
+use Rattle.hipstr.proofs.Parts.{draw-within, empty-length, hold-within, pieces-cost, pieces-count, pieces-need, pieces-put, spare-emptied}
 use Rattle.hipstr.proofs.Places.{state-there}
 use Rattle.hipstr.proofs.Steps.{faulted, first-fault, none-of-five, one-end, performed, second-fault, told-fault, unfaulted}
 use Rattle.hipstr.proofs.pool.Pool.make_pieces.Goals as goal
@@ -86,12 +87,14 @@ returns-in_err-count g c =
     let is : c.in_ok-text.text.now ≡ slot_at slots c.args.s = c.in_ok-text.ensures.text ∙ ap (λ (slot : SlotState). slot.handle) was in
     let ranges = λ (text : Handle). draw (pieces_of c.args.how text.items) c.args.script.now in
     let told : answer_of c.from_residual-in_err-count.result ≡ Refused Memory = search rules in
+    let counted = unfaulted (fault_of slots command) c.args.meter.now c.make_parts.new.meter (copies_of g.B.Backend.SHARES slots command) unrefused
+    (pieces-cost g.B.Backend.SHARES slots c.in_ok-text.text.now c.args.s ranges c.args.meter.now c.make_parts.new.meter is c.in_err-count.ensures.counted) in
     record {
       step = subst (λ (answer : Answer). Step g.B.Backend.SHARES slots command answer (map state c.self.inside.slots.items)) (sym told)
           (performed g.B.Backend.SHARES slots command (Refused Memory) (map state c.self.inside.slots.items) unrefused
           (pieces-need slots c.in_ok-text.text.now c.args.s ranges is c.in_err-count.ensures.made.0, c.self.view_is));
-      counted = unfaulted (fault_of slots command) c.args.meter.now c.make_parts.new.meter (copies_of g.B.Backend.SHARES slots command) unrefused
-          (pieces-cost g.B.Backend.SHARES slots c.in_ok-text.text.now c.args.s ranges c.args.meter.now c.make_parts.new.meter is c.in_err-count.ensures.counted);
+      counted = counted;
+      copied = refused-counts (λ answer. counts_of g.B.Backend.SHARES slots command answer (map state c.self.inside.slots.items)) _ Memory refl told counted;
     }
 
 pub invariant_of-self-2 : goal.invariant_of-self-2
@@ -130,6 +133,9 @@ returns g c =
           c.in_ok-count.ensures.made.0 c.in_ok-count.ensures.made.1 room (ap (map state) slots_is ∙ put));
       counted = unfaulted (fault_of slots command) c.args.meter.now c.make_parts.new.meter (copies_of g.B.Backend.SHARES slots command) unrefused
           (pieces-cost g.B.Backend.SHARES slots c.in_ok-text.text.now c.args.s ranges c.args.meter.now c.make_parts.new.meter is c.in_ok-count.ensures.counted);
+      copied = pieces-count g.B.Backend.SHARES slots (map state c.make_parts.new.spare) _ c.in_ok-text.text.now c.args.s c.args.first c.in_ok-count.count _ _ is
+          (subst (λ n. n ≤ length (map state c.make_parts.new.spare)) (sym c.in_ok-count.ensures.made.0) (hold-within c.in_ok-text.text.now _ (map state c.make_parts.new.spare) c.in_ok-count.ensures.made.1))
+          room (ap (map state) slots_is ∙ put) c.in_ok-count.ensures.copied;
     }
 
 pub invariant_of-self : goal.invariant_of-self

@@ -20,7 +20,7 @@ returns-in_err-repeat_metered-in-Bytes g c =
           (sym (ap state_of c.in-Bytes.is) ∙ c.in_ok-source.ensures.slot) refl (search rules) c.in_err-repeat_metered-in-Bytes.ensures.repeated;
       counted = repeat-counted g.B.Backend.SHARES c.args.self.now c.args.s c.args.t c.args.n _ _ _ _ c.in_ok-source.ensures.found c.in_ok-find.ensures.found
           (sym (ap state_of c.in-Bytes.is) ∙ c.in_ok-source.ensures.slot) c.in_err-repeat_metered-in-Bytes.ensures.repeated c.in_err-repeat_metered-in-Bytes.ensures.counted c.in_err-repeat_metered-in-Bytes.ensures.refused_counts_none;
-      copied = refused-counts (counts_of c.args.self.now (Repeat c.args.s c.args.t c.args.n)) _ (grow_reason_of c.in_err-repeat_metered-in-Bytes.field-0.0) refl (search rules) c.in_err-repeat_metered-in-Bytes.ensures.counted;
+      copied = refused-counts (λ answer. counts_of g.B.Backend.SHARES c.args.self.now (Repeat c.args.s c.args.t c.args.n) answer c.args.self.now) _ (grow_reason_of c.in_err-repeat_metered-in-Bytes.field-0.0) refl (search rules) c.in_err-repeat_metered-in-Bytes.ensures.counted;
     }
 
 pub returns-in_err-repeat_metered-in-Text : goal.returns-in_err-repeat_metered-in-Text
@@ -30,7 +30,7 @@ returns-in_err-repeat_metered-in-Text g c =
           (sym (ap state_of c.in-Text.is) ∙ c.in_ok-source.ensures.slot) refl (search rules) c.in_err-repeat_metered-in-Text.ensures.repeated;
       counted = repeat-counted g.B.Backend.SHARES c.args.self.now c.args.s c.args.t c.args.n _ _ _ _ c.in_ok-source.ensures.found c.in_ok-find.ensures.found
           (sym (ap state_of c.in-Text.is) ∙ c.in_ok-source.ensures.slot) c.in_err-repeat_metered-in-Text.ensures.repeated c.in_err-repeat_metered-in-Text.ensures.counted c.in_err-repeat_metered-in-Text.ensures.refused_counts_none;
-      copied = refused-counts (counts_of c.args.self.now (Repeat c.args.s c.args.t c.args.n)) _ (grow_reason_of c.in_err-repeat_metered-in-Text.field-0.0) refl (search rules) c.in_err-repeat_metered-in-Text.ensures.counted;
+      copied = refused-counts (λ answer. counts_of g.B.Backend.SHARES c.args.self.now (Repeat c.args.s c.args.t c.args.n) answer c.args.self.now) _ (grow_reason_of c.in_err-repeat_metered-in-Text.field-0.0) refl (search rules) c.in_err-repeat_metered-in-Text.ensures.counted;
     }
 
 pub returns-clause-counted : goal.returns-clause-counted
@@ -45,10 +45,10 @@ returns-clause-counted g c = elim c.match-source.branch [
 
 pub returns-clause-copied : goal.returns-clause-copied
 returns-clause-copied g c = elim c.match-source.branch [
-  | in-Bytes+in_ok-repeat_metered-in-Bytes w ↦ subst (λ m. RisesAtLeast c.args.meter.now m (counts_of c.args.self.now (Repeat c.args.s c.args.t c.args.n) Done)) (sym w.meter-is)
-      (repeat-counts c.args.self.now c.args.s c.args.t c.args.n _ _ _ _ _ (sym (ap state_of w.in-Bytes.is) ∙ c.in_ok-source.ensures.slot) w.in_ok-repeat_metered-in-Bytes.ensures.repeated
+  | in-Bytes+in_ok-repeat_metered-in-Bytes w ↦ subst (λ m. RisesAtLeast c.args.meter.now m (counts_of g.B.Backend.SHARES c.args.self.now (Repeat c.args.s c.args.t c.args.n) Done c.put.new.self)) (sym w.meter-is)
+      (repeat-counts g.B.Backend.SHARES c.args.self.now c.put.new.self c.args.s c.args.t c.args.n _ _ _ _ _ (sym (ap state_of w.in-Bytes.is) ∙ c.in_ok-source.ensures.slot) w.in_ok-repeat_metered-in-Bytes.ensures.repeated
       w.in_ok-repeat_metered-in-Bytes.ensures.counted w.in_ok-repeat_metered-in-Bytes.ensures.copied)
-  | in-Text+in_ok-repeat_metered-in-Text w ↦ subst (λ m. RisesAtLeast c.args.meter.now m (counts_of c.args.self.now (Repeat c.args.s c.args.t c.args.n) Done)) (sym w.meter-is)
-      (repeat-counts c.args.self.now c.args.s c.args.t c.args.n _ _ _ _ _ (sym (ap state_of w.in-Text.is) ∙ c.in_ok-source.ensures.slot) w.in_ok-repeat_metered-in-Text.ensures.repeated
+  | in-Text+in_ok-repeat_metered-in-Text w ↦ subst (λ m. RisesAtLeast c.args.meter.now m (counts_of g.B.Backend.SHARES c.args.self.now (Repeat c.args.s c.args.t c.args.n) Done c.put.new.self)) (sym w.meter-is)
+      (repeat-counts g.B.Backend.SHARES c.args.self.now c.put.new.self c.args.s c.args.t c.args.n _ _ _ _ _ (sym (ap state_of w.in-Text.is) ∙ c.in_ok-source.ensures.slot) w.in_ok-repeat_metered-in-Text.ensures.repeated
       w.in_ok-repeat_metered-in-Text.ensures.counted w.in_ok-repeat_metered-in-Text.ensures.copied)
 ]

@@ -1,5 +1,6 @@
-use Rattle.std.proofs.Common.{rules}
-use Rattle.hipstr.proofs.InPlace.{in-place, upper-step, upper-refused, write-counted}
+use Rattle.std.proofs.Common.{refl, rules}
+use Rattle.hipstr.specs.{Step.counts_of, declared.command.Command.TheVariants.Upper, declared.command.Reason.TheVariants.Memory}
+use Rattle.hipstr.proofs.InPlace.{in-place, lent-counts, refused-counted, upper-step, upper-refused, write-counted}
 use Rattle.hipstr.proofs.pool.Pool.make_upper.Goals as goal
 
 pub returns-in_err-make_upper : goal.returns-in_err-make_upper
@@ -8,6 +9,7 @@ returns-in_err-make_upper g c =
     record {
       step = upper-refused g.B.Backend.SHARES at _ (search rules) c.in_err-make_upper.ensures.write c.in_err-make_upper.ensures.flag;
       counted = write-counted g.B.Backend.SHARES at _ _ c.in_err-make_upper.ensures.counted;
+      copied = refused-counted g.B.Backend.SHARES at (counts_of g.B.Backend.SHARES c.args.self.now (Upper c.args.t)) _ Memory _ _ _ refl (search rules) c.in_err-make_upper.ensures.counted;
     }
 
 pub returns : goal.returns
@@ -16,4 +18,5 @@ returns g c =
     record {
       step = upper-step g.B.Backend.SHARES at c.in_ok-make_upper.ensures.write c.in_ok-make_upper.ensures.flag;
       counted = write-counted g.B.Backend.SHARES at _ _ c.in_ok-make_upper.ensures.counted;
+      copied = lent-counts g.B.Backend.SHARES at _ _ c.in_ok-make_upper.ensures.copied;
     }

@@ -32,12 +32,12 @@ returns-in-Room g c =
 pub returns-in-Clone : goal.returns-in-Clone
 returns-in-Clone g c =
     performed-as g.B.Backend.SHARES c.args.self.now (answer_of c.make_clone.result) c.make_clone.new.self c.args.meter.now c.make_clone.new.meter c.args.command.now _ c.in-Clone.is
-    (record { step = c.make_clone.ensures.step; counted = (_, refl, c.make_clone.ensures.counted); copied = counts-none c.make_clone.ensures.counted; paid = λ unshared. tt })
+    (record { step = c.make_clone.ensures.step; counted = (_, refl, c.make_clone.ensures.counted); copied = c.make_clone.ensures.copied; paid = λ unshared. tt })
 
 pub returns-in-Slice : goal.returns-in-Slice
 returns-in-Slice g c =
     performed-as g.B.Backend.SHARES c.args.self.now (answer_of c.make_slice.result) c.make_slice.new.self c.args.meter.now c.make_slice.new.meter c.args.command.now _ c.in-Slice.is
-    (record { step = c.make_slice.ensures.step; counted = (_, refl, c.make_slice.ensures.counted); copied = counts-none c.make_slice.ensures.counted; paid = λ unshared. tt })
+    (record { step = c.make_slice.ensures.step; counted = (_, refl, c.make_slice.ensures.counted); copied = c.make_slice.ensures.copied; paid = λ unshared. tt })
 
 pub returns-in-Push : goal.returns-in-Push
 returns-in-Push g c =
@@ -67,17 +67,17 @@ returns-in-Shrink g c =
 pub returns-in-Upper : goal.returns-in-Upper
 returns-in-Upper g c =
     performed-as g.B.Backend.SHARES c.args.self.now (answer_of c.make_upper.result) c.make_upper.new.self c.args.meter.now c.make_upper.new.meter c.args.command.now _ c.in-Upper.is
-    (record { step = c.make_upper.ensures.step; counted = (_, refl, c.make_upper.ensures.counted); copied = counts-none c.make_upper.ensures.counted; paid = λ unshared. tt })
+    (record { step = c.make_upper.ensures.step; counted = (_, refl, c.make_upper.ensures.counted); copied = c.make_upper.ensures.copied; paid = λ unshared. tt })
 
 pub returns-in-Lower : goal.returns-in-Lower
 returns-in-Lower g c =
     performed-as g.B.Backend.SHARES c.args.self.now (answer_of c.make_lower.result) c.make_lower.new.self c.args.meter.now c.make_lower.new.meter c.args.command.now _ c.in-Lower.is
-    (record { step = c.make_lower.ensures.step; counted = (_, refl, c.make_lower.ensures.counted); copied = counts-none c.make_lower.ensures.counted; paid = λ unshared. tt })
+    (record { step = c.make_lower.ensures.step; counted = (_, refl, c.make_lower.ensures.counted); copied = c.make_lower.ensures.copied; paid = λ unshared. tt })
 
 pub returns-in-Set : goal.returns-in-Set
 returns-in-Set g c =
     performed-as g.B.Backend.SHARES c.args.self.now (answer_of c.set.result) c.set.new.self c.args.meter.now c.set.new.meter c.args.command.now _ c.in-Set.is
-    (record { step = c.set.ensures.step; counted = (_, refl, c.set.ensures.counted); copied = counts-none c.set.ensures.counted; paid = λ unshared. tt })
+    (record { step = c.set.ensures.step; counted = (_, refl, c.set.ensures.counted); copied = c.set.ensures.copied; paid = λ unshared. tt })
 
 pub returns-in-Repeat : goal.returns-in-Repeat
 returns-in-Repeat g c =
@@ -97,7 +97,7 @@ returns-in-Mutate g c =
 pub returns-in-Owned : goal.returns-in-Owned
 returns-in-Owned g c =
     performed-as g.B.Backend.SHARES c.args.self.now (answer_of c.make_owned.result) c.make_owned.new.self c.args.meter.now c.make_owned.new.meter c.args.command.now _ c.in-Owned.is
-    (record { step = c.make_owned.ensures.step; counted = (_, refl, c.make_owned.ensures.counted); copied = counts-none c.make_owned.ensures.counted; paid = λ unshared. tt })
+    (record { step = c.make_owned.ensures.step; counted = (_, refl, c.make_owned.ensures.counted); copied = c.make_owned.ensures.copied; paid = λ unshared. tt })
 
 pub returns-in-Text : goal.returns-in-Text
 returns-in-Text g c =
@@ -112,27 +112,27 @@ returns-in-Bytes g c =
 pub returns-in-Trim : goal.returns-in-Trim
 returns-in-Trim g c =
     performed-as g.B.Backend.SHARES c.args.self.now (answer_of c.trim.result) c.trim.new.self c.args.meter.now c.trim.new.meter c.args.command.now _ c.in-Trim.is
-    (record { step = c.trim.ensures.step; counted = c.trim.ensures.counted; copied = counts-none c.trim.ensures.counted.2; paid = λ unshared. tt })
+    (record { step = c.trim.ensures.step; counted = c.trim.ensures.counted; copied = c.trim.ensures.copied; paid = λ unshared. tt })
 
 pub returns-in-TrimMatches : goal.returns-in-TrimMatches
 returns-in-TrimMatches g c =
     performed-as g.B.Backend.SHARES c.args.self.now (answer_of c.trim_matches.result) c.trim_matches.new.self c.args.meter.now c.trim_matches.new.meter c.args.command.now _ c.in-TrimMatches.is
-    (record { step = c.trim_matches.ensures.step; counted = c.trim_matches.ensures.counted; copied = counts-none c.trim_matches.ensures.counted.2; paid = λ unshared. tt })
+    (record { step = c.trim_matches.ensures.step; counted = c.trim_matches.ensures.counted; copied = c.trim_matches.ensures.copied; paid = λ unshared. tt })
 
 pub returns-in-Strip : goal.returns-in-Strip
 returns-in-Strip g c =
     performed-as g.B.Backend.SHARES c.args.self.now (answer_of c.strip.result) c.strip.new.self c.args.meter.now c.strip.new.meter c.args.command.now _ c.in-Strip.is
-    (record { step = c.strip.ensures.step; counted = (_, refl, c.strip.ensures.counted); copied = counts-none c.strip.ensures.counted; paid = λ unshared. tt })
+    (record { step = c.strip.ensures.step; counted = (_, refl, c.strip.ensures.counted); copied = c.strip.ensures.copied; paid = λ unshared. tt })
 
 pub returns-in-Pieces : goal.returns-in-Pieces
 returns-in-Pieces g c =
     performed-as g.B.Backend.SHARES c.args.self.now (answer_of c.make_pieces.result) c.make_pieces.new.self c.args.meter.now c.make_pieces.new.meter c.args.command.now _ c.in-Pieces.is
-    (record { step = c.make_pieces.ensures.step; counted = (_, refl, c.make_pieces.ensures.counted); copied = counts-none c.make_pieces.ensures.counted; paid = λ unshared. tt })
+    (record { step = c.make_pieces.ensures.step; counted = (_, refl, c.make_pieces.ensures.counted); copied = c.make_pieces.ensures.copied; paid = λ unshared. tt })
 
 pub returns-in-Once : goal.returns-in-Once
 returns-in-Once g c =
     performed-as g.B.Backend.SHARES c.args.self.now (answer_of c.part_once.result) c.part_once.new.self c.args.meter.now c.part_once.new.meter c.args.command.now _ c.in-Once.is
-    (record { step = c.part_once.ensures.step; counted = (_, refl, c.part_once.ensures.counted); copied = counts-none c.part_once.ensures.counted; paid = λ unshared. tt })
+    (record { step = c.part_once.ensures.step; counted = (_, refl, c.part_once.ensures.counted); copied = c.part_once.ensures.copied; paid = λ unshared. tt })
 
 pub returns-in-Compare : goal.returns-in-Compare
 returns-in-Compare g c =
