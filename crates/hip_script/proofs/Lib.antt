@@ -10,6 +10,7 @@ pub mod Literals
 pub mod Names
 pub mod NumberLaws
 pub mod Plays
+pub mod Printing
 pub mod Quotes
 pub mod RangeLaws
 pub mod ScriptLaws

@@ -1,18 +1,21 @@
 -- The text that is written for the lines of a script, a run or a line at a time.
-use Rattle.std.proofs.Common.{◌≡◌, ℕ, ◌+◌, ◌-◌, ◌^◌, ◌<◌, ◌≤◌, ◌⊎◌, Bool, true, false, inl, inr, codes, ap₂, List, [], ◌∷◌, ◌++◌, length, take, drop, get_or, map, Option, refl, sym, ap, ◌∙◌, subst, append_assoc, arith, ⊎_elim}
+use Rattle.std.proofs.Common.{◌≡◌, ℕ, ◌+◌, ◌-◌, ◌^◌, ◌<◌, ◌≤◌, ◌⊎◌, Bool, true, false, inl, inr, codes, ap₂, List, [], ◌∷◌, ◌++◌, length, suc, take, drop, get_or, map, Option, Err, refl, sym, ap, ◌∙◌, subst, append_assoc, arith}
 use Rattle.std.proofs.lemmas.Bool.{cases_lt, le-ltb, lt-ltb}
 use Rattle.std.proofs.lemmas.List.{append-nil, map-append, map_more, take_all, take-append-drop}
 use Rattle.std.proofs.Math.Nat.{le_trans, min-le_left}
+use Rattle.std.proofs.Math.Seq.{split_at}
 use Rattle.std.specs.Io.KnownBytes.{Appends}
 use Rattle.hipstr.proofs.Counts.{counts-more}
 use Rattle.hipstr.specs.{Meter.RisesAtLeast, Run.Run, Slot.SlotState, Slot.state_at, Step.Costs, Step.Step, Step.counts_of, declared.command.Answer.Answer, declared.command.Command.Command, declared.command.Command.TheVariants.New}
 use Rattle.hip_script.proofs.Appended.{appends-none, appends-then}
-use Rattle.hip_script.specs.Performed.{AsideText, PerformsAt, Place, PlaysLine, Tells}
-use Rattle.hip_script.specs.Played.{Answers, FieldsText, IsPlayed, IsPlayedInPart, State, Writes, WritesAll, at_start, fields_cost, printed_show}
+use Rattle.hip_script.proofs.Printing.{front-then}
+use Rattle.hip_script.specs.Performed.{AsideText, CutsLine, CutsRun, PerformsAt, Place, PlaysLine, Tells, told}
+use Rattle.hip_script.specs.Played.{Answers, EndsList, FieldsText, IsAside, IsCutShort, IsPlayed, IsPlayedInPart, State, Writes, WritesAll, at_start, fields_cost, printed_show}
 use Rattle.hip_script.specs.Printed.{printed_answer, printed_answers, printed_slot}
 use Rattle.hip_script.specs.Said.{Held, aside_says, line_says, says_in}
 use Rattle.hip_script.specs.{Spoken.Spoken, Told.says, declared.line.Aside.Aside, declared.line.Line.Line}
 use Rattle.hip_script.specs.{declared.line.Line.TheVariants.Command as CommandLine, declared.line.Line.TheVariants.Aside as AsideLine, declared.said.Said.Said}
+use Rattle.hip_script.specs.declared.fault.WriteFailed.{WriteFailed}
 use Rattle.hip_script.specs.declared.line.Aside.TheVariants.{Show, Copied, Fields as FieldsOf}
 
 -- the lines so far, of which some wait
@@ -37,9 +40,9 @@ behind old slots count cost = record { slots = slots; least = old.least + count;
 
 writes-step : (shares : Bool) (old : State) (command : Command) (answer : Answer) (between : List SlotState) (cost : ℕ)
     → Step shares old.slots command answer between → Costs shares old.slots command cost
-    → Writes shares old (says command) (printed_answer answer) (behind old between (counts_of old.slots command answer) cost)
+    → Writes shares old (says command) (printed_answer answer) (behind old between (counts_of shares old.slots command answer between) cost)
 writes-step shares old command answer between cost step costs =
-    writes-said shares old (behind old between (counts_of old.slots command answer) cost) command (printed_answer answer) (record {
+    writes-said shares old (behind old between (counts_of shares old.slots command answer between) cost) command (printed_answer answer) (record {
       command = command;
       answer = answer;
       cost = cost;
@@ -59,7 +62,7 @@ writes-run shares old [] [] new least most run = (
       ∙ ap₂ (λ least most. record { slots = old.slots; least = least; most = most }) (let none = run.1 in omega arith) (let none = run.2 in omega arith),
 )
 writes-run shares old (c ∷ cs) (a ∷ xs) new least most run =
-    let count = counts_of old.slots c a in
+    let count = counts_of shares old.slots c a run.0 in
     let mid = behind old run.0 count run.1 in
     let counted : old.least + count + run.2 ≡ old.least + least = (let less = run.7 in omega arith) in
     let paid : old.most + run.1 + run.3 ≡ old.most + most = (let more = run.8 in omega arith) in
@@ -164,7 +167,7 @@ aside-writes shares state slots (FieldsOf s separator) counted counts text same 
     }
 
 pub played-aside : (shares : Bool) (lines : List Spoken) (aside : Aside) (place new : Place) (old : Option (List ℕ)) → IsPlayedSoFar shares lines [] place old
-    → new.slots ≡ place.slots → Tells shares place.slots aside place.counted new.counted place.written new.written
+    → new.slots ≡ place.slots → Tells shares place.slots aside place.counted new.counted place.written new.written told
     → IsPlayedSoFar shares (lines ++ aside_says aside ∷ []) [] new old
 played-aside shares lines aside place new old so_far same tells =
     let writes = aside-writes shares so_far.state place.slots aside place.counted new.counted tells.text so_far.slots so_far.low so_far.high tells.tells in
@@ -194,22 +197,41 @@ played-command shares lines waiting line place old so_far = record {
   all = sym (append_assoc so_far.done waiting (line ∷ [])) ∙ ap (λ t. t ++ line ∷ []) so_far.all;
 }
 
+-- the lines that were played end where a list does
+is-aside : (aside : Aside) → IsAside (aside_says aside)
+is-aside (Show s) = tt
+is-aside Copied = tt
+is-aside (FieldsOf s separator) = tt
+
+-- what holds between two lines
+pub record IsBetweenLines (shares : Bool) (lines waiting : List Spoken) (place : Place) (old : Option (List ℕ)) : Type 0 where
+  pub so_far : IsPlayedSoFar shares lines waiting place old
+  pub ends : EndsList so_far.done
+
+pub between-none : (shares : Bool) (slots : List SlotState) (counted : ℕ) (old : Option (List ℕ)) → slots ≡ at_start.slots → counted ≡ 0
+    → IsBetweenLines shares [] [] (record { slots = slots; counted = counted; written = old }) old
+unfolding played-none
+between-none shares slots counted old empty none = record { so_far = played-none shares slots counted old empty none; ends = inl refl }
+
 -- one line more
 played-line : (shares : Bool) (lines : List Spoken) (waiting left : List Command) (line : Line) (place new : Place) (old : Option (List ℕ))
-    → IsPlayedSoFar shares lines (map says waiting) place old → PlaysLine shares line waiting left place new
-    → IsPlayedSoFar shares (lines ++ line_says line ∷ []) (map says left) new old
+    → IsBetweenLines shares lines (map says waiting) place old → PlaysLine shares line waiting left place new
+    → IsBetweenLines shares (lines ++ line_says line ∷ []) (map says left) new old
+unfolding played-command played-aside
 played-line shares lines waiting left (CommandLine command) place new old so_far plays =
-    let more = subst (λ (w : List Spoken). IsPlayedSoFar shares (lines ++ says command ∷ []) w place old) (sym (map-append says waiting (command ∷ [])))
-    (played-command shares lines (map says waiting) (says command) place old so_far) in
-    ⊎_elim (λ waits. rw (waits.0, waits.1) more)
-    (λ ran. rw ran.0 (played-run shares (lines ++ says command ∷ []) (waiting ++ command ∷ []) place new old more ran.1)) plays
+    let more : IsBetweenLines shares (lines ++ says command ∷ []) (map says waiting ++ says command ∷ []) place old =
+    record { so_far = played-command shares lines (map says waiting) (says command) place old so_far.so_far; ends = so_far.ends } in
+    rw (plays.0, plays.1, map-append says waiting (command ∷ [])) more
 played-line shares lines waiting left (AsideLine aside) place new old so_far plays =
-    rw plays.0 (played-aside shares lines aside plays.1 new old (played-run shares lines waiting place plays.1 old so_far plays.2) plays.3 plays.4)
+    rw plays.0 (record {
+      so_far = played-aside shares lines aside plays.1 new old (played-run shares lines waiting place plays.1 old so_far.so_far plays.2) plays.3 plays.4;
+      ends = inr (lines, aside_says aside, refl, is-aside aside);
+    })
 
 pub played-next : (shares : Bool) (held : Held) (items lines : List Said) (i : ℕ) (d : Said) (waiting left : List Command) (line : Line) (place new : Place) (old : Option (List ℕ))
     → items ≡ lines → i < length items → line_says line ≡ says_in held (get_or items i d)
-    → IsPlayedSoFar shares (map (says_in held) (take i lines)) (map says waiting) place old → PlaysLine shares line waiting left place new
-    → IsPlayedSoFar shares (map (says_in held) (take (i + 1) lines)) (map says left) new old
+    → IsBetweenLines shares (map (says_in held) (take i lines)) (map says waiting) place old → PlaysLine shares line waiting left place new
+    → IsBetweenLines shares (map (says_in held) (take (i + 1) lines)) (map says left) new old
 played-next shares held items lines i d waiting left line place new old same inside is so_far plays =
     let within = rw same at inside in
     let says_it = rw same at is in
@@ -233,19 +255,80 @@ played-last shares held items lines i waiting passed place new old same all pass
     let performed = rw passes at performs in
     played-all shares (map (says_in held) lines) new old (played-run shares (map (says_in held) lines) waiting place new old whole performed)
 
+-- a write failed while those that wait were performed
+pub cut-run : (shares : Bool) (lines later script : List Spoken) (commands : List Command) (place : Place) (old after : Option (List ℕ)) → lines ++ later ≡ script
+    → IsPlayedSoFar shares lines (map says commands) place old → CutsRun shares place.slots commands place.written after → IsCutShort shares script old after
+cut-run shares lines later script commands place old after all so_far cut =
+    let run = subst (λ (slots : List SlotState). Run shares slots commands cut.answers cut.new cut.least cut.most) (sym so_far.slots) cut.run in
+    record {
+      front = lines;
+      later = later;
+      all = all;
+      text = so_far.text ++ printed_answers cut.answers;
+      state = behind so_far.state cut.new cut.least cut.most;
+      writes = rw (sym so_far.all) (writes-then shares at_start so_far.state (behind so_far.state cut.new cut.least cut.most) so_far.done (map says commands) so_far.text
+          (printed_answers cut.answers) so_far.writes (writes-run shares so_far.state commands cut.answers cut.new cut.least cut.most run));
+      written = front-then old place.written after so_far.text (printed_answers cut.answers) so_far.written cut.written;
+    }
+
+-- a write failed while a line that is no command was told
+cut-aside : (shares : Bool) (lines later script : List Spoken) (aside : Aside) (place : Place) (counts : ℕ) (failed : WriteFailed) (old after : Option (List ℕ)) → lines ++ aside_says aside ∷ later ≡ script
+    → IsPlayedSoFar shares lines [] place old → Tells shares place.slots aside place.counted counts place.written after (Err failed) → IsCutShort shares script old after
+cut-aside shares lines later script aside place counts failed old after all so_far tells =
+    let writes = aside-writes shares so_far.state place.slots aside place.counted counts tells.text so_far.slots so_far.low so_far.high tells.tells in
+    let whole : so_far.done ≡ lines = sym (append-nil so_far.done) ∙ so_far.all in
+    record {
+      front = lines ++ aside_says aside ∷ [];
+      later = later;
+      all = append_assoc lines (aside_says aside ∷ []) later ∙ all;
+      text = so_far.text ++ tells.text;
+      state = writes.new;
+      writes = rw (sym whole) (writes-one shares at_start so_far.state writes.new so_far.done (aside_says aside) so_far.text tells.text so_far.writes writes.writes);
+      written = front-then old place.written after so_far.text tells.text so_far.written tells.written;
+    }
+
+cut-line : (shares : Bool) (lines later script : List Spoken) (waiting : List Command) (line : Line) (place : Place) (old after : Option (List ℕ)) → lines ++ line_says line ∷ later ≡ script
+    → IsPlayedSoFar shares lines (map says waiting) place old → CutsLine shares line waiting place after → IsCutShort shares script old after
+cut-line shares lines later script waiting (CommandLine command) place old after all so_far never = absurd never
+cut-line shares lines later script waiting (AsideLine aside) place old after all so_far (inl run) = cut-run shares lines (aside_says aside ∷ later) script waiting place old after all so_far run
+cut-line shares lines later script waiting (AsideLine aside) place old after all so_far (inr cut) =
+    cut-aside shares lines later script aside cut.0 cut.1 cut.2 old after all (played-run shares lines waiting place cut.0 old so_far cut.3) cut.4
+
+-- at a line of a script
+pub cut-at : (shares : Bool) (held : Held) (items lines : List Said) (i : ℕ) (d : Said) (waiting : List Command) (line : Line) (place : Place) (old after : Option (List ℕ))
+    → items ≡ lines → i < length items → line_says line ≡ says_in held (get_or items i d)
+    → IsPlayedSoFar shares (map (says_in held) (take i lines)) (map says waiting) place old → CutsLine shares line waiting place after → IsCutShort shares (map (says_in held) lines) old after
+cut-at shares held items lines i d waiting line place old after same inside is so_far cut =
+    let within = rw same at inside in
+    let says_it : line_says line ≡ says_in held (get_or lines i d) = rw same at is in
+    let parts : lines ≡ take i lines ++ get_or lines i d ∷ drop (suc i) lines = split_at lines i d within in
+    let all : map (says_in held) (take i lines) ++ line_says line ∷ map (says_in held) (drop (suc i) lines) ≡ map (says_in held) lines =
+    ap (λ said. map (says_in held) (take i lines) ++ said ∷ map (says_in held) (drop (suc i) lines)) says_it
+    ∙ sym (map-append (says_in held) (take i lines) (get_or lines i d ∷ drop (suc i) lines)) ∙ ap (map (says_in held)) (sym parts) in
+    cut-line shares (map (says_in held) (take i lines)) (map (says_in held) (drop (suc i) lines)) (map (says_in held) lines) waiting line place old after all so_far cut
+
+-- and behind its last
+pub cut-last : (shares : Bool) (held : Held) (items lines : List Said) (i : ℕ) (waiting passed : List Command) (place : Place) (old after : Option (List ℕ))
+    → items ≡ lines → length items ≤ i → passed ≡ waiting → IsPlayedSoFar shares (map (says_in held) (take i lines)) (map says waiting) place old
+    → CutsRun shares place.slots passed place.written after → IsCutShort shares (map (says_in held) lines) old after
+cut-last shares held items lines i waiting passed place old after same all passes so_far cut =
+    let whole = rw (take_all i lines (rw same at all)) at so_far in
+    cut-run shares (map (says_in held) lines) [] (map (says_in held) lines) waiting place old after (append-nil (map (says_in held) lines)) whole (rw passes at cut)
+
 -- the text written when memory was refused is that of some first lines
 halves : (held : Held) (i : ℕ) (lines : List Said) → map (says_in held) (take i lines) ++ map (says_in held) (drop i lines) ≡ map (says_in held) lines
 halves held i lines = sym (map-append (says_in held) (take i lines) (drop i lines)) ∙ ap (map (says_in held)) (take-append-drop i lines)
 
 pub played-front : (shares : Bool) (held : Held) (lines : List Said) (i : ℕ) (waiting : List Command) (place : Place) (old after : Option (List ℕ))
-    → after ≡ place.written → IsPlayedSoFar shares (map (says_in held) (take i lines)) (map says waiting) place old
+    → after ≡ place.written → IsBetweenLines shares (map (says_in held) (take i lines)) (map says waiting) place old
     → IsPlayedInPart shares (map (says_in held) lines) old after
-played-front shares held lines i waiting place old after same so_far = record {
+played-front shares held lines i waiting place old after same between = let so_far = between.so_far in record {
   front = so_far.done;
   later = map says waiting ++ map (says_in held) (drop i lines);
   all =
       sym (append_assoc so_far.done (map says waiting) (map (says_in held) (drop i lines)))
       ∙ ap (λ t. t ++ map (says_in held) (drop i lines)) so_far.all ∙ halves held i lines;
+  ends = between.ends;
   played = record {
     text = so_far.text;
     state = so_far.state;
@@ -255,8 +338,12 @@ played-front shares held lines i waiting place old after same so_far = record {
 }
 
 pub plays-aside : (shares : Bool) (line : Line) (aside : Aside) (waiting left : List Command) (old ran new : Place) → line ≡ AsideLine aside → left ≡ [] → PerformsAt shares waiting old ran → new.slots ≡ ran.slots
-    → Tells shares ran.slots aside ran.counted new.counted ran.written new.written → PlaysLine shares line waiting left old new
+    → Tells shares ran.slots aside ran.counted new.counted ran.written new.written told → PlaysLine shares line waiting left old new
 plays-aside shares line aside waiting left old ran new is empty performs same tells = rw is (empty, ran, performs, same, tells)
+
+pub cuts-aside : (shares : Bool) (line : Line) (aside : Aside) (waiting : List Command) (old ran : Place) (counts : ℕ) (after : Option (List ℕ)) (failed : WriteFailed) → line ≡ AsideLine aside → PerformsAt shares waiting old ran
+    → Tells shares ran.slots aside ran.counted counts ran.written after (Err failed) → CutsLine shares line waiting old after
+cuts-aside shares line aside waiting old ran counts after failed is performs tells = rw is (inr (ran, counts, failed, performs, tells))
 
 -- a slot's line says what the slot is, and its bytes
 pub prints-slot : (slots : List SlotState) (s : ℕ) (state : SlotState) (is_text : Bool) (bytes : List ℕ) → s < length slots → state ≡ state_at slots s → is_text ≡ state.is_text → bytes ≡ state.handle.items

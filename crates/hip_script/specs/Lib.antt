@@ -3,6 +3,7 @@ pub mod Lines
 pub mod Performed
 pub mod Played
 pub mod Printed
+pub mod Prints
 pub mod Said
 pub mod Spoken
 pub mod Told

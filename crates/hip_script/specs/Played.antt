@@ -12,6 +12,7 @@ use Rattle.hipstr.specs.declared.command.Answer.TheVariants.{Refused}
 use Rattle.hipstr.specs.declared.command.Command.{Command}
 use Rattle.hipstr.specs.declared.command.Reason.{Reason}
 use Rattle.hipstr.specs.declared.command.Reason.TheVariants.{Memory as no_memory}
+use Rattle.hip_script.specs.Prints.{AppendsFront}
 use Rattle.hip_script.specs.Printed.{printed_answer, printed_number, printed_records, printed_slot}
 use Rattle.hip_script.specs.Spoken.{Spoken}
 use Rattle.hip_script.specs.Spoken.Spoken.{SayShow, SayCopied, SayFields}
@@ -37,7 +38,7 @@ pub record Answers (shares : Bool) (old : State) (line : Spoken) (text : List �
   pub is : says command ≡ line
   pub step : Step shares old.slots command answer new.slots
   pub costs : Costs shares old.slots command cost
-  pub least : new.least ≡ old.least + counts_of old.slots command answer
+  pub least : new.least ≡ old.least + counts_of shares old.slots command answer new.slots
   pub most : new.most ≡ old.most + cost
   pub printed : text ≡ printed_answer answer
 
@@ -89,12 +90,34 @@ pub record IsPlayed (shares : Bool) (script : List Spoken) (old new : Option (Li
   pub writes : WritesAll shares at_start script text state
   pub written : Appends old new text
 
--- the bytes that were written may be written for the script's first lines
+-- lines that end where a list of commands does: there are none, or the last is no command
+abbrev pub IsAside : Spoken → Type 0
+IsAside (SayShow s) = Unit {0}
+IsAside SayCopied = Unit {0}
+IsAside (SayFields s separator) = Unit {0}
+IsAside line = ⊥
+
+abbrev pub EndsList : List Spoken → Type 0
+EndsList lines = (lines ≡ []) ⊎ ((front : List Spoken) × (last : Spoken) × (lines ≡ front ++ last ∷ []) × IsAside last)
+
+-- the bytes that were written may be written for the script's first lines, to the end of a list of commands: no answer of a list goes out
+-- where its run was refused
 pub record IsPlayedInPart (shares : Bool) (script : List Spoken) (old new : Option (List ℕ)) : Type 0 where
   pub front : List Spoken
   pub later : List Spoken
   pub all : front ++ later ≡ script
+  pub ends : EndsList front
   pub played : IsPlayed shares front old new
+
+-- a front of the bytes that may be written for the script's first lines was written
+pub record IsCutShort (shares : Bool) (script : List Spoken) (old new : Option (List ℕ)) : Type 0 where
+  pub front : List Spoken
+  pub later : List Spoken
+  pub all : front ++ later ≡ script
+  pub text : List ℕ
+  pub state : State
+  pub writes : WritesAll shares at_start front text state
+  pub written : AppendsFront old new text
 
 -- which scripts are read: a line that is none is told by its number, and no other script is refused
 abbrev pub Reads : Result (List Spoken) ℕ → Result (Unit {0}) PlayFault → Type 0
@@ -105,10 +128,10 @@ Reads said (Err ReadFailed) = Unit {0}
 Reads said (Err Memory) = Unit {0}
 
 -- the bytes that were written: none for a script with a line that is none; where memory was refused, those of its first lines; where a
--- write failed, any
+-- write failed, a front of these
 abbrev pub Written : Bool → Result (List Spoken) ℕ → Option (List ℕ) → Option (List ℕ) → Result (Unit {0}) PlayFault → Type 0
 Written shares said old new (Ok done) = (script : List Spoken) × (said ≡ Ok script) × IsPlayed shares script old new
 Written shares said old new (Err (NotACommand line)) = Keeps old new
 Written shares said old new (Err ReadFailed) = Keeps old new
-Written shares said old new (Err WriteFailed) = Unit {0}
+Written shares said old new (Err WriteFailed) = (script : List Spoken) × (said ≡ Ok script) × IsCutShort shares script old new
 Written shares said old new (Err Memory) = Keeps old new ⊎ ((script : List Spoken) × (said ≡ Ok script) × IsPlayedInPart shares script old new)

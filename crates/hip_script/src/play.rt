@@ -1,11 +1,11 @@
 //! Playing a script.
 ghost use Rattle.std.specs.Prelude.{◌≡◌, ◌<◌, ◌⊎◌, ℕ, List, [], map, Err, IfSome, IsErrOf, OnOk};
-ghost use Rattle.std.specs.Io.KnownBytes.{Appends};
 ghost use Rattle.std.specs.List.{AllByRecursion};
 ghost use Rattle.hip_script.specs.Grammar.{script_of};
-ghost use Rattle.hip_script.specs.Performed.{Performs, PlaysLine, Tells};
-ghost use Rattle.hip_script.specs.Played.{FieldsText, IsPlayed, IsPlayedInPart, Reads, Written, fields_cost, printed_show};
+ghost use Rattle.hip_script.specs.Performed.{CutsLine, CutsRun, Performs, PlaysLine, Tells};
+ghost use Rattle.hip_script.specs.Played.{FieldsText, IsCutShort, IsPlayed, IsPlayedInPart, Reads, Written, fields_cost, printed_show};
 ghost use Rattle.hip_script.specs.Printed.{printed_answers};
+ghost use Rattle.hip_script.specs.Prints.{Prints};
 ghost use Rattle.hip_script.specs.Said.{IsWithin, held, says_in};
 ghost use Rattle.hip_script.specs.declared.fault.PlayFault.TheVariants.{NotACommand, ReadFailed};
 ghost use Rattle.hipstr.specs.Meter.{RisesAtMost};
@@ -23,12 +23,10 @@ use std::io::{BufWriter, ErrorKind, Read, Write};
 /// The number of slots that a script works on.
 const SLOTS: usize = 16;
 
-/// The greatest number of commands that are run at once, so that they and their answers stay in the cache.
-const AT_ONCE: usize = 256;
-
 /// Plays a script: reads it whole, performs its commands on a pool of sixteen slots, and writes the answers, one a line.
 ///
-/// A script with a line that is no command is refused before anything runs. What was written before a later fault stays written.
+/// A script with a line that is no command is refused before anything runs. What was written before a later fault stays written:
+/// where a write fails, a front of the answers.
 pub fn play<B: Backend, R: Read + Drop, W: Write + Drop>(
     alloc: Global,
     mut reader: R,
@@ -107,10 +105,13 @@ fn play_lines<B: Backend, W: Write>(
     ensures memory { IsErrOf result Stop.Memory
         → IsPlayedInPart B.SHARES (map (says_in (held script.now.buffers)) script.now.lines.items)
         (W.contents out.old) (W.contents out.new) }
+    ensures failed { IsErrOf result Stop.WriteFailed
+        → IsCutShort B.SHARES (map (says_in (held script.now.buffers)) script.now.lines.items)
+        (W.contents out.old) (W.contents out.new) }
 {
     let mut pool = Pool::<B>::new(alloc, SLOTS)?;
     let mut meter = Meter::new();
-    let mut commands = Vec::with_capacity(alloc, AT_ONCE)?;
+    let mut commands = Vec::with_capacity(alloc, script.lines.len())?;
     for said in &script.lines {
         play_line(
             alloc,
@@ -124,7 +125,7 @@ fn play_lines<B: Backend, W: Write>(
     perform(alloc, &mut pool, commands.as_slice(), &mut meter, out)
 }
 
-/// Plays a line: a command waits until there are many, and any other line is answered once those that waited are run.
+/// Plays a line: a command waits, and any other line is answered once those that waited are run.
 fn play_line<'b, B: Backend, W: Write>(
     alloc: Global,
     line: Line<'b>,
@@ -137,18 +138,18 @@ fn play_line<'b, B: Backend, W: Write>(
         (record { slots = pool.old; counted = meter.old; written = W.contents out.old })
         (record { slots = pool.new; counted = meter.new; written = W.contents out.new })) }
     ensures memory { IsErrOf result Stop.Memory → W.contents out.new ≡ W.contents out.old }
+    ensures failed { IsErrOf result Stop.WriteFailed → CutsLine B.SHARES line.entry commands.old.items
+        (record { slots = pool.old; counted = meter.old; written = W.contents out.old }) (W.contents out.new) }
 {
     match line {
         Line::Command(command) => {
             commands.push(command)?;
-            if commands.len() < AT_ONCE {
-                return Ok(());
-            }
-            perform_waiting(alloc, pool, commands, meter, out)
+            Ok(())
         }
         Line::Aside(aside) => {
             perform_waiting(alloc, pool, commands, meter, out)?;
-            tell(alloc, pool, aside, meter, out)
+            tell(alloc, pool, aside, meter, out)?;
+            Ok(())
         }
     }
 }
@@ -165,6 +166,8 @@ fn perform_waiting<'b, B: Backend, W: Write>(
         (W.contents out.old) (W.contents out.new)) }
     ensures emptied { OnOk result (commands.new.items ≡ []) }
     ensures memory { IsErrOf result Stop.Memory → W.contents out.new ≡ W.contents out.old }
+    ensures failed { IsErrOf result Stop.WriteFailed
+        → CutsRun B.SHARES pool.old commands.old.items (W.contents out.old) (W.contents out.new) }
 {
     perform(alloc, pool, commands.as_slice(), meter, out)?;
     commands.clear();
@@ -182,6 +185,8 @@ fn perform<'b, B: Backend, W: Write>(
     ensures ok { OnOk result (Performs B.SHARES pool.old commands.now pool.new meter.old meter.new
         (W.contents out.old) (W.contents out.new)) }
     ensures memory { IsErrOf result Stop.Memory → W.contents out.new ≡ W.contents out.old }
+    ensures failed { IsErrOf result Stop.WriteFailed
+        → CutsRun B.SHARES pool.old commands.now (W.contents out.old) (W.contents out.new) }
 {
     let answers = run(alloc, pool, commands, meter)?;
     print_answers(out, answers.as_slice())
@@ -189,7 +194,7 @@ fn perform<'b, B: Backend, W: Write>(
 
 /// Prints answers, one a line.
 fn print_answers<W: Write>(out: &mut W, answers: &[Answer]) -> Result<(), Stop>
-    ensures ok { OnOk result (Appends (W.contents out.old) (W.contents out.new) (printed_answers answers.now)) }
+    ensures prints { Prints (W.contents out.old) (W.contents out.new) (printed_answers answers.now) result }
     ensures memory { IsErrOf result Stop.Memory → ⊥ }
 {
     for answer in answers {
@@ -205,16 +210,14 @@ fn tell<B: Backend, W: Write>(
     aside: Aside,
     meter: &mut Meter,
     out: &mut W,
-) -> Result<(), Stop>
-    ensures ok { OnOk result (Tells B.SHARES pool.now aside meter.old meter.new (W.contents out.old) (W.contents out.new)) }
-    ensures memory { IsErrOf result Stop.Memory → ⊥ }
+) -> Result<(), WriteFailed>
+    ensures { Tells B.SHARES pool.now aside meter.old meter.new (W.contents out.old) (W.contents out.new) result }
 {
     match aside {
         Aside::Show(slot) => show(pool, slot, out),
         Aside::Copied => print_count(out, meter.copied()),
         Aside::Fields(slot, separator) => tell_fields(alloc, pool, slot, separator, meter, out),
-    }?;
-    Ok(())
+    }
 }
 
 /// Prints a slot.
@@ -223,7 +226,7 @@ fn show<B: Backend, W: Write>(
     slot: usize,
     out: &mut W,
 ) -> Result<(), WriteFailed>
-    ensures { OnOk result (Appends (W.contents out.old) (W.contents out.new) (printed_show pool.now slot)) }
+    ensures { Prints (W.contents out.old) (W.contents out.new) (printed_show pool.now slot) result }
 {
     match pool.slot(slot) {
         Some(slot) => print_slot(out, slot.is_text(), slot.as_bytes()),
@@ -240,8 +243,8 @@ fn tell_fields<B: Backend, W: Write>(
     meter: &mut Meter,
     out: &mut W,
 ) -> Result<(), WriteFailed>
-    ensures ok { OnOk result ((text : List ℕ) × FieldsText pool.now slot separator text
-        × Appends (W.contents out.old) (W.contents out.new) text) }
+    ensures prints { (text : List ℕ) × FieldsText pool.now slot separator text
+        × Prints (W.contents out.old) (W.contents out.new) text result }
     ensures counted { RisesAtMost meter.old meter.new (fields_cost B.SHARES pool.now slot separator) }
 {
     match pool.slot(slot) {

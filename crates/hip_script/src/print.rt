@@ -1,28 +1,70 @@
 //! How answers and bytes are printed.
-ghost use Rattle.std.specs.Prelude.{◌≡◌, ◌<◌, ◌++◌, codes, false, if◌then◌else◌, map, IsTrue, OnOk};
+ghost use Rattle.std.specs.Prelude.{◌≡◌, ◌<◌, ◌++◌, ℕ, List, codes, false, if◌then◌else◌, map, IsTrue, IfOk, OnErr};
 ghost use Rattle.std.specs.Fmt.{digit_glyph};
-ghost use Rattle.std.specs.Io.KnownBytes.{Appends};
+ghost use Rattle.std.specs.Io.KnownBytes.{Appends, Keeps};
 ghost use Rattle.memchr.specs.Find.{IsFirstByte};
 ghost use Rattle.hip_script.specs.Printed.{kind_name, order_name, printed_answer, printed_byte, printed_field, printed_hex, printed_literal, printed_number, printed_record, printed_records, printed_slot, reason_name};
+ghost use Rattle.hip_script.specs.Prints.{Prints};
 ghost use Rattle.hip_script.specs.Said.{items_of, needs_escape, texts_of};
 
 use crate::fault::WriteFailed;
 use hipstr::string::HipStr;
 use hipstr::{Answer, Backend, Kind, Reason};
+use itoa::{Buffer, Integer};
 use std::cmp::Ordering;
-use std::io::Write;
+use std::io::{ErrorKind, Write};
 
 /// Writes bytes. That it failed is told in one byte, where an `io::Error` would be moved from call to call.
+///
+/// `write_all` says nothing of what was written before it failed; this says that it was a front of the bytes.
 #[inline(always)]
 pub(crate) fn write<W: Write>(out: &mut W, bytes: &[u8]) -> Result<(), WriteFailed>
-    ensures { OnOk result (Appends (W.contents out.old) (W.contents out.new) bytes.now) }
+    ensures { Prints (W.contents out.old) (W.contents out.new) bytes.now result }
 {
-    out.write_all(bytes).or(Err(WriteFailed))
+    if bytes.is_empty() {
+        return Ok(());
+    }
+    let rest = write_front(out, bytes)?;
+    if rest.is_empty() {
+        return Ok(());
+    }
+    write_rest(out, rest)
+}
+
+/// Writes what a first write left.
+#[cold]
+#[inline(never)]
+fn write_rest<W: Write>(out: &mut W, bytes: &[u8]) -> Result<(), WriteFailed>
+    ensures { Prints (W.contents out.old) (W.contents out.new) bytes.now result }
+{
+    let mut rest = bytes;
+    for _turn in 0..usize::MAX {
+        if rest.is_empty() {
+            return Ok(());
+        }
+        rest = write_front(out, rest)?;
+    }
+    Err(WriteFailed)
+}
+
+/// Writes a front of the bytes, and gives the others: all of them where the write was interrupted.
+#[inline(always)]
+fn write_front<'t, W: Write>(out: &mut W, bytes: &'t [u8]) -> Result<&'t [u8], WriteFailed>
+    ensures written { IfOk result (λ rest. (front : List ℕ) × (front ++ rest.now ≡ bytes.now)
+        × Appends (W.contents out.old) (W.contents out.new) front) }
+    ensures failed { OnErr result (Keeps (W.contents out.old) (W.contents out.new)) }
+{
+    match out.write(bytes) {
+        Ok(0) => Err(WriteFailed),
+        Ok(count) => Ok(&bytes[count..]),
+        Err(error) if error.kind() == ErrorKind::Interrupted => Ok(bytes),
+        Err(_) => Err(WriteFailed),
+    }
 }
 
 /// Prints an answer on a line of its own.
 pub(crate) fn print_answer<W: Write>(out: &mut W, answer: Answer) -> Result<(), WriteFailed>
-    ensures { OnOk result (Appends (W.contents out.old) (W.contents out.new) (printed_answer answer)) }
+    ensures { Prints (W.contents out.old) (W.contents out.new) (printed_answer answer) result }
 {
     match answer {
         Answer::Number(number) => print_number(out, number),
@@ -36,46 +78,48 @@ pub(crate) fn print_answer<W: Write>(out: &mut W, answer: Answer) -> Result<(), 
     }
 }
 
-/// Prints a byte that was taken off. A function that formats is a call, so that an answer without a number makes no room to format in.
-#[inline(never)]
+/// Prints a byte that was taken off.
 fn print_popped_byte<W: Write>(out: &mut W, byte: u8) -> Result<(), WriteFailed>
-    ensures { OnOk result (Appends (W.contents out.old) (W.contents out.new) (printed_answer (Answer.Byte byte))) }
+    ensures { Prints (W.contents out.old) (W.contents out.new) (printed_answer (Answer.Byte byte)) result }
 {
-    writeln!(out, "byte {byte}").or(Err(WriteFailed))
+    write(out, b"byte ")?;
+    print_line(out, byte)
 }
 
 /// Prints a character that was taken off.
-#[inline(never)]
 fn print_popped_char<W: Write>(out: &mut W, c: char) -> Result<(), WriteFailed>
-    ensures { OnOk result (Appends (W.contents out.old) (W.contents out.new) (printed_answer (Answer.Char c))) }
+    ensures { Prints (W.contents out.old) (W.contents out.new) (printed_answer (Answer.Char c)) result }
 {
-    writeln!(out, "char {}", u32::from(c)).or(Err(WriteFailed))
+    write(out, b"char ")?;
+    print_line(out, u32::from(c))
 }
 
 /// Prints a number on a line of its own. Most have one digit, which needs no division.
 fn print_number<W: Write>(out: &mut W, number: usize) -> Result<(), WriteFailed>
-    ensures { OnOk result (Appends (W.contents out.old) (W.contents out.new) (printed_number number)) }
+    ensures { Prints (W.contents out.old) (W.contents out.new) (printed_number number) result }
 {
     if number < 10 {
         write(out, &[b'0' + number as u8, b'\n'])
     } else {
-        print_long_number(out, number)
+        print_line(out, number)
     }
-}
-
-/// Prints a number of any length on a line of its own.
-#[inline(never)]
-fn print_long_number<W: Write>(out: &mut W, number: usize) -> Result<(), WriteFailed>
-    ensures { OnOk result (Appends (W.contents out.old) (W.contents out.new) (printed_number number)) }
-{
-    writeln!(out, "{number}").or(Err(WriteFailed))
 }
 
 /// Prints the number of copied bytes on a line of its own.
 pub(crate) fn print_count<W: Write>(out: &mut W, count: u128) -> Result<(), WriteFailed>
-    ensures { OnOk result (Appends (W.contents out.old) (W.contents out.new) (printed_number count)) }
+    ensures { Prints (W.contents out.old) (W.contents out.new) (printed_number count) result }
 {
-    writeln!(out, "{count}").or(Err(WriteFailed))
+    print_line(out, count)
+}
+
+/// Prints a number of any width on a line of its own. A function that formats is a call, so that an answer without a number makes no room to
+/// format in.
+#[inline(never)]
+fn print_line<W: Write, I: Integer>(out: &mut W, number: I) -> Result<(), WriteFailed>
+    ensures { Prints (W.contents out.old) (W.contents out.new) (I.text number ++ codes "\n") result }
+{
+    write(out, Buffer::new().format(number).as_bytes())?;
+    write(out, b"\n")
 }
 
 fn order_line(order: Ordering) -> &'static [u8]
@@ -125,7 +169,7 @@ pub(crate) fn print_slot<W: Write>(
     is_text: bool,
     bytes: &[u8],
 ) -> Result<(), WriteFailed>
-    ensures { OnOk result (Appends (W.contents out.old) (W.contents out.new) (printed_slot is_text bytes.now)) }
+    ensures { Prints (W.contents out.old) (W.contents out.new) (printed_slot is_text bytes.now) result }
 {
     write(out, slot_word(is_text))?;
     print_literal(out, bytes)?;
@@ -143,7 +187,7 @@ pub(crate) fn print_records<B: Backend, W: Write>(
     out: &mut W,
     records: &[Vec<HipStr<'_, B>>],
 ) -> Result<(), WriteFailed>
-    ensures { OnOk result (Appends (W.contents out.old) (W.contents out.new) (printed_records (map texts_of records.now))) }
+    ensures { Prints (W.contents out.old) (W.contents out.new) (printed_records (map texts_of records.now)) result }
 {
     for fields in records {
         print_record(out, fields)?;
@@ -156,7 +200,7 @@ fn print_record<B: Backend, W: Write>(
     out: &mut W,
     fields: &[HipStr<'_, B>],
 ) -> Result<(), WriteFailed>
-    ensures { OnOk result (Appends (W.contents out.old) (W.contents out.new) (printed_record (map items_of fields.now))) }
+    ensures { Prints (W.contents out.old) (W.contents out.new) (printed_record (map items_of fields.now)) result }
 {
     write(out, b"record")?;
     for field in fields {
@@ -167,7 +211,7 @@ fn print_record<B: Backend, W: Write>(
 
 /// Prints a field behind a space.
 fn print_field<W: Write>(out: &mut W, field: &[u8]) -> Result<(), WriteFailed>
-    ensures { OnOk result (Appends (W.contents out.old) (W.contents out.new) (printed_field field.now)) }
+    ensures { Prints (W.contents out.old) (W.contents out.new) (printed_field field.now) result }
 {
     write(out, b" ")?;
     print_literal(out, field)
@@ -175,7 +219,7 @@ fn print_field<W: Write>(out: &mut W, field: &[u8]) -> Result<(), WriteFailed>
 
 /// Prints bytes as a literal: 0x20 to 0x7E stand for themselves, but `\"` and `\\` don't.
 pub(crate) fn print_literal<W: Write>(out: &mut W, bytes: &[u8]) -> Result<(), WriteFailed>
-    ensures { OnOk result (Appends (W.contents out.old) (W.contents out.new) (printed_literal bytes.now)) }
+    ensures { Prints (W.contents out.old) (W.contents out.new) (printed_literal bytes.now) result }
 {
     write(out, b"\"")?;
     let mut rest = bytes;
@@ -205,7 +249,7 @@ fn needs_escape(byte: u8) -> bool
 /// Prints a byte of a literal that doesn't stand for itself.
 fn print_escaped<W: Write>(out: &mut W, byte: u8) -> Result<(), WriteFailed>
     requires { IsTrue (needs_escape byte) }
-    ensures { OnOk result (Appends (W.contents out.old) (W.contents out.new) (printed_byte byte)) }
+    ensures { Prints (W.contents out.old) (W.contents out.new) (printed_byte byte) result }
 {
     match byte {
         b'"' => write(out, b"\\\""),
@@ -216,7 +260,7 @@ fn print_escaped<W: Write>(out: &mut W, byte: u8) -> Result<(), WriteFailed>
 
 /// Prints a byte by its two digits.
 fn print_hex<W: Write>(out: &mut W, byte: u8) -> Result<(), WriteFailed>
-    ensures { OnOk result (Appends (W.contents out.old) (W.contents out.new) (printed_hex byte)) }
+    ensures { Prints (W.contents out.old) (W.contents out.new) (printed_hex byte) result }
 {
     write(
         out,
