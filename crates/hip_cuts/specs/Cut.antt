@@ -1,12 +1,13 @@
 -- The part of a text that a trim or a strip leaves, and the two parts of one that is split once: the source's parts at the ranges that
 -- Rust's documentation of `str` tells. `shown` says what is seen of a text.
-use Rattle.std.specs.Prelude.{◌≡◌, ℕ, ◌+◌, ◌-◌, ◌⊎◌, Bool, List, length, Option, Some, None, Result, Ok, Err}
+use Rattle.std.specs.Prelude.{◌≡◌, ℕ, ◌+◌, ◌-◌, ◌<◌, ◌⊎◌, Bool, List, ◌++◌, length, Option, Some, None, Result, Ok, Err}
 use Rattle.std.specs.Char.{is_whitespace}
 use Rattle.hip_text.specs.Handle.{Handle}
 use Rattle.hip_text.specs.Cost.{CutNeedsMemory, cut_cost}
 use Rattle.hip_text.specs.Meter.{RisesAtLeast, RisesAtMost}
 use Rattle.hip_match.specs.Characters.{char_ends}
 use Rattle.hip_match.specs.Parted.{IsParted, Lacks}
+use Rattle.hip_match.specs.Texts.{text_ends}
 use Rattle.hip_match.specs.Trims.{TrimsFront, TrimsBack}
 use Rattle.hip_cuts.specs.Piece.{IsPartAt, part_cost}
 
@@ -112,3 +113,24 @@ abbrev pub PartedAs : {E : Type 0} → List ℕ → List ℕ → Result (Option 
 PartedAs pattern text (Ok (Some parts)) = IsParted pattern text parts.0.items parts.1.items
 PartedAs pattern text (Ok None) = Lacks pattern text
 PartedAs pattern text (Err error) = Unit {0}
+
+-- like `PartedAs`, but at the last place where the other starts
+pub record IsPartedLast (pattern text front back : List ℕ) : Type 0 where
+  pub joined : text ≡ front ++ (pattern ++ back)
+  pub last : (k : ℕ) → length front < k → text_ends pattern text k ≡ None
+
+abbrev pub PartedLastAs : {E : Type 0} → List ℕ → List ℕ → Result (Option (Handle × Handle)) E → Type 0
+PartedLastAs pattern text (Ok (Some parts)) = IsPartedLast pattern text parts.0.items parts.1.items
+PartedLastAs pattern text (Ok None) = Lacks pattern text
+PartedLastAs pattern text (Err error) = Unit {0}
+
+-- a text without another at its front, or at its end; or nothing where it doesn't begin, or end, with that
+abbrev pub StrippedFront : {E : Type 0} → List ℕ → List ℕ → Result (Option Handle) E → Type 0
+StrippedFront prefix text (Ok (Some part)) = text ≡ prefix ++ part.items
+StrippedFront prefix text (Ok None) = (rest : List ℕ) → text ≡ prefix ++ rest → ⊥
+StrippedFront prefix text (Err error) = Unit {0}
+
+abbrev pub StrippedBack : {E : Type 0} → List ℕ → List ℕ → Result (Option Handle) E → Type 0
+StrippedBack suffix text (Ok (Some part)) = text ≡ part.items ++ suffix
+StrippedBack suffix text (Ok None) = (front : List ℕ) → text ≡ front ++ suffix → ⊥
+StrippedBack suffix text (Err error) = Unit {0}

@@ -1,10 +1,11 @@
-//! Laws of what pieces cost together, and of the two parts of a text. Each function does nothing; its contract is the law.
-ghost use Rattle.std.specs.Prelude.{◌≡◌, ℕ, List, Option, Result};
+//! Laws of what pieces cost together, and of the parts that a text or a character leaves of another. Each function does nothing; its contract is the law.
+ghost use Rattle.std.specs.Prelude.{◌≡◌, ◌==◌, ℕ, List, Option, Result, encode_utf8};
 ghost use Rattle.std.specs.declared.alloc.AllocError.{AllocError};
+ghost use Rattle.hip_match.specs.Characters.{char_ends};
 ghost use Rattle.hip_match.specs.Texts.{text_ends};
-ghost use Rattle.hip_match.specs.Trims.{split_once};
+ghost use Rattle.hip_match.specs.Trims.{rsplit_once, split_once, strip_prefix, strip_suffix};
 ghost use Rattle.hip_text.specs.Handle.{Handle};
-ghost use Rattle.hip_cuts.specs.Cut.{OnceAnswers, PartedAs};
+ghost use Rattle.hip_cuts.specs.Cut.{OnceAnswers, PartedAs, PartedLastAs, StripAnswers, StrippedBack, StrippedFront};
 ghost use Rattle.hip_cuts.specs.Laws.{BorrowedCopyNothing, InOrderCopyOnce, SharedCopyLittle};
 
 /// Where owners are shared, pieces cost at most the 23 bytes that a handle holds in itself, for each, whatever their source holds.
@@ -34,4 +35,55 @@ pub fn split_once_parts_at_the_first(text: &str, separator: &str)
         → source.items ≡ text.now
         → OnceAnswers (λ part. part) split_once (text_ends separator.now) source result
         → PartedAs separator.now text.now result }
+{}
+
+/// [`rsplit_once`](crate::text_cuts::TextCuts::rsplit_once) by a text gives the parts before and behind its last occurrence: the source is
+/// the first part, the separator and the second part, and the separator starts nowhere behind. Where it gives none, the separator occurs
+/// nowhere.
+#[tactic(auto, using(crate::proofs::Parted::parted_last))]
+pub fn rsplit_once_parts_at_the_last(text: &str, separator: &str)
+    ensures { (source : Handle) (result : Result (Option (Handle × Handle)) AllocError)
+        → source.items ≡ text.now
+        → OnceAnswers (λ part. part) rsplit_once (text_ends separator.now) source result
+        → PartedLastAs separator.now text.now result }
+{}
+
+/// [`strip_prefix`](crate::text_cuts::TextCuts::strip_prefix) by a text gives what stands behind it: the source is the prefix and that part.
+/// Where it gives none, the source doesn't begin with the prefix.
+#[tactic(auto, using(crate::proofs::Parted::stripped_front))]
+pub fn strip_prefix_leaves_the_rest(text: &str, prefix: &str)
+    ensures { (source : Handle) (result : Result (Option Handle) AllocError)
+        → source.items ≡ text.now
+        → StripAnswers (λ part. part) strip_prefix (text_ends prefix.now) source result
+        → StrippedFront prefix.now text.now result }
+{}
+
+/// [`strip_suffix`](crate::text_cuts::TextCuts::strip_suffix) by a text gives what stands before it: the source is that part and the suffix.
+/// Where it gives none, the source doesn't end with the suffix.
+#[tactic(auto, using(crate::proofs::Parted::stripped_back))]
+pub fn strip_suffix_leaves_the_front(text: &str, suffix: &str)
+    ensures { (source : Handle) (result : Result (Option Handle) AllocError)
+        → source.items ≡ text.now
+        → StripAnswers (λ part. part) strip_suffix (text_ends suffix.now) source result
+        → StrippedBack suffix.now text.now result }
+{}
+
+/// A character parts a text, and is stripped from its ends, as the text of that character alone.
+pub fn a_character_parts_as_its_text(text: &str, c: char)
+    ensures first { (source : Handle) (result : Result (Option (Handle × Handle)) AllocError)
+        → source.items ≡ text.now
+        → OnceAnswers (λ part. part) split_once (char_ends (λ d. d == c)) source result
+        → PartedAs (encode_utf8 c) text.now result }
+    ensures last { (source : Handle) (result : Result (Option (Handle × Handle)) AllocError)
+        → source.items ≡ text.now
+        → OnceAnswers (λ part. part) rsplit_once (char_ends (λ d. d == c)) source result
+        → PartedLastAs (encode_utf8 c) text.now result }
+    ensures prefix { (source : Handle) (result : Result (Option Handle) AllocError)
+        → source.items ≡ text.now
+        → StripAnswers (λ part. part) strip_prefix (char_ends (λ d. d == c)) source result
+        → StrippedFront (encode_utf8 c) text.now result }
+    ensures suffix { (source : Handle) (result : Result (Option Handle) AllocError)
+        → source.items ≡ text.now
+        → StripAnswers (λ part. part) strip_suffix (char_ends (λ d. d == c)) source result
+        → StrippedBack (encode_utf8 c) text.now result }
 {}
