@@ -1,4 +1,10 @@
 pub mod Json
+pub mod LastNames
+pub mod Lasts
 pub mod Names
 pub mod Orders
+pub mod Parents
 pub mod Shared
+pub mod Starts
+pub mod Trimmed
+pub mod Widths

@@ -10,22 +10,11 @@ use Rattle.std.specs.Cmp.{tied_itself}
 use Rattle.std.specs.Cmp.Lexicographic.{slice_cmp}
 use Rattle.std.specs.List.{before_first}
 use Rattle.std.specs.Path.{slash}
+use Rattle.hip_names.proofs.LastNames.{parts-behind}
+use Rattle.hip_names.proofs.Starts.{start-behind}
 use Rattle.hip_names.specs.Components.{Component, component_order, components, is_slash, names, path_parts, path_order, start}
 use Rattle.hip_names.specs.PathLaws.{component_order_total}
 use Rattle.hip_names.specs.Shared.{IsSharedFront}
-
--- the parts of two lists with a slash between them are those of the one and those of the other
-parts-behind : (front rest : List ℕ) → path_parts (front ++ slash ∷ rest) ≡ path_parts front ++ path_parts rest
-parts-behind [] rest = refl
-parts-behind (x ∷ front) rest = grind (arith, parts-behind front rest, length-slice_split is_slash front)
-
--- they begin alike, whatever the other is
-before_first-behind : (front rest : List ℕ) → before_first is_slash (front ++ slash ∷ rest) ≡ before_first is_slash front
-before_first-behind front rest = grind (arith, nat_tests, prefix_len-append, take-append-le, prefix_len-le-length)
-
-start-behind : (front rest later : List ℕ) → start (front ++ slash ∷ rest) ≡ start (front ++ slash ∷ later)
-start-behind [] rest later = refl
-start-behind (x ∷ front) rest later = rw (before_first-behind (x ∷ front) rest, before_first-behind (x ∷ front) later)
 
 -- a common front decides nothing
 slice_cmp-front : (cs xs ys : List Component) → slice_cmp component_order (cs ++ xs) (cs ++ ys) ≡ slice_cmp component_order xs ys

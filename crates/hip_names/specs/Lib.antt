@@ -1,7 +1,11 @@
 pub mod Components
 pub mod Decode
+pub mod Displayed
 pub mod Fed
 pub mod JsonPath
+pub mod LastName
+pub mod Parts
+pub mod PathCuts
 pub mod PathLaws
 pub mod Shared
 pub mod Shown

@@ -1,10 +1,12 @@
 //! The components of a path.
-ghost use Rattle.std.specs.Prelude.{◌≡◌, ◌<◌, ◌≤◌, ◌^◌, [], ◌∷◌, length, OnSome, MatchOption, if◌then◌else◌};
-ghost use Rattle.std.specs.Iterator.{YieldsFirstBy, item_count};
+ghost use Rattle.std.specs.Prelude.{◌≡◌, ◌<◌, ◌≤◌, ◌^◌, [], ◌∷◌, ◌++◌, length, OnSome, MatchOption, if◌then◌else◌};
+ghost use Rattle.std.specs.Iterator.{YieldsFirstBy, YieldsLastBy, item_count};
 ghost use Rattle.std.specs.List.{before_first, after_first, position, position_or_len};
 ghost use Rattle.std.specs.Path.{is_name};
 ghost use Rattle.hip_names.specs.Components.{components, names, named, start, is_slash};
 ghost use Rattle.hip_names.specs.Shown.{shown, all_shown, to_come};
+
+use crate::parts::last_name;
 
 /// A component of a path.
 #[derive(Clone, Copy, Debug, PartialEq, Eq, PartialOrd, Ord)]
@@ -19,7 +21,7 @@ pub enum Component<'a> {
     Normal(&'a [u8]),
 }
 
-/// The components of a path, from the front.
+/// The components of a path, from both ends.
 #[derive(Clone, Drop)]
 pub struct Components<'a> {
     start: Option<Component<'a>>,
@@ -42,7 +44,7 @@ impl<'a> Components<'a> {
 
 /// The root or the dot that a path begins with, beside its names.
 #[inline]
-fn start_of(path: &[u8]) -> Option<Component<'_>>
+pub(crate) fn start_of(path: &[u8]) -> Option<Component<'_>>
     ensures { all_shown result ≡ start path.now }
 {
     match path {
@@ -69,6 +71,33 @@ pub(crate) fn next_name<'a>(rest: &mut &'a [u8]) -> Option<Component<'a>>
         }
     }
     None
+}
+
+/// Takes the last component off bytes that begin a part. Parts that are empty or `.` are skipped.
+#[inline]
+#[tactic(auto, using(crate::proofs::Lasts::lasts))]
+fn last_component<'a>(rest: &mut &'a [u8]) -> Option<Component<'a>>
+    ensures last { MatchOption result ((names rest.old.now ≡ []) × (names rest.new.now ≡ []))
+        (λ component. names rest.old.now ≡ names rest.new.now ++ shown component ∷ []) }
+{
+    let all: &'a [u8] = *rest;
+    let Some((start, end)) = last_name(all) else {
+        *rest = &[];
+        return None;
+    };
+    *rest = &all[..start];
+    Some(named_by(&all[start..end]))
+}
+
+/// The component of a part that names something.
+#[inline]
+fn named_by(part: &[u8]) -> Component<'_>
+    ensures { shown result ≡ named part.now }
+{
+    match part {
+        [b'.', b'.'] => Component::ParentDir,
+        _ => Component::Normal(part),
+    }
 }
 
 /// The component that a part names, if it names one.
@@ -128,6 +157,18 @@ impl<'a> Iterator for Components<'a> {
         match self.start.take() {
             Some(first) => Some(first),
             None => next_name(&mut self.rest),
+        }
+    }
+}
+
+impl<'a> DoubleEndedIterator for Components<'a> {
+    ghost next_back_gives = { YieldsLastBy shown to_come };
+
+    #[inline]
+    fn next_back(&mut self) -> Option<Component<'a>> {
+        match last_component(&mut self.rest) {
+            Some(last) => Some(last),
+            None => self.start.take(),
         }
     }
 }

@@ -5,6 +5,7 @@ use std::marker::Model;
 
 mod compare;
 mod convert;
+mod cuts;
 mod json;
 mod make;
 mod mutate;

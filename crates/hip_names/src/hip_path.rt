@@ -6,10 +6,14 @@ use std::marker::Model;
 
 mod compare;
 mod convert;
+mod display;
 mod json;
 mod make;
 mod mutate;
+mod parts;
 mod views;
+
+pub use display::Display;
 
 /// A path that is cheap to clone: a [`HipOsStr`] that is compared by its components.
 pub struct HipPath<'b, B: Backend> {

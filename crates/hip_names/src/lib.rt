@@ -15,6 +15,7 @@ mod hip_os_str;
 mod hip_path;
 pub mod laws;
 mod order;
+mod parts;
 
 pub use component::{Component, Components};
 pub use hip_bytes::{
@@ -23,6 +24,6 @@ pub use hip_bytes::{
     mutate, with_mutated,
 };
 pub use hip_os_str::HipOsStr;
-pub use hip_path::HipPath;
+pub use hip_path::{Display, HipPath};
 pub use hip_text::HipStr;
 pub use order::{components_eq, path_cmp};

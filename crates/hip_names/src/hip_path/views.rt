@@ -25,7 +25,7 @@ impl<'b, B: Backend> HipPath<'b, B> {
         self.name.as_os_str()
     }
 
-    /// The components of the path, from the front.
+    /// The components of the path, from both ends.
     #[inline]
     pub fn components(&self) -> Components<'_>
         ensures { to_come result ≡ components self.now.items }
