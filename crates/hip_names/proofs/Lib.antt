@@ -1,3 +1,5 @@
+pub mod Affixes
+pub mod Dots
 pub mod Json
 pub mod LastNames
 pub mod Lasts

@@ -7,6 +7,7 @@ use std::marker::Model;
 mod compare;
 mod convert;
 mod display;
+mod join;
 mod json;
 mod make;
 mod mutate;

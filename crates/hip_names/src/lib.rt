@@ -9,19 +9,21 @@
 //! of the iterator), `Fed` (what a path feeds a hasher), `Decode` (OS strings read as texts) and `JsonPath` (the JSON string of a path) of `specs/`.
 #![tactic(auto)]
 
+mod affix;
 mod component;
 mod fed;
 mod hip_os_str;
 mod hip_path;
+mod join;
 pub mod laws;
 mod order;
 mod parts;
 
 pub use component::{Component, Components};
 pub use hip_bytes::{
-    Allocated, Appended, Backend, Block, Borrowed, Extent, HipByt, INLINE_CAPACITY, Inline,
-    JsonFault, Kind, Length, Meter, MutateFault, Rc, RefMut, Room, Source, Span, Unique, Whole,
-    mutate, with_mutated,
+    Allocated, Appended, Backend, Block, Borrowed, Extent, GrowFault, HipByt, INLINE_CAPACITY,
+    Inline, JsonFault, Kind, Length, Meter, MutateFault, Rc, RefMut, Room, Source, Span, Unique,
+    Whole, mutate, with_mutated,
 };
 pub use hip_os_str::HipOsStr;
 pub use hip_path::{Display, HipPath};

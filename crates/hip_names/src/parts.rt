@@ -1,10 +1,11 @@
 //! Where the parts of a path lie.
-ghost use Rattle.std.specs.Prelude.{◌≡◌, ◌≢◌, ◌≤◌, ◌<◌, ◌-◌, ℕ, [], length, None, Some, take, slice_range, slice_index, MatchOption};
+ghost use Rattle.std.specs.Prelude.{◌≡◌, ◌≢◌, ◌≤◌, ◌<◌, ◌-◌, ◌+◌, ℕ, drop, [], length, None, Some, take, slice_range, slice_index, MatchOption};
 ghost use Rattle.std.specs.Path.{is_name, parent_dir};
+ghost use Rattle.std.specs.List.{after_last, before_last};
 ghost use Rattle.std.specs.Str.{bytes_eq};
 ghost use Rattle.hip_names.specs.Components.{names};
 ghost use Rattle.hip_names.specs.LastName.{IsEnd, IsLastName};
-ghost use Rattle.hip_names.specs.Parts.{HasNoParent, IsParent, file_name, has_root};
+ghost use Rattle.hip_names.specs.Parts.{HasNoParent, IsParent, extension, file_name, file_stem, has_root, is_dot};
 
 use crate::component::{Component, start_of};
 
@@ -113,4 +114,43 @@ pub(crate) fn begins_with_root(path: &[u8]) -> bool
     ensures { result ≡ has_root path.now }
 {
     matches!(start_of(path), Some(Component::RootDir))
+}
+
+/// The position behind the last dot of a name, where something stands before that.
+#[tactic(auto, using(crate::proofs::Dots::dots))]
+#[inline]
+fn behind_dot(name: &[u8]) -> Option<usize>
+    ensures { MatchOption result (before_last is_dot name.now ≡ [])
+        (λ at. (1 < at) × (at ≤ length name.now)
+        × (before_last is_dot name.now ≡ take (at - 1) name.now)
+        × (after_last is_dot name.now ≡ drop at name.now)) }
+{
+    let at = behind_last(name, b'.');
+    if at > 1 { Some(at) } else { None }
+}
+
+/// Where the file name's stem starts and ends, if there is one.
+#[tactic(auto, using(crate::proofs::Dots::stems))]
+pub(crate) fn file_stem_range(path: &[u8]) -> Option<(usize, usize)>
+    ensures { MatchOption result (file_stem path.now ≡ None)
+        (λ range. (range.0 ≤ range.1) × (range.1 ≤ length path.now)
+        × (file_stem path.now ≡ Some (slice_range path.now range.0 range.1))) }
+{
+    let (start, end) = file_name_range(path)?;
+    match behind_dot(&path[start..end]) {
+        Some(at) => Some((start, start + at - 1)),
+        None => Some((start, end)),
+    }
+}
+
+/// Where the file name's extension starts and ends, if there is one.
+#[tactic(auto, using(crate::proofs::Dots::extensions))]
+pub(crate) fn extension_range(path: &[u8]) -> Option<(usize, usize)>
+    ensures { MatchOption result (extension path.now ≡ None)
+        (λ range. (range.0 ≤ range.1) × (range.1 ≤ length path.now)
+        × (extension path.now ≡ Some (slice_range path.now range.0 range.1))) }
+{
+    let (start, end) = file_name_range(path)?;
+    let at = behind_dot(&path[start..end])?;
+    Some((start + at, end))
 }

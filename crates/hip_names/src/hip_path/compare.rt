@@ -4,9 +4,11 @@ ghost use Rattle.std.specs.Cmp.{partial_equiv_from_equiv, partial_order_from_tot
 ghost use Rattle.std.specs.Ordering.{eq_by_cmp};
 ghost use Rattle.hip_names.specs.Components.{components, path_order};
 ghost use Rattle.hip_names.specs.Fed.{path_fed};
+ghost use Rattle.hip_names.specs.Parts.{BeginWith, EndWith};
 ghost use Rattle.hip_names.specs.PathLaws.{path_fed_same, path_order_total};
 
 use super::HipPath;
+use crate::affix::{begins_with, ends_with};
 use crate::fed::feed_path;
 use crate::order::{components_eq, path_cmp};
 use hip_bytes::Backend;
@@ -29,6 +31,22 @@ impl<'b, B: Backend> HipPath<'b, B> {
         ensures { result ≡ path_order self.now.items other.now }
     {
         path_cmp(self.as_path(), other)
+    }
+
+    /// Whether the components begin with those of the bytes as a path.
+    #[inline]
+    pub fn starts_with(&self, base: &[u8]) -> bool
+        ensures { IsTrue result ↔ BeginWith (components self.now.items) (components base.now) }
+    {
+        begins_with(self.as_path(), base)
+    }
+
+    /// Whether the components end with those of the bytes as a path.
+    #[inline]
+    pub fn ends_with(&self, child: &[u8]) -> bool
+        ensures { IsTrue result ↔ EndWith (components self.now.items) (components child.now) }
+    {
+        ends_with(self.as_path(), child)
     }
 
     /// Whether the bytes are these.

@@ -4,7 +4,7 @@ ghost use Rattle.hip_names.specs.Decode.{IntoStrAnswers};
 
 use super::HipPath;
 use crate::hip_os_str::HipOsStr;
-use hip_bytes::{Backend, Kind};
+use hip_bytes::{Backend, HipByt, Kind};
 use hip_text::HipStr;
 use std::alloc::Global;
 
@@ -79,5 +79,25 @@ impl<'b, B: Backend> From<HipPath<'b, B>> for HipOsStr<'b, B> {
     #[inline]
     fn from(path: HipPath<'b, B>) -> Self {
         path.into_os_str()
+    }
+}
+
+impl<'b, B: Backend> From<HipByt<'b, B>> for HipPath<'b, B> {
+    ghost from_gives = { λ bytes path. path ≡ bytes };
+
+    #[inline]
+    fn from(bytes: HipByt<'b, B>) -> Self {
+        HipPath {
+            name: HipOsStr::from(bytes),
+        }
+    }
+}
+
+impl<'b, B: Backend> From<HipPath<'b, B>> for HipByt<'b, B> {
+    ghost from_gives = { λ path bytes. bytes ≡ path };
+
+    #[inline]
+    fn from(path: HipPath<'b, B>) -> Self {
+        path.into_os_str().into_bytes()
     }
 }

@@ -3,12 +3,14 @@ ghost use Rattle.std.specs.Prelude.{◌≡◌, ◌≤◌, length, not, take};
 ghost use Rattle.hip_raw.specs.Meter.{RisesAtMost};
 ghost use Rattle.hip_bytes.specs.Cost.{cut_cost};
 ghost use Rattle.hip_bytes.specs.Made.{CutAnswers};
-ghost use Rattle.hip_names.specs.Parts.{file_name, has_root};
+ghost use Rattle.hip_names.specs.Parts.{extension, file_name, file_stem, has_root};
 ghost use Rattle.hip_names.specs.PathCuts.{ParentAnswers, ParentCosts, PartIfAny, PartIfAnyCosts};
 
 use super::HipPath;
 use crate::hip_os_str::HipOsStr;
-use crate::parts::{begins_with_root, file_name_range, parent_len};
+use crate::parts::{
+    begins_with_root, extension_range, file_name_range, file_stem_range, parent_len,
+};
 use hip_bytes::{Backend, Meter};
 use std::alloc::{AllocError, Global};
 
@@ -58,6 +60,57 @@ impl<'b, B: Backend> HipPath<'b, B> {
             meter.old meter.new }
     {
         let Some((start, end)) = file_name_range(self.as_path()) else {
+            return Ok(None);
+        };
+        Ok(Some(self.name.part_metered(alloc, start, end, meter)?))
+    }
+
+    /// The file name before its last dot, or all of it where there is none, or where it begins with that. Cut like
+    /// [`HipPath::file_name`].
+    #[inline]
+    pub fn file_stem(&self, alloc: Global) -> Result<Option<HipOsStr<'b, B>>, AllocError>
+        ensures part { PartIfAny (file_stem self.now.items) self.now result }
+    {
+        self.file_stem_metered(alloc, &mut Meter::new())
+    }
+
+    /// [`HipPath::file_stem`], counted.
+    #[inline]
+    pub fn file_stem_metered(
+        &self,
+        alloc: Global,
+        meter: &mut Meter,
+    ) -> Result<Option<HipOsStr<'b, B>>, AllocError>
+        ensures part { PartIfAny (file_stem self.now.items) self.now result }
+        ensures counted { PartIfAnyCosts B.SHARES (file_stem self.now.items) self.now
+            meter.old meter.new }
+    {
+        let Some((start, end)) = file_stem_range(self.as_path()) else {
+            return Ok(None);
+        };
+        Ok(Some(self.name.part_metered(alloc, start, end, meter)?))
+    }
+
+    /// The file name behind its last dot, unless it begins with that. Cut like [`HipPath::file_name`].
+    #[inline]
+    pub fn extension(&self, alloc: Global) -> Result<Option<HipOsStr<'b, B>>, AllocError>
+        ensures part { PartIfAny (extension self.now.items) self.now result }
+    {
+        self.extension_metered(alloc, &mut Meter::new())
+    }
+
+    /// [`HipPath::extension`], counted.
+    #[inline]
+    pub fn extension_metered(
+        &self,
+        alloc: Global,
+        meter: &mut Meter,
+    ) -> Result<Option<HipOsStr<'b, B>>, AllocError>
+        ensures part { PartIfAny (extension self.now.items) self.now result }
+        ensures counted { PartIfAnyCosts B.SHARES (extension self.now.items) self.now
+            meter.old meter.new }
+    {
+        let Some((start, end)) = extension_range(self.as_path()) else {
             return Ok(None);
         };
         Ok(Some(self.name.part_metered(alloc, start, end, meter)?))
