@@ -1,7 +1,7 @@
 //! Parts.
-ghost use Rattle.std.specs.Prelude.{◌≡◌, ◌≤◌, ◌-◌, length, slice_range};
+ghost use Rattle.std.specs.Prelude.{◌≡◌, ◌≤◌, ◌-◌, IfOk, length, slice_range};
 ghost use Rattle.hip_raw.specs.Meter.{RisesAtMost};
-ghost use Rattle.hip_bytes.specs.Cost.{cut_cost};
+ghost use Rattle.hip_bytes.specs.Cost.{cut_cost, PartCounts};
 ghost use Rattle.hip_bytes.specs.Made.{CutAnswers};
 
 use super::HipOsStr;
@@ -23,6 +23,8 @@ impl<'b, B: Backend> HipOsStr<'b, B> {
         ensures part { CutAnswers self.now (slice_range self.now.items start end) result }
         ensures counted { RisesAtMost meter.old meter.new
             (cut_cost B.SHARES self.now.kind (end - start)) }
+        ensures copied { IfOk result
+            (λ part. PartCounts B.SHARES self.now part meter.old meter.new) }
     {
         Ok(HipOsStr {
             bytes: self.bytes.part_metered(alloc, start, end, meter)?,

@@ -1,7 +1,7 @@
 //! Joins.
-ghost use Rattle.std.specs.Prelude.{◌≡◌, ◌++◌, length};
+ghost use Rattle.std.specs.Prelude.{◌≡◌, ◌++◌, Err, IfOk, length};
 ghost use Rattle.std.specs.Path.{path_join};
-ghost use Rattle.hip_raw.specs.Meter.{RisesAtMost};
+ghost use Rattle.hip_raw.specs.Meter.{RisesAtLeast, RisesAtMost};
 ghost use Rattle.hip_bytes.specs.Join.{join_cost};
 ghost use Rattle.hip_bytes.specs.Made.{JoinAnswers};
 
@@ -31,6 +31,9 @@ impl<'b, B: Backend> HipPath<'b, B> {
         ensures joined { JoinAnswers (path_join self.now.items path.now) result }
         ensures counted { RisesAtMost meter.old meter.new
             (join_cost B.SHARES (length (path_join self.now.items path.now))) }
+        ensures copied { IfOk result
+            (λ joined. RisesAtLeast meter.old meter.new (length joined.items)) }
+        ensures refused_counts_none { result ≡ Err GrowFault.TooLong → meter.new ≡ meter.old }
     {
         let base = kept(self.as_path(), path);
         let bytes = one_of_three(alloc, base, separator(base), path, meter)?;
@@ -52,6 +55,9 @@ fn one_of_three<'b, 'x, B: Backend>(
     ensures joined { JoinAnswers (first.now ++ second.now ++ third.now) result }
     ensures counted { RisesAtMost meter.old meter.new
         (join_cost B.SHARES (length (first.now ++ second.now ++ third.now))) }
+    ensures copied { IfOk result
+        (λ joined. RisesAtLeast meter.old meter.new (length joined.items)) }
+    ensures refused_counts_none { result ≡ Err GrowFault.TooLong → meter.new ≡ meter.old }
 {
     HipByt::concat_slices_metered(alloc, &[first, second, third], meter)
 }

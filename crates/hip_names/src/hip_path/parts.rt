@@ -1,7 +1,7 @@
 //! Parts of a path, by its components.
-ghost use Rattle.std.specs.Prelude.{◌≡◌, ◌≤◌, length, not, take};
+ghost use Rattle.std.specs.Prelude.{◌≡◌, ◌≤◌, IfOk, IfSome, length, not, take};
 ghost use Rattle.hip_raw.specs.Meter.{RisesAtMost};
-ghost use Rattle.hip_bytes.specs.Cost.{cut_cost};
+ghost use Rattle.hip_bytes.specs.Cost.{cut_cost, PartCounts};
 ghost use Rattle.hip_bytes.specs.Made.{CutAnswers};
 ghost use Rattle.hip_names.specs.Parts.{extension, file_name, file_stem, has_root};
 ghost use Rattle.hip_names.specs.PathCuts.{ParentAnswers, ParentCosts, PartIfAny, PartIfAnyCosts};
@@ -58,6 +58,8 @@ impl<'b, B: Backend> HipPath<'b, B> {
         ensures part { PartIfAny (file_name self.now.items) self.now result }
         ensures counted { PartIfAnyCosts B.SHARES (file_name self.now.items) self.now
             meter.old meter.new }
+        ensures copied { IfOk result (λ found. IfSome found
+            (λ part. PartCounts B.SHARES self.now part meter.old meter.new)) }
     {
         let Some((start, end)) = file_name_range(self.as_path()) else {
             return Ok(None);
@@ -84,6 +86,8 @@ impl<'b, B: Backend> HipPath<'b, B> {
         ensures part { PartIfAny (file_stem self.now.items) self.now result }
         ensures counted { PartIfAnyCosts B.SHARES (file_stem self.now.items) self.now
             meter.old meter.new }
+        ensures copied { IfOk result (λ found. IfSome found
+            (λ part. PartCounts B.SHARES self.now part meter.old meter.new)) }
     {
         let Some((start, end)) = file_stem_range(self.as_path()) else {
             return Ok(None);
@@ -109,6 +113,8 @@ impl<'b, B: Backend> HipPath<'b, B> {
         ensures part { PartIfAny (extension self.now.items) self.now result }
         ensures counted { PartIfAnyCosts B.SHARES (extension self.now.items) self.now
             meter.old meter.new }
+        ensures copied { IfOk result (λ found. IfSome found
+            (λ part. PartCounts B.SHARES self.now part meter.old meter.new)) }
     {
         let Some((start, end)) = extension_range(self.as_path()) else {
             return Ok(None);
@@ -134,6 +140,8 @@ impl<'b, B: Backend> HipPath<'b, B> {
     ) -> Result<Option<Self>, AllocError>
         ensures parent { ParentAnswers self.now result }
         ensures counted { ParentCosts B.SHARES self.now result meter.old meter.new }
+        ensures copied { IfOk result (λ found. IfSome found
+            (λ part. PartCounts B.SHARES self.now part meter.old meter.new)) }
     {
         let Some(len) = parent_len(self.as_path()) else {
             return Ok(None);
@@ -153,6 +161,8 @@ impl<'b, B: Backend> HipPath<'b, B> {
         ensures part { CutAnswers self.now (take len self.now.items) result }
         ensures counted { RisesAtMost meter.old meter.new
             (cut_cost B.SHARES self.now.kind len) }
+        ensures copied { IfOk result
+            (λ part. PartCounts B.SHARES self.now part meter.old meter.new) }
     {
         Ok(HipPath {
             name: self.name.part_metered(alloc, 0, len, meter)?,
