@@ -10,6 +10,7 @@
 //! - `rooms`: the room that they have, and give back.
 //! - `calls`: conversions between types, rooms, orders, and components by themselves.
 //! - `hostile`: paths that are hard to read, with the answers of Rust's `std::path`.
+//! - `by_std`: 201 paths taken apart, and 200 pairs joined and tested, with the answers of Rust's `std::path`, which `answers` has.
 //! - `maps`: keys of maps and sets.
 //! - `decoding`: OS strings that are UTF-8, that aren't, and their repair.
 //! - `borsh`: forms that are written and read, cut short, or that lie about their length.

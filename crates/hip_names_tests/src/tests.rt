@@ -1,4 +1,6 @@
+mod answers;
 mod borsh;
+mod by_std;
 mod calls;
 mod decoding;
 mod handle;

@@ -130,7 +130,7 @@ const FOURTH: &[Hostile] = &[
 ];
 
 /// Adds a component to what was written of those before it.
-fn write(written: &mut Vec<u8>, component: Component) -> Result<(), AllocError> {
+pub(crate) fn write(written: &mut Vec<u8>, component: Component) -> Result<(), AllocError> {
     let (letter, name) = match component {
         Component::RootDir => (b'R', &b""[..]),
         Component::CurDir => (b'C', &b""[..]),
