@@ -3,7 +3,7 @@ use Rattle.std.proofs.Common.{◌≡◌, ℕ, zero, suc, List, [], ◌∷◌, �
 use Rattle.std.proofs.lemmas.Grind.{common_steps}
 use Rattle.std.proofs.lemmas.List.{same_from_push}
 use Rattle.hip_names.specs.Components.{Component}
-use Rattle.hip_names.specs.Parts.{BeginWith, EndWith}
+use Rattle.hip_names.specs.PathParts.{BeginWith, EndWith}
 
 head : Component → List Component → Component
 head c [] = c

@@ -6,7 +6,7 @@ use Rattle.std.proofs.lemmas.List.{drop-drop, drop-take}
 use Rattle.std.proofs.lemmas.List.Sums.{suffix_len_is}
 use Rattle.std.specs.List.{after_last, before_last, suffix_len}
 use Rattle.std.specs.Path.{dot}
-use Rattle.hip_names.specs.Parts.{extension, extension_of, file_name, file_stem, has_extension, is_dot, stem_of}
+use Rattle.hip_names.specs.PathParts.{extension, extension_of, file_name, file_stem, has_extension, is_dot, stem_of}
 
 -- how many bytes stand behind the last dot
 behind : (name : List ℕ) (at : ℕ) → at ≤ length name → ((k : ℕ) → at ≤ k → k < length name → get_or name k 0 ≡ dot → ⊥) → (0 < at → get_or name (at - 1) 0 ≡ dot)

@@ -6,7 +6,7 @@ use Rattle.std.specs.List.{before_first, last_or, starts_with}
 use Rattle.std.specs.Path.{cur_dir, is_name, parent_dir, root_dir}
 use Rattle.hip_names.specs.Components.{Component, RootDir, CurDir, ParentDir, Normal, components, is_slash, named, names, path_parts, rank, start}
 use Rattle.hip_names.specs.LastName.{IsEnd, IsLastName}
-use Rattle.hip_names.specs.Parts.{IsTrimmed, IsParent, HasNoParent, file_name, has_root, is_rooted, name_of}
+use Rattle.hip_names.specs.PathParts.{IsTrimmed, IsParent, HasNoParent, file_name, has_root, is_rooted, name_of}
 use Rattle.hip_names.proofs.Lasts.{components-last}
 
 named_no_root : (part : List ℕ) → named part ≢ RootDir

@@ -9,7 +9,7 @@ use Rattle.std.proofs.lemmas.Bool.Decides.{nat_tests}
 use Rattle.std.proofs.lemmas.Grind.{common_steps}
 use Rattle.hip_names.specs.Components.{Component, RootDir, CurDir, ParentDir, Normal, components, is_slash, named, names, start}
 use Rattle.hip_names.specs.LastName.{IsEnd, IsLastName}
-use Rattle.hip_names.specs.Parts.{IsTrimmed}
+use Rattle.hip_names.specs.PathParts.{IsTrimmed}
 use Rattle.hip_names.proofs.Lasts.{names-before, start-at}
 use Rattle.hip_names.proofs.Widths.{width, width-front, width-name}
 

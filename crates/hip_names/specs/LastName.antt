@@ -2,7 +2,7 @@
 use Rattle.std.specs.Prelude.{◌≡◌, ◌≢◌, ℕ, ◌-◌, ◌<◌, ◌≤◌, Bool, true, List, [], ◌∷◌, ◌++◌, length, slice_index, slice_range, take}
 use Rattle.std.specs.Path.{slash, is_name}
 use Rattle.hip_names.specs.Components.{components, names}
-use Rattle.hip_names.specs.Parts.{IsTrimmed}
+use Rattle.hip_names.specs.PathParts.{IsTrimmed}
 
 -- the last part that names something stands from start up to end, and nothing behind it is named
 pub record IsLastName (path : List ℕ) (start end : ℕ) : Type 0 where

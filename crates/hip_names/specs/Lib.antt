@@ -4,9 +4,9 @@ pub mod Displayed
 pub mod Fed
 pub mod JsonPath
 pub mod LastName
-pub mod Parts
 pub mod PathCuts
 pub mod PathLaws
+pub mod PathParts
 pub mod Shared
 pub mod Shown
 pub use Rattle.hip_bytes.specs.Change

@@ -4,7 +4,7 @@ use Rattle.hip_bytes.specs.Handle.{Handle}
 use Rattle.hip_bytes.specs.Cost.{cut_cost, CutNeedsMemory}
 use Rattle.hip_bytes.specs.Made.{IsPart}
 use Rattle.hip_raw.specs.Meter.{RisesAtMost}
-use Rattle.hip_names.specs.Parts.{HasNoParent, IsParent}
+use Rattle.hip_names.specs.PathParts.{HasNoParent, IsParent}
 
 -- the part of a source with these of its items, if there are any
 abbrev pub PartIfAny : {E : Type 0} → Option (List ℕ) → Handle → Result (Option Handle) E → Type 0

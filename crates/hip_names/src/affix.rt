@@ -1,7 +1,7 @@
 //! Whether a path begins, or ends, with the components of another.
 ghost use Rattle.std.specs.Prelude.{◌≡◌, ◌↔◌, IsTrue};
 ghost use Rattle.hip_names.specs.Components.{components};
-ghost use Rattle.hip_names.specs.Parts.{BeginWith, EndWith};
+ghost use Rattle.hip_names.specs.PathParts.{BeginWith, EndWith};
 ghost use Rattle.hip_names.specs.Shown.{shown};
 
 use crate::component::{Component, Components};

@@ -5,7 +5,7 @@ ghost use Rattle.std.specs.List.{after_last, before_last};
 ghost use Rattle.std.specs.Str.{bytes_eq};
 ghost use Rattle.hip_names.specs.Components.{names};
 ghost use Rattle.hip_names.specs.LastName.{IsEnd, IsLastName};
-ghost use Rattle.hip_names.specs.Parts.{HasNoParent, IsParent, extension, file_name, file_stem, has_root, is_dot};
+ghost use Rattle.hip_names.specs.PathParts.{HasNoParent, IsParent, extension, file_name, file_stem, has_root, is_dot};
 
 use crate::component::{Component, start_of};
 

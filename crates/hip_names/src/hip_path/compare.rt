@@ -4,7 +4,7 @@ ghost use Rattle.std.specs.Cmp.{partial_equiv_from_equiv, partial_order_from_tot
 ghost use Rattle.std.specs.Ordering.{eq_by_cmp};
 ghost use Rattle.hip_names.specs.Components.{components, path_order};
 ghost use Rattle.hip_names.specs.Fed.{path_fed};
-ghost use Rattle.hip_names.specs.Parts.{BeginWith, EndWith};
+ghost use Rattle.hip_names.specs.PathParts.{BeginWith, EndWith};
 ghost use Rattle.hip_names.specs.PathLaws.{path_fed_same, path_order_total};
 
 use super::HipPath;

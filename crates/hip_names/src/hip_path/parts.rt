@@ -3,7 +3,7 @@ ghost use Rattle.std.specs.Prelude.{◌≡◌, ◌≤◌, IfOk, IfSome, length, 
 ghost use Rattle.hip_raw.specs.Meter.{RisesAtMost};
 ghost use Rattle.hip_bytes.specs.Cost.{cut_cost, PartCounts};
 ghost use Rattle.hip_bytes.specs.Made.{CutAnswers};
-ghost use Rattle.hip_names.specs.Parts.{extension, file_name, file_stem, has_root};
+ghost use Rattle.hip_names.specs.PathParts.{extension, file_name, file_stem, has_root};
 ghost use Rattle.hip_names.specs.PathCuts.{ParentAnswers, ParentCosts, PartIfAny, PartIfAnyCosts};
 
 use super::HipPath;

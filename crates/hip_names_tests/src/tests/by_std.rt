@@ -169,24 +169,35 @@ fn pairs_are_joined(rt: HostRuntime) {
     of_pairs::<Unique>(&rt, rt.alloc());
 }
 
-/// A path, and how it is printed.
-type Printed = (&'static [u8], Option<&'static str>, &'static str);
+/// A path, whether it is a text, and how it is printed.
+type Printed = (&'static [u8], bool, &'static str);
 
 const PRINTED: &[Printed] = &[
-    (b"", Some(""), ""),
-    (b"/a//b", Some("/a//b"), "/a//b"),
-    (b"\xC3\xA9/c", Some("é/c"), "é/c"),
-    (b"a/\xFF.txt", None, "a/\u{FFFD}.txt"),
-    (b"\xE2\x82/\xE2\x82\xAC", None, "\u{FFFD}/€"),
+    (b"", true, ""),
+    (b"/a//b", true, "/a//b"),
+    (b"\xC3\xA9/c", true, "é/c"),
+    (b"a/\xFF.txt", false, "a/\u{FFFD}.txt"),
+    (b"\xE2\x82/\xE2\x82\xAC", false, "\u{FFFD}/€"),
 ];
 
-/// Asserts the text of a path, and how it is printed.
+/// Asserts that a path is the text as which it is printed, if it is one.
+fn is_text<B: Backend>(rt: &impl Abort, path: &HipPath<'_, B>, is_text: bool, shown: &str) {
+    match path.to_str() {
+        Some(text) => assert!(rt; is_text && text == shown),
+        None => assert!(rt; !is_text),
+    }
+}
+
+fn printed<B: Backend>(alloc: Global, path: &HipPath<'_, B>) -> Result<String, AllocError> {
+    let display = path.display();
+    format!(in alloc; "{display}")
+}
+
 fn is_printed<B: Backend>(rt: &impl Abort, alloc: Global, row: Printed) {
     let (bytes, text, shown) = row;
     let path = lent::<B>(bytes);
-    equals(rt, &path.to_str(), &text);
-    let printed = must(rt, format!(in alloc; "{}", path.display()));
-    equals(rt, &printed.as_str(), &shown);
+    is_text(rt, &path, text, shown);
+    equals(rt, &must(rt, printed(alloc, &path)).as_str(), &shown);
 }
 
 fn are_printed<B: Backend>(rt: &impl Abort, alloc: Global) {

@@ -1,5 +1,5 @@
 use Rattle.std.proofs.Common.{◌↔◌, length}
-use Rattle.hip_names.specs.Parts.{BeginWith}
+use Rattle.hip_names.specs.PathParts.{BeginWith}
 use Rattle.hip_names.specs.Shown.{to_come}
 use Rattle.hip_names.specs.Components.{components}
 use Rattle.hip_names.proofs.affix.begins_with.Given as goal

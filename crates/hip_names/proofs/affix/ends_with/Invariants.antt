@@ -1,5 +1,5 @@
 use Rattle.std.proofs.Common.{◌↔◌, length}
-use Rattle.hip_names.specs.Parts.{EndWith}
+use Rattle.hip_names.specs.PathParts.{EndWith}
 use Rattle.hip_names.specs.Shown.{to_come}
 use Rattle.hip_names.specs.Components.{components}
 use Rattle.hip_names.proofs.affix.ends_with.Given as goal
