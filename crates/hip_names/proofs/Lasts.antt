@@ -1,13 +1,11 @@
 -- What a path is without its last name, and where it ends.
-use Rattle.std.proofs.Common.{◌≡◌, ◌≢◌, ℕ, zero, suc, Bool, true, false, not, cond, List, [], ◌∷◌, ◌++◌, length, take, drop, ◌≤◌, ◌<◌, ◌-◌, ◌+◌, get_or, slice_range, arith, refl, sym, ap, ap₂, ◌∙◌, All, bytes_eq, append-nil, append_assoc}
-use Rattle.std.proofs.Common.{take-suc, take_all, inl, inr, eq-or-lt_of_le, take-append-drop, drop-cons, take-add}
-use Rattle.std.proofs.lemmas.Bool.Decides.{nat_tests}
+use Rattle.std.proofs.Common.{◌≡◌, ℕ, zero, suc, true, false, cond, List, [], ◌∷◌, ◌++◌, length, take, drop, ◌≤◌, ◌<◌, ◌-◌, get_or, slice_range, arith, sym, ap, ap₂, ◌∙◌, bytes_eq, append-nil, append_assoc}
+use Rattle.std.proofs.Common.{take-suc, take_all, inl, inr, eq-or-lt_of_le, take-append-drop, drop-cons}
 use Rattle.std.proofs.lemmas.Grind.{common_steps}
-use Rattle.std.proofs.lemmas.List.{drop_all, take_more}
 use Rattle.std.specs.Path.{slash, is_name, cur_dir}
-use Rattle.hip_names.specs.Components.{Component, RootDir, CurDir, ParentDir, Normal, components, is_slash, named, names, start}
+use Rattle.hip_names.specs.Components.{Component, CurDir, components, named, names, start}
 use Rattle.hip_names.specs.LastName.{IsLastName}
-use Rattle.hip_names.proofs.LastNames.{names-at, names-part, part_names, no_slashes}
+use Rattle.hip_names.proofs.LastNames.{names-at, part_names, no_slashes}
 use Rattle.hip_names.proofs.Starts.{start-behind, start-ended, start-part}
 
 -- the slash before a position names nothing

@@ -1,6 +1,5 @@
 -- The parent of a path, and its name, by where its last name lies.
-use Rattle.std.proofs.Common.{◌≡◌, ◌≢◌, ℕ, zero, suc, Bool, true, false, cond, bytes_eq, nat_eq, List, [], ◌∷◌, ◌++◌, Option, Some, None, length, take, drop, ◌≤◌, ◌<◌, ◌-◌, ◌+◌, get_or, slice_range, arith, refl, sym, subst, ap, ap₂, ◌∙◌, filter, map, append-nil, take-take, inl, inr, ◌⊎◌}
-use Rattle.std.proofs.lemmas.Bool.Decides.{nat_tests}
+use Rattle.std.proofs.Common.{◌≡◌, ◌≢◌, ℕ, zero, suc, Bool, true, false, cond, bytes_eq, nat_eq, List, [], ◌∷◌, ◌++◌, Option, Some, None, length, take, ◌≤◌, slice_range, arith, refl, sym, subst, ap, ap₂, ◌∙◌, filter, map, take-take, inl, inr}
 use Rattle.std.proofs.lemmas.Grind.{common_steps}
 use Rattle.std.specs.List.{before_first, last_or, starts_with}
 use Rattle.std.specs.Path.{cur_dir, is_name, parent_dir, root_dir}

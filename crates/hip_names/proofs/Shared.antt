@@ -1,18 +1,13 @@
 -- Paths that begin with the same bytes up to a slash are ordered by what stands behind it.
 use Rattle.std.proofs.Common.{◌≡◌, ℕ, List, [], ◌∷◌, ◌++◌, take, drop, refl, ◌-◌, ◌<◌, arith}
-use Rattle.std.proofs.lemmas.Bool.Decides.{nat_tests}
 use Rattle.std.proofs.lemmas.Grind.{common_steps}
-use Rattle.std.proofs.lemmas.List.{take-append-drop, take-append-le}
-use Rattle.std.proofs.lemmas.List.Folds.{prefix_len-append}
-use Rattle.std.proofs.lemmas.List.Splits.{length-slice_split}
-use Rattle.std.proofs.lemmas.List.Sums.{prefix_len-le-length}
+use Rattle.std.proofs.lemmas.List.{take-append-drop}
 use Rattle.std.specs.Cmp.{tied_itself}
 use Rattle.std.specs.Cmp.Lexicographic.{slice_cmp}
-use Rattle.std.specs.List.{before_first}
 use Rattle.std.specs.Path.{slash}
 use Rattle.hip_names.proofs.LastNames.{parts-behind}
 use Rattle.hip_names.proofs.Starts.{start-behind}
-use Rattle.hip_names.specs.Components.{Component, component_order, components, is_slash, names, path_parts, path_order, start}
+use Rattle.hip_names.specs.Components.{Component, component_order, components, names, path_order}
 use Rattle.hip_names.specs.PathLaws.{component_order_total}
 use Rattle.hip_names.specs.Shared.{IsSharedFront}
 

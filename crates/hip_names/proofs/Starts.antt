@@ -1,13 +1,13 @@
 -- The root or the dot that a path begins with depends on its first part alone.
-use Rattle.std.proofs.Common.{◌≡◌, ◌≢◌, ℕ, zero, suc, Bool, true, false, not, cond, List, [], ◌∷◌, ◌++◌, length, take, drop, ◌≤◌, ◌<◌, ◌-◌, ◌+◌, get_or, slice_range, arith, refl, sym, ap, ◌∙◌, All, bytes_eq}
+use Rattle.std.proofs.Common.{◌≡◌, ℕ, false, not, cond, List, [], ◌∷◌, ◌++◌, length, ◌<◌, get_or, arith, refl, ap, All, bytes_eq}
 use Rattle.std.proofs.lemmas.Bool.Decides.{nat_tests}
 use Rattle.std.proofs.lemmas.Grind.{common_steps}
 use Rattle.std.proofs.lemmas.List.{take-append-le}
 use Rattle.std.proofs.lemmas.List.Folds.{prefix_len-append}
 use Rattle.std.proofs.lemmas.List.Sums.{prefix_len-le-length, prefix_len_is}
 use Rattle.std.specs.List.{before_first, position_or_len}
-use Rattle.std.specs.Path.{slash, is_name, cur_dir}
-use Rattle.hip_names.specs.Components.{Component, RootDir, CurDir, is_slash, start}
+use Rattle.std.specs.Path.{slash, cur_dir}
+use Rattle.hip_names.specs.Components.{CurDir, is_slash, start}
 
 -- a slash ends the first part, whatever stands behind it
 pub before_first-behind : (front rest : List ℕ) → before_first is_slash (front ++ slash ∷ rest) ≡ before_first is_slash front

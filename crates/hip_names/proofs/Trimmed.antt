@@ -1,16 +1,15 @@
 -- A path up to its last name is trimmed, and so is one without names.
-use Rattle.std.proofs.Common.{◌≡◌, ◌≢◌, ℕ, zero, suc, List, [], ◌∷◌, ◌++◌, length, take, drop, ◌≤◌, ◌<◌, ◌-◌, ◌+◌, get_or, slice_range, arith, refl, sym, ap, ap₂, ◌∙◌, append-nil}
-use Rattle.std.proofs.Common.{Bool, true, false, cond, bytes_eq, eqb-true, sub-one, take-take}
+use Rattle.std.proofs.Common.{◌≡◌, ℕ, zero, suc, List, [], ◌∷◌, ◌++◌, length, take, ◌<◌, ◌-◌, get_or, arith, refl, sym, ap, ap₂, ◌∙◌}
+use Rattle.std.proofs.Common.{Bool, true, false, cond, bytes_eq, eqb-true, take-take}
 use Rattle.std.specs.Cmp.Lexicographic.{bytes_decides}
 use Rattle.std.specs.List.{before_first}
 use Rattle.std.specs.Path.{slash, dot, cur_dir}
 use Rattle.hip_names.proofs.Starts.{before_first-head, start-unrooted}
-use Rattle.std.proofs.lemmas.Bool.Decides.{nat_tests}
 use Rattle.std.proofs.lemmas.Grind.{common_steps}
-use Rattle.hip_names.specs.Components.{Component, RootDir, CurDir, ParentDir, Normal, components, is_slash, named, names, start}
+use Rattle.hip_names.specs.Components.{Component, CurDir, components, is_slash, names, start}
 use Rattle.hip_names.specs.LastName.{IsEnd, IsLastName}
 use Rattle.hip_names.specs.PathParts.{IsTrimmed}
-use Rattle.hip_names.proofs.Lasts.{names-before, start-at}
+use Rattle.hip_names.proofs.Lasts.{start-at}
 use Rattle.hip_names.proofs.Widths.{width, width-front, width-name}
 
 -- the path up to its last name has its components

@@ -1,16 +1,15 @@
 -- A longer front of a path has no fewer bytes in its components, and one that ends with a name has more than any shorter one.
-use Rattle.std.proofs.Common.{◌≡◌, ◌≢◌, ℕ, zero, suc, Bool, true, false, not, cond, List, [], ◌∷◌, ◌++◌, length, take, drop, ◌≤◌, ◌<◌, ◌-◌, ◌+◌, get_or, slice_range, arith, refl, sym, ap, ap₂, ◌∙◌, All, bytes_eq, append-nil, append_assoc}
-use Rattle.std.proofs.Common.{eqb-true, le_of_eq, sub-one, take-suc, take_all, inl, inr, eq-or-lt_of_le, take-append-drop, drop-cons, take-add}
+use Rattle.std.proofs.Common.{◌≡◌, ℕ, zero, suc, Bool, true, false, cond, List, [], ◌∷◌, ◌++◌, length, take, drop, ◌≤◌, ◌<◌, ◌-◌, ◌+◌, get_or, slice_range, arith, refl, sym, ap, ap₂, ◌∙◌, All, bytes_eq, append_assoc}
+use Rattle.std.proofs.Common.{eqb-true, le_of_eq, sub-one, take-append-drop, drop-cons}
 use Rattle.std.proofs.lemmas.Bool.Decides.{nat_tests}
 use Rattle.std.proofs.lemmas.Grind.{common_steps}
-use Rattle.std.proofs.lemmas.List.{drop_all, take_more}
 use Rattle.std.specs.Cmp.Lexicographic.{bytes_decides}
 use Rattle.std.specs.Path.{slash, is_name, cur_dir, parent_dir}
 use Rattle.hip_names.specs.Components.{Component, RootDir, CurDir, ParentDir, Normal, components, is_slash, named, names, start}
 use Rattle.hip_names.specs.LastName.{IsLastName}
 use Rattle.hip_names.proofs.LastNames.{names-at, names-part, part_names, no_slashes, cut-at, IsWhole}
 use Rattle.hip_names.proofs.Lasts.{names-before, start-at, start-before}
-use Rattle.hip_names.proofs.Starts.{start-behind, start-ended, start-part}
+use Rattle.hip_names.proofs.Starts.{start-behind, start-part}
 
 -- the number of bytes of a component, and of several
 abbrev pub text_len : Component → ℕ

@@ -1,5 +1,5 @@
 -- Where the last name of a path lies. No public clause cites this module.
-use Rattle.std.specs.Prelude.{◌≡◌, ◌≢◌, ℕ, ◌-◌, ◌<◌, ◌≤◌, Bool, true, List, [], ◌∷◌, ◌++◌, length, slice_index, slice_range, take}
+use Rattle.std.specs.Prelude.{◌≡◌, ◌≢◌, ℕ, ◌-◌, ◌<◌, ◌≤◌, true, List, length, slice_index, slice_range, take}
 use Rattle.std.specs.Path.{slash, is_name}
 use Rattle.hip_names.specs.Components.{components, names}
 use Rattle.hip_names.specs.PathParts.{IsTrimmed}

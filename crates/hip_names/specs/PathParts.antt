@@ -2,7 +2,7 @@
 use Rattle.std.specs.Prelude.{◌≡◌, ◌≢◌, ◌⊎◌, ℕ, ◌<◌, Bool, true, false, List, [], ◌∷◌, ◌++◌, ◌==◌, if◌then◌else◌, nat_lt, option_and_then, option_map, Option, Some, None, codes, length, refl, take}
 use Rattle.std.specs.List.{after_last, before_last, last_or}
 use Rattle.std.specs.Path.{dot}
-use Rattle.hip_names.specs.Components.{Component, RootDir, CurDir, ParentDir, Normal, components}
+use Rattle.hip_names.specs.Components.{Component, RootDir, Normal, components}
 
 -- the first component is the root
 abbrev pub is_rooted : List Component → Bool

@@ -1,4 +1,4 @@
-use Rattle.std.proofs.Common.{arith, ap, sym, ℕ, ◌≡◌, ◌≢◌, ◌≤◌, ◌<◌, ◌-◌, ◌∙◌, get_or, take, length}
+use Rattle.std.proofs.Common.{arith, ap, sym, ◌≡◌, ◌≤◌, ◌<◌, ◌-◌, ◌∙◌, get_or, take}
 use Rattle.std.proofs.lemmas.Grind.{common_steps}
 use Rattle.hip_names.specs.Components.{names}
 use Rattle.hip_names.proofs.LastNames.{names-passed, IsWhole}

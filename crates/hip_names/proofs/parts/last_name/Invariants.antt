@@ -1,4 +1,4 @@
-use Rattle.std.proofs.Common.{◌≡◌, ℕ, ◌<◌, ◌≤◌, length, get_or, take}
+use Rattle.std.proofs.Common.{◌≡◌, ◌<◌, ◌≤◌, length, get_or, take}
 use Rattle.std.specs.Path.{slash}
 use Rattle.hip_names.specs.Components.{names}
 use Rattle.hip_names.proofs.parts.last_name.Given as goal
