@@ -27,6 +27,9 @@ pub use Rattle.hip_bytes.specs.Window
 pub use Rattle.hip_text.specs.Boundary
 pub use Rattle.hip_text.specs.Decode
 pub use Rattle.hip_names.specs.Components
+pub use Rattle.hip_names.specs.PathCuts
+pub use Rattle.hip_names.specs.PathParts
+pub use Rattle.hip_names.specs.Shown
 pub use Rattle.hip_bytes.specs.Borsh
 pub use Rattle.hip_bytes.specs.Json
 pub use Rattle.hip_bytes.specs.Sink

@@ -1,4 +1,5 @@
 //! Paths, and their components.
 pub use hip_names::{
-    Component, Components, HipPath, JsonFault, MutateFault, RefMut, components_eq, path_cmp,
+    Component, Components, Display, GrowFault, HipPath, JsonFault, MutateFault, RefMut,
+    components_eq, path_cmp,
 };

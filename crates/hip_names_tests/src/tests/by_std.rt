@@ -169,6 +169,47 @@ fn pairs_are_joined(rt: HostRuntime) {
     of_pairs::<Unique>(&rt, rt.alloc());
 }
 
+/// The path with another file name, in the place of its own if it has one (`Path::with_file_name`).
+fn with_file_name<'b, B: Backend>(
+    alloc: Global,
+    path: &HipPath<'b, B>,
+    name: &[u8],
+) -> Result<HipPath<'b, B>, GrowFault> {
+    if path.file_name(alloc)?.is_some() {
+        if let Some(parent) = path.parent(alloc)? {
+            return parent.join(alloc, name);
+        }
+    }
+    path.join(alloc, name)
+}
+
+/// A path, a name, and the path with that name.
+type Renamed = (&'static [u8], &'static [u8], &'static [u8]);
+
+const RENAMED: &[Renamed] = &[
+    (b"/tmp/foo.txt", b"bar.txt", b"/tmp/bar.txt"),
+    (b"/tmp", b"var", b"/var"),
+    (b"a//b/.", b"c", b"a/c"),
+    (b"a/..", b"c", b"a/../c"),
+    (b"/", b"c", b"/c"),
+    (b"", b"c", b"c"),
+    (b"a/b", b"/c", b"/c"),
+];
+
+fn is_renamed<B: Backend>(rt: &impl Abort, alloc: Global, row: Renamed) {
+    let (bytes, name, wanted) = row;
+    let renamed = must(rt, with_file_name(alloc, &lent::<B>(bytes), name));
+    equals(rt, &renamed.as_path(), &wanted);
+}
+
+#[test]
+fn paths_are_renamed(rt: HostRuntime) {
+    for row in RENAMED {
+        is_renamed::<Rc>(&rt, rt.alloc(), *row);
+        is_renamed::<Unique>(&rt, rt.alloc(), *row);
+    }
+}
+
 /// A path, whether it is a text, and how it is printed.
 type Printed = (&'static [u8], bool, &'static str);
 
