@@ -1,6 +1,9 @@
 //! The workloads, as `crates/hip_bench` has them, over any byte string.
 use crate::plain::Bytes;
 use std::collections::{BTreeMap, HashMap};
+use std::ffi::OsStr;
+use std::os::unix::ffi::OsStrExt;
+use std::path::Path;
 
 const MEBIBYTE: u64 = 1 << 20;
 
@@ -12,6 +15,7 @@ pub enum Input {
     Mebibyte,
     Words,
     Records,
+    Paths,
 }
 
 impl Input {
@@ -41,6 +45,11 @@ impl Input {
                     lines.push('\n');
                 }
                 return lines.into_bytes();
+            }
+            Input::Paths => {
+                let mut name = || "abcdefghijklmnopqrstuvwxyz"[..1 + next(12) as usize].to_string();
+                let mut path = |k: usize| "/".repeat(k % 2) + &(0..1 + k % 7).map(|_| name()).collect::<Vec<_>>().join("/") + ".txt";
+                return (0..10_000).map(|k| path(k) + "\n").collect::<String>().into_bytes();
             }
         };
         (0..len).map(|_| b' ' + next(95) as u8).collect()
@@ -206,6 +215,15 @@ fn records<'a, V: Bytes<'a>>(text: V, rounds: u64) -> u64 {
     kept.iter().fold(sum, |sum, field| look(sum, field.bytes()))
 }
 
+/// Each round adds what a call gives of each line as a path, which Rust's `Path` lends.
+fn of_paths<'a, V: Bytes<'a>>(input: &[u8], rounds: u64, call: impl Fn(&Path) -> Option<usize>) -> u64 {
+    let lines: Vec<V> = input.split(|byte| *byte == b'\n').filter(|line| !line.is_empty()).map(V::copied).collect();
+    (0..rounds).fold(0, |sum, _| {
+        let lens = lines.iter().filter_map(|line| call(Path::new(OsStr::from_bytes(line.bytes()))));
+        mix(lens.fold(sum, |sum, len| sum.wrapping_add(len as u64)), 7)
+    })
+}
+
 pub struct Row {
     pub name: &'static str,
     pub input: Input,
@@ -274,6 +292,10 @@ lines! {
     Row |i, r| compared(i, 10, r, |a: &V, b: &V| (a.cmp(b) as i8 + 1) as u64) => hip_cmp10 Rc;
     Row |i, r| compared(i, 1024, r, |a: &V, b: &V| (a == b) as u64) => hip_eq1k Rc;
     Row |i, r| compared(i, 1024, r, |a: &V, b: &V| (a.cmp(b) as i8 + 1) as u64) => hip_cmp1k Rc;
+    Paths |i, r| of_paths::<V>(i, r, |path| path.file_name().map(OsStr::len)) => hip_path_file_name Rc;
+    Paths |i, r| of_paths::<V>(i, r, |path| path.extension().map(OsStr::len)) => hip_path_extension Rc;
+    Paths |i, r| of_paths::<V>(i, r, |path| path.parent().map(|parent| parent.as_os_str().len())) => hip_path_parent Rc;
+    Paths |i, r| of_paths::<V>(i, r, |path| Some(path.join("child.txt").as_os_str().len())) => hip_path_join Rc;
     Records |i, r| records(V::copied(i), r) => hip_records Rc;
     Records |i, r| records(V::lent(i), r) => hip_records_borrowed Rc;
     Words |i, r| numbered!(HashMap, V, i, r) => hip_intern_hash Rc;

@@ -1,4 +1,4 @@
-//! Paths that are compared and taken apart: the lines of the input.
+//! Paths that are compared, taken apart and joined: the lines of the input.
 use crate::compare::number_of;
 use crate::cuts::lines;
 use crate::ring::mix;
@@ -44,6 +44,85 @@ fn taken_apart(alloc: Global, input: &[u8], rounds: u64) -> Option<u64> {
         sum = mix(sum, 7);
     }
     Some(sum)
+}
+
+/// Each round cuts the file name of each path, and adds its length.
+fn named(alloc: Global, input: &[u8], rounds: u64) -> Option<u64> {
+    let paths = paths(alloc, input)?;
+    let mut sum = 0u64;
+    for _ in 0..rounds {
+        for path in &paths {
+            if let Some(name) = path.file_name(alloc).ok()? {
+                sum = sum.wrapping_add(name.len() as u64);
+            }
+        }
+        sum = mix(sum, 7);
+    }
+    Some(sum)
+}
+
+/// Each round cuts the extension of each path, and adds its length.
+fn extended(alloc: Global, input: &[u8], rounds: u64) -> Option<u64> {
+    let paths = paths(alloc, input)?;
+    let mut sum = 0u64;
+    for _ in 0..rounds {
+        for path in &paths {
+            if let Some(extension) = path.extension(alloc).ok()? {
+                sum = sum.wrapping_add(extension.len() as u64);
+            }
+        }
+        sum = mix(sum, 7);
+    }
+    Some(sum)
+}
+
+/// Each round cuts the parent of each path, and adds its length.
+fn parents(alloc: Global, input: &[u8], rounds: u64) -> Option<u64> {
+    let paths = paths(alloc, input)?;
+    let mut sum = 0u64;
+    for _ in 0..rounds {
+        for path in &paths {
+            if let Some(parent) = path.parent(alloc).ok()? {
+                sum = sum.wrapping_add(parent.as_path().len() as u64);
+            }
+        }
+        sum = mix(sum, 7);
+    }
+    Some(sum)
+}
+
+/// Each round joins a name to each path, and adds its length.
+fn joined(alloc: Global, input: &[u8], rounds: u64) -> Option<u64> {
+    let paths = paths(alloc, input)?;
+    let mut sum = 0u64;
+    for _ in 0..rounds {
+        for path in &paths {
+            let joined = path.join(alloc, b"child.txt").ok()?;
+            sum = sum.wrapping_add(joined.as_path().len() as u64);
+        }
+        sum = mix(sum, 7);
+    }
+    Some(sum)
+}
+
+#[unsafe(no_mangle)]
+pub extern "C" fn hip_path_file_name(alloc: Global, input: &[u8], rounds: u64) -> u64 {
+    named(alloc, input, rounds).unwrap_or(0)
+}
+
+#[unsafe(no_mangle)]
+pub extern "C" fn hip_path_extension(alloc: Global, input: &[u8], rounds: u64) -> u64 {
+    extended(alloc, input, rounds).unwrap_or(0)
+}
+
+#[unsafe(no_mangle)]
+pub extern "C" fn hip_path_parent(alloc: Global, input: &[u8], rounds: u64) -> u64 {
+    parents(alloc, input, rounds).unwrap_or(0)
+}
+
+#[unsafe(no_mangle)]
+pub extern "C" fn hip_path_join(alloc: Global, input: &[u8], rounds: u64) -> u64 {
+    joined(alloc, input, rounds).unwrap_or(0)
 }
 
 #[unsafe(no_mangle)]
