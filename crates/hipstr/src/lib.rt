@@ -8,8 +8,8 @@
 //! [`bytes`] has the byte strings themselves, [`HipByt`](bytes::HipByt) generic in the [`Backend`]: owners are shared on [`Rc`], and not on
 //! [`Unique`]. [`string`] has the texts, [`HipStr`](string::HipStr): byte strings that are UTF-8, with the calls that take them apart, and
 //! [`pattern`] the patterns of these calls and the iterators that pieces come from. [`os_string`] has the OS strings,
-//! [`HipOsStr`](os_string::HipOsStr), which needn't be UTF-8, and [`path`] the paths, [`HipPath`](path::HipPath), which are compared by
-//! their components. Anyone may implement [`Backend`]; the names that this takes, and the three representations of a byte string
+//! [`HipOsStr`](os_string::HipOsStr), which needn't be UTF-8, and [`path`] the paths, [`HipPath`](path::HipPath), which are compared
+//! and taken apart by their components. Anyone may implement [`Backend`]; the names that this takes, and the three representations of a byte string
 //! ([`Inline`], [`Borrowed`], [`Allocated`]), are handed on here.
 //!
 //! Byte strings and texts are written to a [`ByteSink`] and read from a [`ByteSource`] in the form of Borsh; these, and their
