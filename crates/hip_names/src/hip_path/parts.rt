@@ -122,8 +122,8 @@ impl<'b, B: Backend> HipPath<'b, B> {
         Ok(Some(self.name.part_metered(alloc, start, end, meter)?))
     }
 
-    /// The path without its last component, where that is neither the root nor the only one that there could be. What stands behind the
-    /// other components is left off too: the parent of `/foo//bar` is `/foo`.
+    /// The path without its last component. The root and the empty path have no parent. Slashes and dots behind the other components are
+    /// left off too: the parent of `/foo//bar` is `/foo`.
     #[inline]
     pub fn parent(&self, alloc: Global) -> Result<Option<Self>, AllocError>
         ensures parent { ParentAnswers self.now result }

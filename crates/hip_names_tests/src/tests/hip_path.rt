@@ -11,7 +11,7 @@ use std::cmp::Ordering;
 
 impl<B: Backend> Handle for HipPath<'static, B> {
     fn lent(bytes: &'static [u8]) -> Result<Self, &'static str> {
-        Ok(HipPath::from(HipOsStr::from(HipByt::borrowed(bytes))))
+        Ok(HipPath::from(HipByt::borrowed(bytes)))
     }
 
     fn bytes(&self) -> &[u8] {
@@ -95,7 +95,7 @@ impl<B: Backend> Name for HipPath<'static, B> {
     }
 
     fn into(self) -> HipByt<'static, B> {
-        HipByt::from(HipOsStr::from(self))
+        HipByt::from(self)
     }
 
     fn into_vec_copied(self, alloc: Global) -> Result<Vec<u8>, AllocError> {
