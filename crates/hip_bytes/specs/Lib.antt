@@ -26,3 +26,9 @@ pub use Rattle.hip_raw.specs.Sole
 pub use Rattle.hip_raw.specs.Sources
 pub use Rattle.hip_raw.specs.Transfer
 pub use Rattle.hip_raw.specs.Window
+pub use Rattle.hip_raw.specs.Alike
+pub use Rattle.hip_raw.specs.Allocated
+pub use Rattle.hip_raw.specs.Block
+pub use Rattle.hip_raw.specs.Borrowed
+pub use Rattle.hip_raw.specs.Buffer
+pub use Rattle.hip_raw.specs.Inline

@@ -57,3 +57,25 @@ pub use Rattle.hip_match.specs.Trims
 pub use Rattle.hip_cuts.specs.Cut as Trimmed
 pub use Rattle.hip_cuts.specs.Piece
 pub use Rattle.hip_cuts.specs.Laws
+pub use Rattle.hip_bytes.specs.Alike
+pub use Rattle.hip_bytes.specs.Allocated
+pub use Rattle.hip_bytes.specs.Block
+pub use Rattle.hip_bytes.specs.Borrowed
+pub use Rattle.hip_bytes.specs.Buffer
+pub use Rattle.hip_bytes.specs.Inline
+pub use Rattle.hip_bytes.specs.FormatFault
+pub use Rattle.hip_bytes.specs.GrowFault
+pub use Rattle.hip_text.specs.Change as TextChange
+pub use Rattle.hip_text.specs.RefMut as TextRefMut
+pub use Rattle.hip_text.specs.Slice as TextSlice
+pub use Rattle.hip_text.specs.SliceError as TextSliceError
+pub use Rattle.hip_text.specs.Fault
+pub use Rattle.hip_text.specs.Utf16
+pub use Rattle.hip_match.specs.Iterators
+pub use Rattle.hip_match.specs.Marks
+pub use Rattle.hip_match.specs.Searchers
+pub use Rattle.hip_match.specs.TextLaws
+pub use Rattle.hip_cuts.specs.Walks
+pub use Rattle.hip_names.specs.Decode as NameDecode
+pub use Rattle.hip_names.specs.Displayed
+pub use Rattle.hip_names.specs.Fed

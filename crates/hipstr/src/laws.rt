@@ -1,4 +1,4 @@
-//! Laws of the machine, of pieces and of the two parts of a text. Each function does nothing; its contract is the law.
+//! Laws of the machine, of pieces, and of the parts that a text is cut into. Each function does nothing; its contract is the law.
 ghost use Rattle.std.specs.Prelude.{◌≡◌, ◌≤◌, ℕ, true, List};
 ghost use Rattle.hip_bytes.specs.Cost.{clone_cost, cut_cost};
 ghost use Rattle.hip_bytes.specs.declared.kind.Kind.{Kind};
@@ -9,8 +9,14 @@ ghost use Rattle.hipstr.specs.Step.{Costs};
 use crate::command::Command;
 use hip_bytes::Backend;
 pub use hip_cuts::laws::{
-    borrowed_pieces_copy_nothing, pieces_in_order_copy_the_text_once, shared_pieces_copy_little,
-    split_once_parts_at_the_first,
+    a_character_parts_as_its_text, borrowed_pieces_copy_nothing,
+    pieces_in_order_copy_the_text_once, rsplit_once_parts_at_the_last, shared_pieces_copy_little,
+    split_once_parts_at_the_first, strip_prefix_leaves_the_rest, strip_suffix_leaves_the_front,
+};
+pub use hip_match::laws::{
+    ended_pieces_are_the_text, join_undoes_split, join_undoes_split_by_char,
+    just_one_list_is_leftmost, just_one_list_is_rightmost, one_char_reverses,
+    white_space_parts_the_longest_runs,
 };
 
 /// Where owners are shared, a clone, a slice, a trim or a strip costs at most the 23 bytes that a handle holds itself, whatever its source

@@ -1,13 +1,16 @@
 //! Code of a user who names `hipstr` alone: loops over walks, functions of a pattern and over a closure, with clauses that cite what a call
-//! is said to give, and a struct that keeps a walk. A function that is generic in the backend is proved once for all, and takes longer than
+//! is said to give, a struct that keeps a walk, and records that are cut field by field. A function that is generic in the backend is proved once for all, and takes longer than
 //! one that names `Rc`: most of these loops do.
-ghost use Rattle.std.specs.Prelude.{◌≡◌, ◌==◌, ℕ, IfOk, length};
+ghost use Rattle.std.specs.Prelude.{◌≡◌, ◌==◌, ◌++◌, ℕ, IfOk, IfSome, codes, length};
 ghost use Rattle.std.specs.Char.{IsScalar, is_ascii_digit};
 ghost use Rattle.hipstr.specs.Answers.{answer_at};
 ghost use Rattle.hipstr.specs.Characters.{char_ends};
 ghost use Rattle.hipstr.specs.Piece.{AreParts};
 ghost use Rattle.hipstr.specs.Pieces.{split};
 
+use hipstr::laws::{
+    split_once_parts_at_the_first, strip_prefix_leaves_the_rest, strip_suffix_leaves_the_front,
+};
 use hipstr::pattern::{CharPred, Chosen, Pattern, Split, choose_by};
 use hipstr::string::{HipStr, IterWrapper, TextCuts};
 use hipstr::{Backend, LocalHipStr, Rc, Unique};
@@ -135,6 +138,83 @@ impl<'h, 'b, B: Backend> Reader<'h, 'b, B> {
     }
 }
 
+/// Why a line is no record.
+#[derive(Clone, Copy, Debug, PartialEq, Eq)]
+enum BadLine {
+    /// The field with this number, counted from 1, ends nowhere.
+    Ends(usize),
+    /// Memory ran out.
+    Memory,
+}
+
+impl From<AllocError> for BadLine {
+    ghost use Rattle.std.specs.Prelude.{◌≡◌};
+    ghost use Rattle.hipstr_tests.specs.declared.user.BadLine.TheVariants.{Memory};
+
+    ghost from_gives = { λ _ fault. fault ≡ Memory };
+
+    fn from(_refused: AllocError) -> BadLine {
+        BadLine::Memory
+    }
+}
+
+/// A line of a log.
+struct LogRecord<'b> {
+    host: LocalHipStr<'b>,
+    user: LocalHipStr<'b>,
+    day: LocalHipStr<'b>,
+    path: LocalHipStr<'b>,
+    status: LocalHipStr<'b>,
+    size: LocalHipStr<'b>,
+}
+
+/// The record of a line, whose fields one space parts.
+fn read_record<'b>(alloc: Global, line: &LocalHipStr<'b>) -> Result<LogRecord<'b>, BadLine> {
+    let (host, rest) = line.split_once(alloc, ' ')?.ok_or(BadLine::Ends(1))?;
+    let (user, rest) = rest.split_once(alloc, ' ')?.ok_or(BadLine::Ends(2))?;
+    let (day, rest) = rest.split_once(alloc, ' ')?.ok_or(BadLine::Ends(3))?;
+    let (path, rest) = rest.split_once(alloc, ' ')?.ok_or(BadLine::Ends(4))?;
+    let (status, size) = rest.split_once(alloc, ' ')?.ok_or(BadLine::Ends(5))?;
+    Ok(LogRecord {
+        host,
+        user,
+        day,
+        path,
+        status,
+        size,
+    })
+}
+
+/// What stands between two quotes, if that is the whole field.
+fn unquoted<'b>(
+    alloc: Global,
+    field: &LocalHipStr<'b>,
+) -> Result<Option<LocalHipStr<'b>>, AllocError>
+    ensures { IfOk result (λ found. IfSome found
+        (λ inner. field.now.items ≡ codes "\"" ++ (inner.items ++ codes "\""))) }
+{
+    let Some(rest) = field.strip_prefix(alloc, "\"")? else {
+        return Ok(None);
+    };
+    strip_prefix_leaves_the_rest(field.as_str(), "\"");
+    let inner = rest.strip_suffix(alloc, "\"")?;
+    strip_suffix_leaves_the_front(rest.as_str(), "\"");
+    Ok(inner)
+}
+
+/// A key and its value, if a `=` stands between them.
+fn key_and_value<'b>(
+    alloc: Global,
+    line: &LocalHipStr<'b>,
+) -> Result<Option<(LocalHipStr<'b>, LocalHipStr<'b>)>, AllocError>
+    ensures { IfOk result (λ found. IfSome found
+        (λ parts. line.now.items ≡ parts.0.items ++ (codes "=" ++ parts.1.items))) }
+{
+    let parts = line.split_once(alloc, "=")?;
+    split_once_parts_at_the_first(line.as_str(), "=");
+    Ok(parts)
+}
+
 /// Whether the texts are these.
 fn are<B: Backend>(texts: &Result<Vec<HipStr<'_, B>>, AllocError>, expected: &[&str]) -> bool {
     let Ok(texts) = texts else {
@@ -192,6 +272,48 @@ fn is_text(text: Option<LocalHipStr<'_>>, expected: &str) -> bool {
         Some(text) => text.str_eq(expected),
         None => false,
     }
+}
+
+/// Whether a line is this record.
+fn is_record(record: &LogRecord<'_>, expected: &[&str; 6]) -> bool {
+    record.host.str_eq(expected[0])
+        & record.user.str_eq(expected[1])
+        & record.day.str_eq(expected[2])
+        & record.path.str_eq(expected[3])
+        & record.status.str_eq(expected[4])
+        & record.size.str_eq(expected[5])
+}
+
+/// Whether lines are read as records, or told by the field that lacks.
+fn reads_records(alloc: Global) -> bool {
+    let line = LocalHipStr::borrowed("10.0.0.1 - 1/Dec \"/a b\" 200");
+    let short = LocalHipStr::borrowed("10.0.0.1 - 1/Dec");
+    let is_read = match read_record(alloc, &line) {
+        Ok(record) => is_record(&record, &["10.0.0.1", "-", "1/Dec", "\"/a", "b\"", "200"]),
+        Err(_) => false,
+    };
+    let is_told = match read_record(alloc, &short) {
+        Ok(_) => false,
+        Err(bad) => bad == BadLine::Ends(3),
+    };
+    is_read & is_told
+}
+
+/// Whether quotes are taken off, and keys parted from their values.
+fn takes_apart(alloc: Global) -> Result<bool, AllocError> {
+    let quoted = LocalHipStr::borrowed("\"a=b\"");
+    let half = LocalHipStr::borrowed("\"a=b");
+    let pair = match key_and_value(alloc, &half)? {
+        Some((key, value)) => key.str_eq("\"a") & value.str_eq("b"),
+        None => false,
+    };
+    Ok(is_text(unquoted(alloc, &quoted)?, "a=b") & unquoted(alloc, &half)?.is_none() & pair)
+}
+
+#[test]
+fn records_are_cut_by_one_call_a_field(rt: HostRuntime) {
+    assert!(rt; reads_records(rt.alloc()));
+    assert!(rt; takes_apart(rt.alloc()) == Ok(true));
 }
 
 #[test]
