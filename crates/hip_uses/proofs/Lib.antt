@@ -1,9 +1,17 @@
+pub mod Appended
+pub mod Columns
+pub mod Counting
+pub mod Firsts
 pub mod Holes
 pub mod Interned
 pub mod Packing
 pub mod Published
+pub mod Quotes
+pub mod Ranks
 pub mod Runs
 pub mod Tables
 pub mod Templates
+pub mod TokenLines
+pub mod ToolLaws
 pub mod TurnLemmas
 pub mod Words
