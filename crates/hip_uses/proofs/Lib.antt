@@ -1,6 +1,7 @@
 pub mod Appended
 pub mod Columns
 pub mod Counting
+pub mod Filling
 pub mod Firsts
 pub mod Holes
 pub mod Interned

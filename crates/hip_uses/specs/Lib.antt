@@ -1,6 +1,7 @@
 pub mod Cells
 pub mod Column
 pub mod Counts
+pub mod Filled
 pub mod Listed
 pub mod Number
 pub mod Packed

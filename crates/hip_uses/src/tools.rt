@@ -5,10 +5,12 @@
 pub use crate::fault::ToolFault;
 pub use crate::tools::column::write_column;
 pub use crate::tools::counts::write_counts;
+pub use crate::tools::filled::write_filled;
 pub use crate::tools::tokens::write_tokens;
 
 mod column;
 mod counts;
+mod filled;
 mod input;
 mod print;
 mod quoted;
