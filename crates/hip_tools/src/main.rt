@@ -1,14 +1,14 @@
 //! `hip_tools TOOL ..` reads a text from standard input and writes what the tool makes of it; [`tool::USAGE`] lists the tools.
 //!
-//! `hip_uses` does the tools' work: tokens, tables, templates and an interner of words.
+//! The work is in [`hip_uses::tools`], which is generic in the reader and the writer. Here are the arguments, the seed of the hashers, the
+//! buffer of the output, and the exit status.
 #![tactic(auto)]
 
-mod count;
 mod fault;
 mod perform;
 mod tool;
 
-use fault::ToolFault;
+use fault::Fault;
 use perform::perform;
 use std::process::ExitCode;
 use std::{env, io};
@@ -26,9 +26,9 @@ fn main(rt: HostRuntime) -> ExitCode {
 }
 
 /// Performs the tool that the arguments name.
-fn run(rt: &HostRuntime) -> Result<(), ToolFault> {
+fn run(rt: &HostRuntime) -> Result<(), Fault> {
     let mut words = Vec::new(rt.alloc());
-    for word in env::args(rt).map_err(|_| ToolFault::Usage)?.skip(1) {
+    for word in env::args(rt).map_err(|_| Fault::Usage)?.skip(1) {
         words.push(word)?;
     }
     let tool = Tool::read(words.as_slice())?;

@@ -1,5 +1,5 @@
 //! Which tool the arguments name.
-use crate::fault::ToolFault;
+use crate::fault::Fault;
 
 pub(crate) const USAGE: &str =
     "usage: hip_tools TOOL, from standard input to standard output, where TOOL is\n\
@@ -20,9 +20,9 @@ pub(crate) enum Tool<'a> {
 
 impl<'a> Tool<'a> {
     /// The tool that these words name.
-    pub(crate) fn read(words: &'a [String]) -> Result<Self, ToolFault> {
+    pub(crate) fn read(words: &'a [String]) -> Result<Self, Fault> {
         let Some((name, words)) = words.split_first() else {
-            return Err(ToolFault::Usage);
+            return Err(Fault::Usage);
         };
         match (name.as_str(), words) {
             ("tokens", []) => Ok(Tool::Tokens),
@@ -31,7 +31,7 @@ impl<'a> Tool<'a> {
                 Ok(Tool::Fill(values))
             }
             ("count", []) => Ok(Tool::Count),
-            _ => Err(ToolFault::Usage),
+            _ => Err(Fault::Usage),
         }
     }
 }

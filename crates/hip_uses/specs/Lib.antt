@@ -1,8 +1,15 @@
 pub mod Cells
+pub mod Column
+pub mod Counts
+pub mod Filled
+pub mod Listed
 pub mod Number
 pub mod Packed
+pub mod Shown
+pub mod Tallies
 pub mod Template
 pub mod Token
+pub mod Tools
 pub mod Turns
 pub mod Waiting
 pub mod Words

@@ -19,23 +19,39 @@ opening = codes "{{"
 abbrev pub closing : List ℕ
 closing = codes "}}"
 
+-- a hole by its bytes: the text between it and the one before, and its name
+pub record HoleBytes : Type 0 where
+  pub before : List ℕ
+  pub name : List ℕ
+
+abbrev pub hole_bytes : {B S P : Type 0} → Hole B S P → HoleBytes
+hole_bytes hole = record { before = hole.before.items; name = hole.name.items }
+
 -- a hole at the front of a text, with what lies before it and behind it: it opens at the first `{{` and ends at the first `}}` behind that
-abbrev pub CutsHole : {B S P : Type 0} → List ℕ → Hole B S P → List ℕ → Type 0
-CutsHole text hole after =
-    (behind : List ℕ) × IsParted opening text hole.before.items behind × IsParted closing behind hole.name.items after
+abbrev pub IsHole : List ℕ → HoleBytes → List ℕ → Type 0
+IsHole text hole after = (behind : List ℕ) × IsParted opening text hole.before behind × IsParted closing behind hole.name after
 
 -- holes one behind another, and what lies behind the last
+abbrev pub AreHoles : List ℕ → List HoleBytes → List ℕ → Type 0
+AreHoles text [] after = after ≡ text
+AreHoles text (hole ∷ holes) after = (behind : List ℕ) × IsHole text hole behind × AreHoles behind holes after
+
+abbrev pub CutsHole : {B S P : Type 0} → List ℕ → Hole B S P → List ℕ → Type 0
+CutsHole text hole after = IsHole text (hole_bytes hole) after
+
 abbrev pub CutsHoles : {B S P : Type 0} → List ℕ → List (Hole B S P) → List ℕ → Type 0
-CutsHoles text [] after = after ≡ text
-CutsHoles text (hole ∷ holes) after = (behind : List ℕ) × CutsHole text hole behind × CutsHoles behind holes after
+CutsHoles text holes after = AreHoles text (map hole_bytes holes) after
 
 -- the text is cut at its holes, up to a rest without `{{`
 abbrev pub IsParsed : {B S P : Type 0} → List ℕ → List (Hole B S P) → List ℕ → Type 0
 IsParsed text holes rest = CutsHoles text holes rest × Lacks opening rest
 
 -- a hole and what lies before it, as they are written
+abbrev pub bytes_written : HoleBytes → List ℕ
+bytes_written hole = hole.before ++ (opening ++ (hole.name ++ closing))
+
 abbrev pub hole_written : {B S P : Type 0} → Hole B S P → List ℕ
-hole_written hole = hole.before.items ++ (opening ++ (hole.name.items ++ closing))
+hole_written hole = bytes_written (hole_bytes hole)
 
 abbrev pub written : {B S P : Type 0} → List (Hole B S P) → List ℕ
 written holes = flat_map hole_written holes
@@ -49,8 +65,11 @@ abbrev pub value_with : List (Handle × Handle) → List ℕ → Handle → List
 value_with values name value other = if pointwise nat_eq name other then Some value else value_of values other
 
 -- a hole that is filled, with what lies before it
+abbrev pub bytes_filled : List (Handle × Handle) → HoleBytes → List ℕ
+bytes_filled values hole = hole.before ++ option_map_or text_bytes (value_of values hole.name) []
+
 abbrev pub hole_filled : {B S P : Type 0} → List (Handle × Handle) → Hole B S P → List ℕ
-hole_filled values hole = hole.before.items ++ option_map_or text_bytes (value_of values hole.name.items) []
+hole_filled values hole = bytes_filled values (hole_bytes hole)
 
 -- the bytes of lent texts, one by one
 abbrev pub all_shown : List (Bor (List ℕ)) → List (List ℕ)

@@ -4,6 +4,7 @@ ghost use Rattle.hip_uses.specs.declared.fault.InternFault.TheVariants.{Memory a
 ghost use Rattle.hip_uses.specs.declared.fault.PublishFault.TheVariants.{Memory as publish_memory};
 ghost use Rattle.hip_uses.specs.declared.fault.TableFault.TheVariants.{Memory as table_memory};
 ghost use Rattle.hip_uses.specs.declared.fault.TemplateFault.TheVariants.{Memory as template_memory};
+ghost use Rattle.hip_uses.specs.declared.fault.ToolFault.TheVariants.{Memory as tool_memory, WriteFailed as tool_write_failed};
 
 use hipstr::Backend;
 use hipstr::bytes::GrowFault;
@@ -121,3 +122,66 @@ impl<'b, B: Backend> fmt::Display for TemplateFault<'b, B> {
         }
     }
 }
+
+/// Why a tool did not come to its end.
+#[derive(Drop)]
+pub enum ToolFault {
+    ReadFailed,
+    WriteFailed,
+    Memory,
+    /// This line, counted from 1, isn't UTF-8.
+    NotUtf8(usize),
+    /// No `}}` follows the first `{{` on this line that is no hole's.
+    Unclosed(usize),
+    /// A hole on this line has this name, under which nothing goes.
+    Unknown(usize, String),
+    Table(TableFault),
+    /// The header has no column of this name.
+    NoColumn(String),
+    /// There are more different words than numbers.
+    TooManyWords,
+}
+
+impl fmt::Display for ToolFault {
+    fn fmt<W: fmt::Write>(&self, f: &mut fmt::Formatter<W>) -> fmt::Result {
+        match self {
+            ToolFault::ReadFailed => f.write_str("read failed"),
+            ToolFault::WriteFailed => f.write_str("write failed"),
+            ToolFault::Memory => f.write_str("out of memory"),
+            ToolFault::NotUtf8(line) => write!(f, "line {line}: not UTF-8"),
+            ToolFault::Unclosed(line) => write!(f, "line {line}: no `}}}}` follows"),
+            ToolFault::Unknown(line, name) => write!(f, "line {line}: nothing under `{name}`"),
+            ToolFault::Table(fault) => write!(f, "{fault}"),
+            ToolFault::NoColumn(name) => write!(f, "line 1: no column `{name}`"),
+            ToolFault::TooManyWords => f.write_str("too many different words"),
+        }
+    }
+}
+
+impl From<AllocError> for ToolFault {
+    ghost from_gives = { λ _ fault. fault ≡ tool_memory };
+
+    fn from(_: AllocError) -> Self {
+        ToolFault::Memory
+    }
+}
+
+impl<T: Drop> From<AllocFailed<T>> for ToolFault {
+    ghost from_gives = { λ _ fault. fault ≡ tool_memory };
+
+    fn from(_: AllocFailed<T>) -> Self {
+        ToolFault::Memory
+    }
+}
+
+impl From<WriteFailed> for ToolFault {
+    ghost from_gives = { λ _ fault. fault ≡ tool_write_failed };
+
+    fn from(_: WriteFailed) -> Self {
+        ToolFault::WriteFailed
+    }
+}
+
+/// A write that failed, told in one byte, where an `io::Error` would be moved from call to call.
+#[derive(Clone, Copy)]
+pub(crate) struct WriteFailed;

@@ -1,8 +1,8 @@
 //! Texts that have numbers: each different text is kept once, and the first has number 0.
 //!
 //! - [`words`]: the numbers of the words of a text.
-ghost use Rattle.std.specs.Prelude.{◌≡◌, ◌==◌, ◌≤◌, [], length, slice_get, Some, IfSome, MatchOption};
-ghost use Rattle.hip_uses.specs.Number.{number_of};
+ghost use Rattle.std.specs.Prelude.{◌≡◌, ◌==◌, ◌≤◌, [], length, slice_get, Some, IfSome, MatchOption, map};
+ghost use Rattle.hip_uses.specs.Number.{number_of, text_bytes};
 
 pub use crate::fault::InternFault;
 use crate::keyed::found;
@@ -85,6 +85,13 @@ impl<'b, B: Backend, S: BuildHasher> Interner<'b, B, S> {
         ensures { result ≡ number_of text.now self.now }
     {
         found(&self.numbers, &HipStr::borrowed(text)).copied()
+    }
+
+    /// The texts, in the order of their numbers.
+    pub fn texts(&self) -> &[HipStr<'b, B>]
+        ensures { map text_bytes result.now ≡ self.now }
+    {
+        self.texts.as_slice()
     }
 
     /// The text of a number, if there is one.

@@ -6,6 +6,8 @@
 //! - [`intern`]: each different text is kept once, and has a number.
 //! - [`table`]: a header names the columns of the rows below it.
 //!
+//! [`tools`] write what these make of an input, line by line.
+//!
 //! [`packed`] makes the maps of `intern` and `template` faster where their hasher is seeded.
 #![tactic(auto)]
 
@@ -17,3 +19,4 @@ pub mod queue;
 pub mod table;
 pub mod template;
 pub mod tokens;
+pub mod tools;
