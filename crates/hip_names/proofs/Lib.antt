@@ -1,5 +1,6 @@
 pub mod Affixes
 pub mod Dots
+pub mod Joins
 pub mod Json
 pub mod LastNames
 pub mod Lasts

@@ -1,6 +1,8 @@
 //! Laws of paths and of their components: the contract of each function is the law.
-ghost use Rattle.std.specs.Prelude.{◌≡◌, ◌↔◌, IsTrue};
-ghost use Rattle.hip_names.specs.Components.{component_order, components, path_order};
+ghost use Rattle.std.specs.Path.{path_join};
+ghost use Rattle.std.specs.Prelude.{◌≡◌, ◌<◌, ◌++◌, ◌↔◌, IsTrue, false, length};
+ghost use Rattle.hip_names.specs.Components.{component_order, components, names, path_order};
+ghost use Rattle.hip_names.specs.PathParts.{has_root};
 ghost use Rattle.hip_names.specs.Shown.{shown};
 
 use crate::component::Component;
@@ -39,3 +41,10 @@ pub fn order_of_components(left: Component<'_>, right: Component<'_>) -> Orderin
 {
     left.cmp(&right)
 }
+
+/// Where a path that isn't absolute is joined to one that isn't empty, its names stand behind the components of that.
+#[tactic(auto, using(crate::proofs::Joins::joins))]
+pub fn join_by_components(base: &[u8], path: &[u8])
+    ensures { 0 < length base.now → has_root path.now ≡ false
+        → components (path_join base.now path.now) ≡ components base.now ++ names path.now }
+{}
