@@ -1,6 +1,6 @@
 //! `hip_tools TOOL ..` reads a text from standard input and writes what the tool makes of it; [`tool::USAGE`] lists the tools.
 //!
-//! The work is in [`hip_uses::tools`], which is generic in the reader and the writer. Here are the arguments, the seed of the hashers, the
+//! The work is in [`hip_uses::tools`], which is generic in the reader and the writer. Here are the arguments, what hashers are seeded with, the
 //! buffer of the output, and the exit status.
 #![tactic(auto)]
 
