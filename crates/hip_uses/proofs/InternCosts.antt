@@ -1,16 +1,11 @@
 -- What interning copies.
-use Rattle.std.proofs.Common.{◌≡◌, ℕ, ◌+◌, ◌*◌, ◌<◌, ◌≤◌, Bool, List, [], ◌∷◌, Option, None, Some, length, arith, slice_range, refl, ap, subst}
+use Rattle.std.proofs.Common.{◌≡◌, ℕ, ◌+◌, ◌<◌, ◌≤◌, Bool, List, ◌∷◌, arith, slice_range, ap}
 use Rattle.std.proofs.lemmas.Grind.{common_steps}
-use Rattle.hipstr.specs.Cost.{clone_cost, cut_cost}
-use Rattle.hipstr.specs.Handle.{Handle}
-use Rattle.hipstr.specs.Made.{IsPart}
-use Rattle.hipstr.specs.Kinds.{cut_kind}
 use Rattle.hipstr.specs.Meter.{RisesAtMost}
 use Rattle.hipstr.specs.Occurrence.{IsCut}
 use Rattle.hipstr.specs.declared.Kind.{Kind}
-use Rattle.hipstr.specs.declared.Kind.TheVariants.{Inline, Borrowed, Allocated}
-use Rattle.hip_uses.specs.Interning.{new_cost, word_cost, words_cost}
-use Rattle.hip_uses.specs.Number.{interned, number_of}
+use Rattle.hip_uses.specs.Interning.{word_cost, words_cost}
+use Rattle.hip_uses.specs.Number.{interned}
 use Rattle.hip_uses.specs.Words.{filled_parts}
 
 -- the first of the ranges that are left

@@ -1,5 +1,5 @@
 -- What a template's parts copy.
-use Rattle.std.proofs.Common.{◌≡◌, ◌∙◌, ℕ, ◌+◌, ◌-◌, ◌≤◌, Bool, List, [], ◌∷◌, ◌++◌, length, ap, sym, refl, subst, arith, flat_map, slice_range}
+use Rattle.std.proofs.Common.{◌≡◌, ◌∙◌, ℕ, ◌+◌, ◌-◌, ◌≤◌, Bool, List, [], ◌∷◌, ◌++◌, length, ap, sym, subst, arith, flat_map, slice_range}
 use Rattle.std.proofs.lemmas.List.{flat_map_more}
 use Rattle.hip_fields.specs.Records.{Texts, fields_cost}
 use Rattle.hipstr.specs.Cost.{cut_cost}

@@ -1,5 +1,5 @@
 use Rattle.std.proofs.Common.{◌≡◌, ◌+◌, length, vec_len, All}
-use Rattle.hip_uses.specs.Waiting.{Message, message_of, with_message}
+use Rattle.hip_uses.specs.Waiting.{message_of, with_message}
 use Rattle.hip_uses.proofs.Published.{AreChanged}
 use Rattle.hip_uses.proofs.queue.publish_metered.Given as goal
 

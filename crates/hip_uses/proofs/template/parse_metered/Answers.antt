@@ -1,6 +1,6 @@
-use Rattle.std.proofs.Common.{◌∙◌, arith, refl, drop}
+use Rattle.std.proofs.Common.{refl}
 use Rattle.hip_uses.proofs.Holes.{end-is}
-use Rattle.hip_uses.proofs.TemplateCosts.{own-part, rest-cost}
+use Rattle.hip_uses.proofs.TemplateCosts.{rest-cost}
 use Rattle.hip_uses.proofs.template.parse_metered.Goals as goal
 
 pub returns-clause-parsed : goal.returns-clause-parsed

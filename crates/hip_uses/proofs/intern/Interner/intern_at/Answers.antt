@@ -1,4 +1,4 @@
-use Rattle.std.proofs.Common.{ℕ, ◌∙◌, ◌+◌, List, refl, subst, arith}
+use Rattle.std.proofs.Common.{ℕ, ◌∙◌, List, refl, subst, arith}
 use Rattle.hipstr.specs.Occurrence.{IsCut}
 use Rattle.hip_uses.proofs.InternCosts.{costs-on}
 use Rattle.hip_uses.proofs.Words.{kept-interned, walked-none, walked-on, walked-some}
