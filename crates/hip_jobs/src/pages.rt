@@ -1,7 +1,7 @@
 //! Templates are filled, and what comes out goes to subscribers, fast ones and slow ones.
 use crate::digest::Digest;
 use crate::made::{CYRILLIC, LATIN, Numbers, drawn, push_letters, push_word};
-use hip_uses::queue::{Queue, publish};
+use hip_uses::queue::{Queue, publish_metered};
 use hip_uses::template::{Template, Values, fill, parse};
 use hipstr::bytes::HipByt;
 use hipstr::string::HipStr;
@@ -209,11 +209,11 @@ fn send<'s>(
     digest: &mut Digest,
 ) -> Option<()> {
     let mut meter = Meter::new();
-    if publish(alloc, queues, message, &mut meter).is_err() {
+    if publish_metered(alloc, queues, message, &mut meter).is_err() {
         for queue in queues.iter_mut() {
             receive_all(queue, digest);
         }
-        publish(alloc, queues, message, &mut meter).ok()?;
+        publish_metered(alloc, queues, message, &mut meter).ok()?;
     }
     digest.number(u64::try_from(meter.copied()).ok()?);
     for (place, queue) in queues.iter_mut().enumerate() {

@@ -1,7 +1,7 @@
 //! Sources are cut into tokens.
 use crate::digest::Digest;
 use crate::made::{CYRILLIC, LATIN, Numbers, push_letters, push_word, text_of};
-use hip_uses::tokens::tokens;
+use hip_uses::tokens::tokens_metered;
 use hipstr::string::HipStr;
 use hipstr::{Meter, Rc};
 use std::alloc::{AllocError, Global};
@@ -70,7 +70,7 @@ pub(crate) fn cut(
 fn cut_one(alloc: Global, source: String, digest: &mut Digest) -> Option<()> {
     let source = HipStr::<Rc>::from_string(alloc, source).ok()?;
     let mut meter = Meter::new();
-    for token in &tokens(alloc, &source, &mut meter).ok()? {
+    for token in &tokens_metered(alloc, &source, &mut meter).ok()? {
         digest.number(token.start as u64);
         digest.number(token.class as u64);
         digest.ends(token.text.as_bytes());

@@ -1,5 +1,5 @@
 -- The cells of a column, one after another.
-use Rattle.std.proofs.Common.{◌≡◌, ◌∙◌, ℕ, ◌+◌, ◌<◌, List, [], ◌∷◌, ◌++◌, Option, None, Some, length, take, get_or, map, ap, sym, subst, arith, flat_map, slice_get, slice_index_or, IsUtf8}
+use Rattle.std.proofs.Common.{◌≡◌, ◌∙◌, ℕ, ◌+◌, ◌<◌, List, [], ◌∷◌, ◌++◌, Option, Some, length, take, ap, sym, subst, arith, slice_get, slice_index_or, IsUtf8}
 use Rattle.std.proofs.lemmas.List.{flat_map_more, take_more}
 use Rattle.std.proofs.lemmas.Option.{gets}
 use Rattle.std.specs.Io.KnownBytes.{Appends}

@@ -1,8 +1,8 @@
 -- How often each of the different words of a text comes.
-use Rattle.std.proofs.Common.{◌≡◌, ◌∙◌, ℕ, zero, suc, ◌+◌, ◌-◌, ◌<◌, ◌≤◌, ◌==◌, ◌&&◌, ◌||◌, nat_eq, nat_lt, Bool, true, false, List, [], ◌∷◌, ◌++◌, Option, None, Some, length, take, get_or, map, ap, sym, refl, subst, arith, All, slice_get, if◌then◌else◌, ◌^◌, IsUtf8}
+use Rattle.std.proofs.Common.{◌≡◌, ◌∙◌, ℕ, zero, suc, ◌+◌, ◌<◌, ◌≤◌, ◌==◌, nat_eq, Bool, false, List, [], ◌∷◌, ◌++◌, Option, Some, length, take, get_or, map, ap, sym, refl, subst, arith, All, if◌then◌else◌, ◌^◌, IsUtf8}
 use Rattle.std.proofs.lemmas.Grind.{common_steps}
 use Rattle.std.proofs.lemmas.List.{flat_map_more, get_or-map, length-map, map-append, map_more, same_lists}
-use Rattle.std.proofs.lemmas.List.Elements.{All-cons, All-nil, All-tail}
+use Rattle.std.proofs.lemmas.List.Elements.{All-cons, All-nil}
 use Rattle.std.proofs.lemmas.List.Sorted.{All-permutation, IsPermutation-map}
 use Rattle.std.proofs.lemmas.List.Sums.{sum_by-cons}
 use Rattle.std.proofs.lemmas.Option.{gets}
@@ -13,7 +13,7 @@ use Rattle.std.specs.Io.KnownBytes.{Appends}
 use Rattle.std.specs.declared.cmp.Reverse.{Reverse}
 use Rattle.std.specs.{List.count_by, List.Sorted.IsPermutation, List.Sorted.IsSortedBy}
 use Rattle.hip_uses.specs.Tallies.{count_and_place, named, named_lines, numbered, numbered_from, ranks_first}
-use Rattle.hip_uses.specs.Counts.{AreCountLines, AreCounts, CountFails, comes_first, count_line, count_lines, counted, different, places_rise, stands_first, words_of}
+use Rattle.hip_uses.specs.Counts.{AreCountLines, AreCounts, CountFails, count_line, count_lines, counted, stands_first, words_of}
 use Rattle.hipstr.specs.Handle.{Handle}
 use Rattle.hip_uses.specs.Number.{AreNumbers, SomeInterned, StandOnce, all_interned, interned, number_of, text_bytes}
 use Rattle.hip_uses.specs.Tools.{InputFails, of_intern}

@@ -1,15 +1,13 @@
 -- Holes by their bytes, and their places.
-use Rattle.std.proofs.Common.{◌≡◌, ◌≢◌, ◌∙◌, ℕ, zero, suc, ◌+◌, ◌-◌, ◌<◌, ◌≤◌, List, [], ◌∷◌, ◌++◌, Option, None, Some, length, take, drop, get_or, map, ap, sym, refl, subst, arith, All, IsSome, flat_map, length-append, append_assoc, nat_eq, false}
-use Rattle.std.proofs.lemmas.Grind.{common_steps}
+use Rattle.std.proofs.Common.{◌≡◌, ◌≢◌, ◌∙◌, ℕ, zero, suc, ◌+◌, ◌-◌, ◌<◌, ◌≤◌, List, [], ◌∷◌, ◌++◌, Option, None, length, take, get_or, map, ap, sym, refl, subst, arith, All, IsSome, flat_map, length-append, nat_eq, false}
 use Rattle.std.proofs.lemmas.List.{get_or_default, map-append}
 use Rattle.std.proofs.lemmas.List.Elements.{All-cons, All-nil, All-tail}
-use Rattle.std.proofs.lemmas.List.Folds.{flat_map-map}
 use Rattle.hipstr.specs.Handle.{Handle}
-use Rattle.hipstr.specs.Parted.{IsParted, Lacks}
+use Rattle.hipstr.specs.Parted.{IsParted}
 use Rattle.std.specs.Cmp.Lexicographic.{pointwise}
 use Rattle.std.proofs.lemmas.Slice.Eq.{bytes_eq-Decides}
 use Rattle.hip_uses.specs.Filled.{AllFilled, IsFilled, IsPlaceOf, IsUnclosedAt, IsUnknownAt}
-use Rattle.hip_uses.specs.Template.{AllKnown, AreHoles, CutsHoles, FillFails, HoleBytes, ParseFails, IsHole, IsParsed, bytes_filled, bytes_written, closing, filled, hole_bytes, hole_written, opening, value_of, written}
+use Rattle.hip_uses.specs.Template.{AllKnown, AreHoles, FillFails, HoleBytes, ParseFails, IsParsed, bytes_filled, bytes_written, closing, filled, hole_bytes, hole_written, opening, value_of, written}
 use Rattle.hip_uses.specs.Tools.{line_at}
 use Rattle.hip_uses.specs.declared.template.Hole.{Hole}
 use Rattle.hip_uses.specs.declared.fault.TemplateFault.TheVariants.{Unclosed, Unknown}

@@ -1,11 +1,10 @@
 -- Where the different words of a text first come.
-use Rattle.std.proofs.Common.{◌≡◌, ◌∙◌, ℕ, ◌+◌, ◌-◌, ◌<◌, ◌≤◌, nat_eq, nat_lt, Bool, true, false, List, [], ◌∷◌, ◌++◌, Option, None, Some, length, get_or, ap, sym, refl, subst, arith, append_assoc, if◌then◌else◌}
+use Rattle.std.proofs.Common.{◌≡◌, ℕ, ◌+◌, ◌-◌, ◌<◌, ◌≤◌, nat_lt, true, List, [], ◌∷◌, ◌++◌, Option, None, Some, length, get_or, refl, subst, arith, append_assoc}
 use Rattle.std.proofs.lemmas.Grind.{common_steps}
 use Rattle.std.proofs.lemmas.List.{append-nil}
 use Rattle.std.proofs.lemmas.Slice.Eq.{bytes_eq-Decides}
 use Rattle.std.proofs.lemmas.Bool.Decides.{nat_tests}
 use Rattle.std.proofs.Math.ListN.{get_or-append}
-use Rattle.std.specs.Cmp.Lexicographic.{pointwise}
 use Rattle.hip_uses.specs.Counts.{places_rise}
 use Rattle.hip_uses.specs.Number.{StandOnce, all_interned, interned, number_from, number_of}
 use Rattle.hip_uses.proofs.Interned.{StandOnce-push, number_from-push}

@@ -4,6 +4,7 @@ pub mod Counting
 pub mod Filling
 pub mod Firsts
 pub mod Holes
+pub mod InternCosts
 pub mod Interned
 pub mod Packing
 pub mod Published
@@ -11,6 +12,7 @@ pub mod Quotes
 pub mod Ranks
 pub mod Runs
 pub mod Tables
+pub mod TemplateCosts
 pub mod Templates
 pub mod TokenLines
 pub mod ToolLaws

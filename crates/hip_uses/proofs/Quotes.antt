@@ -1,7 +1,7 @@
 -- Characters that are shown one after another.
-use Rattle.std.proofs.Common.{◌≡◌, ◌∙◌, ◌⊎◌, ℕ, ◌+◌, suc, ◌<◌, ◌≤◌, List, [], ◌∷◌, ◌++◌, Option, Some, None, ap, sym, refl, arith, append_assoc, true, map, codes, subst, flat_map, if◌then◌else◌, ◌==◌, ◌||◌, nat_lt, false}
-use Rattle.std.specs.{Char.encode_utf8, Char.is_ascii, Fmt.debug_escape, Fmt.debug_escape_letter, Fmt.debug_str, Fmt.digits, Io.KnownBytes.Appends, List.list_all, Str.chars, Str.IsAscii}
-use Rattle.hip_uses.specs.Shown.{AreShown, IsQuoted, IsShown, shown_code}
+use Rattle.std.proofs.Common.{◌≡◌, ◌∙◌, ℕ, suc, List, [], ◌∷◌, ◌++◌, Some, ap, sym, refl, arith, append_assoc, true, map, subst, flat_map, if◌then◌else◌, ◌==◌, ◌||◌, nat_lt, false}
+use Rattle.std.specs.{Char.is_ascii, Fmt.debug_escape, Fmt.debug_escape_letter, Fmt.debug_str, Fmt.digits, List.list_all, Str.IsAscii}
+use Rattle.hip_uses.specs.Shown.{AreShown, IsQuoted, IsShown}
 use Rattle.std.proofs.lemmas.List.{append-nil, map-id}
 use Rattle.std.proofs.lemmas.Bool.Decides.{nat_tests}
 use Rattle.std.proofs.lemmas.Str.{chars-IsAscii}

@@ -4,7 +4,7 @@ use Rattle.std.proofs.lemmas.List.{append-nil, map_more}
 use Rattle.std.specs.Io.KnownBytes.{Appends}
 use Rattle.std.proofs.lemmas.List.Elements.{All-tail}
 use Rattle.hipstr.specs.Handle.{Handle}
-use Rattle.hip_uses.specs.Listed.{AreRuns, IsRun, IsTokenLine, PrintedAs, run_of}
+use Rattle.hip_uses.specs.Listed.{AreRuns, IsTokenLine, PrintedAs, run_of}
 use Rattle.hip_uses.proofs.Appended.{appends-then}
 use Rattle.hip_uses.specs.Token.{AreAdjacent, IsTokenOf}
 use Rattle.hip_uses.specs.declared.tokens.Token.{Token}

@@ -1,5 +1,5 @@
 -- The words of a text, and how often each comes.
-use Rattle.std.specs.Prelude.{◌≡◌, ℕ, ◌≤◌, ◌^◌, ◌==◌, ◌&&◌, ◌||◌, nat_eq, nat_lt, Bool, false, List, [], ◌++◌, ◌∷◌, Option, None, Some, IsPermutation, IsSortedBy, codes, decimal, length, map}
+use Rattle.std.specs.Prelude.{◌≡◌, ℕ, ◌≤◌, ◌^◌, ◌==◌, ◌&&◌, ◌||◌, nat_eq, nat_lt, Bool, false, List, [], ◌++◌, Option, None, Some, IsPermutation, IsSortedBy, codes, decimal, length, map}
 use Rattle.std.specs.Cmp.Lexicographic.{pointwise}
 use Rattle.std.specs.List.{count_by, flat_map}
 use Rattle.hipstr.specs.Characters.{char_ends}

@@ -2,6 +2,7 @@ pub mod Cells
 pub mod Column
 pub mod Counts
 pub mod Filled
+pub mod Interning
 pub mod Listed
 pub mod Number
 pub mod Packed

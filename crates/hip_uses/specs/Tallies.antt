@@ -1,5 +1,5 @@
 -- Counts by number. Only private functions cite these.
-use Rattle.std.specs.Prelude.{◌≡◌, ℕ, ◌+◌, ◌==◌, ◌&&◌, ◌||◌, nat_lt, Bool, List, [], ◌∷◌, map, slice_index_or}
+use Rattle.std.specs.Prelude.{ℕ, ◌+◌, ◌==◌, ◌&&◌, ◌||◌, nat_lt, Bool, List, [], ◌∷◌, map, slice_index_or}
 use Rattle.std.specs.declared.cmp.Reverse.{Reverse}
 use Rattle.hip_uses.specs.Counts.{count_lines}
 

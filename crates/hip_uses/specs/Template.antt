@@ -6,8 +6,10 @@ use Rattle.std.specs.Borrow.{Bor}
 use Rattle.std.specs.Option.{option_map_or}
 use Rattle.std.specs.Cmp.Lexicographic.{pointwise}
 use Rattle.hipstr.specs.Handle.{Handle}
+use Rattle.hipstr.specs.Made.{IsPart}
 use Rattle.hipstr.specs.Occurrence.{StartsFirst}
 use Rattle.hipstr.specs.Parted.{IsParted, Lacks}
+use Rattle.hip_fields.specs.Records.{Texts}
 use Rattle.hip_uses.specs.Number.{text_bytes}
 use Rattle.hip_uses.specs.declared.template.Hole.{Hole}
 use Rattle.hip_uses.specs.declared.fault.TemplateFault.{TemplateFault}
@@ -55,6 +57,18 @@ hole_written hole = bytes_written (hole_bytes hole)
 
 abbrev pub written : {B S P : Type 0} → List (Hole B S P) → List ℕ
 written holes = flat_map hole_written holes
+
+-- each of both is the source's part of its bytes: its kind goes by the source's
+pub record AreParts {B S P : Type 0} (source : Handle) (hole : Hole B S P) : Type 0 where
+  pub before : IsPart source hole.before hole.before.items
+  pub name : IsPart source hole.name hole.name.items
+
+-- the bytes of a hole's handles, and of a template's
+abbrev pub hole_texts : {B S P : Type 0} → Hole B S P → Texts
+hole_texts hole = hole.before.items ∷ hole.name.items ∷ []
+
+abbrev pub template_texts : {B S P : Type 0} → List (Hole B S P) → Handle → Texts
+template_texts holes rest = flat_map hole_texts holes ++ rest.items ∷ []
 
 -- the value under a name
 abbrev pub value_of : List (Handle × Handle) → List ℕ → Option Handle

@@ -1,5 +1,5 @@
 -- What a tool writes of a text that it reads, and what it tells where it writes nothing.
-use Rattle.std.specs.Prelude.{◌≡◌, ◌==◌, ℕ, ◌+◌, ◌^◌, ◌≤◌, List, [], ◌∷◌, ◌++◌, length, take, Option, Result, Ok, Err, IsUtf8}
+use Rattle.std.specs.Prelude.{◌≡◌, ◌==◌, ℕ, ◌+◌, List, [], ◌∷◌, ◌++◌, take, Option, Result, Ok, Err, IsUtf8}
 use Rattle.std.specs.Io.KnownBytes.{Appends, Keeps}
 use Rattle.std.specs.List.{count_by}
 use Rattle.std.specs.Str.{IsValidUpTo}
@@ -8,7 +8,7 @@ use Rattle.hip_uses.specs.declared.fault.InternFault.TheVariants.{TooMany, Memor
 use Rattle.hip_uses.specs.declared.fault.TableFault.{TableFault}
 use Rattle.hip_uses.specs.declared.fault.TableFault.TheVariants.{Memory as no_memory}
 use Rattle.hip_uses.specs.declared.fault.ToolFault.{ToolFault}
-use Rattle.hip_uses.specs.declared.fault.ToolFault.TheVariants.{ReadFailed, WriteFailed, Memory, NotUtf8, Unclosed, Unknown, Table, NoColumn, TooManyWords}
+use Rattle.hip_uses.specs.declared.fault.ToolFault.TheVariants.{ReadFailed, WriteFailed, Memory, NotUtf8, Table, TooManyWords}
 
 -- the fault of a table as the tool's
 abbrev pub of_table : TableFault → ToolFault

@@ -2,13 +2,14 @@
 #![tactic(auto, using(crate::proofs::Tables::tables))]
 
 ghost use Rattle.std.specs.Prelude.{◌≡◌, ◌∷◌, All, IfErr, IfOk, MatchOption, length};
-ghost use Rattle.hip_fields.specs.Records.{records_of};
+ghost use Rattle.hip_fields.specs.Records.{records_cost, records_of};
+ghost use Rattle.hipstr.specs.Meter.{RisesAtMost};
 ghost use Rattle.hip_uses.specs.Cells.{HasCell, HasCellAt, HasNoCell, HasNoCellAt, IsFirstAt, IsNoColumn, ReadFails};
 
 pub use crate::fault::TableFault;
 use hip_fields::reader::Records;
-use hipstr::Backend;
 use hipstr::string::HipStr;
+use hipstr::{Backend, Meter};
 use std::alloc::Global;
 use std::marker::Model;
 
@@ -43,12 +44,31 @@ impl<'b, B: Backend> Table<'b, B> {
             All (λ row. length row ≡ length table.header) table.rows) }
         ensures fault { IfErr result (ReadFails (records_of separator source.now.items)) }
     {
+        Table::read_metered(alloc, source, separator, &mut Meter::new())
+    }
+
+    /// [`Table::read`], counted. Where owners are shared, each field copies at most the 23 bytes that a handle holds in itself, and none of
+    /// a borrowed source.
+    pub fn read_metered(
+        alloc: Global,
+        source: &HipStr<'b, B>,
+        separator: char,
+        meter: &mut Meter,
+    ) -> Result<Self, TableFault>
+        ensures read { IfOk result (λ table.
+            table.header ∷ table.rows ≡ records_of separator source.now.items) }
+        ensures even { IfOk result (λ table.
+            All (λ row. length row ≡ length table.header) table.rows) }
+        ensures fault { IfErr result (ReadFails (records_of separator source.now.items)) }
+        ensures counted { RisesAtMost meter.old meter.new
+            (records_cost B.SHARES source.now.kind (records_of separator source.now.items)) }
+    {
         let mut records = Records::new(source, separator);
-        let Some(header) = records.next_record(alloc) else {
+        let Some(header) = records.next_record_metered(alloc, meter) else {
             return Err(TableFault::Empty);
         };
         let header = header?;
-        let rows = records.collect(alloc)?;
+        let rows = records.collect_metered(alloc, meter)?;
         for (i, row) in rows.iter().enumerate() {
             if row.len() != header.len() {
                 return Err(TableFault::Ragged(i + 2));

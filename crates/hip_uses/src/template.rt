@@ -1,14 +1,17 @@
 //! Templates: `{{name}}` in a text stands for what goes under that name.
-ghost use Rattle.std.specs.Prelude.{◌≡◌, ◌++◌, IfErr, IfOk};
-ghost use Rattle.hip_uses.specs.Template.{IsParsed, ParseFails, written};
+ghost use Rattle.std.specs.Prelude.{◌≡◌, ◌++◌, All, IfErr, IfOk};
+ghost use Rattle.hip_fields.specs.Records.{fields_cost};
+ghost use Rattle.hipstr.specs.Made.{IsPart};
+ghost use Rattle.hipstr.specs.Meter.{RisesAtMost};
+ghost use Rattle.hip_uses.specs.Template.{AreParts, IsParsed, ParseFails, template_texts, written};
 
 pub use crate::fault::TemplateFault;
-pub use crate::template::filling::fill;
-use crate::template::holes::{holes_of, last_part};
+pub use crate::template::filling::{fill, fill_metered};
+use crate::template::holes::{holes_of, part};
 use crate::template::names::earlier_places;
 pub use crate::template::values::Values;
-use hipstr::Backend;
 use hipstr::string::HipStr;
+use hipstr::{Backend, Meter};
 use std::alloc::{AllocError, Global};
 
 mod filling;
@@ -61,9 +64,31 @@ pub fn parse<'b, B: Backend>(
         IsParsed template.now.items parsed.holes.items parsed.rest.items) }
     ensures written { IfOk result (λ parsed.
         written parsed.holes.items ++ parsed.rest.items ≡ template.now.items) }
+    ensures holes { IfOk result (λ parsed. All (AreParts template.now) parsed.holes.items) }
+    ensures rest { IfOk result (λ parsed. IsPart template.now parsed.rest parsed.rest.items) }
     ensures fault { IfErr result (ParseFails template.now.items) }
 {
-    let (holes, end) = holes_of(alloc, template)?;
-    let rest = last_part(alloc, template, end, holes.is_empty())?;
+    parse_metered(alloc, template, &mut Meter::new())
+}
+
+/// [`parse`], counted. Where owners are shared, each part copies at most the 23 bytes that a handle holds in itself, and none of a
+/// borrowed template.
+pub fn parse_metered<'b, B: Backend>(
+    alloc: Global,
+    template: &HipStr<'b, B>,
+    meter: &mut Meter,
+) -> Result<Template<'b, B>, TemplateFault<'b, B>>
+    ensures parsed { IfOk result (λ parsed.
+        IsParsed template.now.items parsed.holes.items parsed.rest.items) }
+    ensures written { IfOk result (λ parsed.
+        written parsed.holes.items ++ parsed.rest.items ≡ template.now.items) }
+    ensures holes { IfOk result (λ parsed. All (AreParts template.now) parsed.holes.items) }
+    ensures rest { IfOk result (λ parsed. IsPart template.now parsed.rest parsed.rest.items) }
+    ensures counted { IfOk result (λ parsed. RisesAtMost meter.old meter.new
+        (fields_cost B.SHARES template.now.kind (template_texts parsed.holes.items parsed.rest))) }
+    ensures fault { IfErr result (ParseFails template.now.items) }
+{
+    let (holes, end) = holes_of(alloc, template, meter)?;
+    let rest = part(alloc, template, end, template.len(), meter)?;
     Ok(Template::new(alloc, holes, rest)?)
 }

@@ -97,8 +97,20 @@ fn next_end(text: &str, start: usize, class: Class, turns: &mut Turns) -> usize
     }
 }
 
-/// The tokens of a source. Where owners are shared, each copies at most the 23 bytes that a handle holds in itself.
+/// The tokens of a source.
 pub fn tokens<'b, B: Backend>(
+    alloc: Global,
+    source: &HipStr<'b, B>,
+) -> Result<Vec<Token<'b, B>>, AllocError>
+    ensures joined { IfOk result (λ tokens. flat_map token_bytes tokens.items ≡ source.now.items) }
+    ensures each { IfOk result (λ tokens. All (IsTokenOf source.now) tokens.items) }
+    ensures places { IfOk result (λ tokens. AreAdjacent 0 tokens.items (length source.now.items)) }
+{
+    tokens_metered(alloc, source, &mut Meter::new())
+}
+
+/// [`tokens`], counted. Where owners are shared, each copies at most the 23 bytes that a handle holds in itself.
+pub fn tokens_metered<'b, B: Backend>(
     alloc: Global,
     source: &HipStr<'b, B>,
     meter: &mut Meter,

@@ -1,9 +1,11 @@
 //! Texts that get numbers.
 #![tactic(auto, using(crate::proofs::Interned::pushes))]
 
-ghost use Rattle.std.specs.Prelude.{◌≡◌, ◌≤◌, ◌^◌, [], ◌∷◌, ◌++◌, length, true, None, Some, IfOk, IsErrOf, IsOk, IsSome, OnErr, OnOk, slice_range};
+ghost use Rattle.std.specs.Prelude.{◌≡◌, ◌≤◌, ◌^◌, [], ◌∷◌, ◌++◌, length, None, Some, IfOk, IsErrOf, IsOk, IsSome, OnErr, OnOk, slice_range};
 ghost use Rattle.hipstr.specs.Occurrence.{IsCut};
+ghost use Rattle.hipstr.specs.Cost.{clone_cost};
 ghost use Rattle.hipstr.specs.Meter.{RisesAtMost};
+ghost use Rattle.hip_uses.specs.Interning.{interned_cost, word_cost};
 ghost use Rattle.hip_uses.specs.Number.{interned, number_of};
 ghost use Rattle.hip_uses.specs.declared.fault.InternFault.TheVariants.{TooMany};
 
@@ -27,7 +29,8 @@ impl<'b, B: Backend, S: BuildHasher> Interner<'b, B, S> {
         requires next { number ≡ length self.now }
         ensures added { OnOk result (self.new ≡ self.old ++ text.entry.items ∷ []) }
         ensures refused { OnErr result (self.new ≡ self.old) }
-        ensures shared { B.SHARES ≡ true → RisesAtMost meter.old meter.new 23 }
+        ensures counted { RisesAtMost meter.old meter.new
+            (clone_cost B.SHARES text.entry.kind (length text.entry.items)) }
     {
         let key = text.clone_metered(alloc, meter)?;
         self.texts.reserve(1)?;
@@ -37,8 +40,20 @@ impl<'b, B: Backend, S: BuildHasher> Interner<'b, B, S> {
     }
 
     /// The number of a text, which gets the next one where it has none.
-    /// Where owners are shared, at most the 23 bytes are copied that a handle holds in itself.
-    pub fn intern(
+    pub fn intern(&mut self, alloc: Global, text: HipStr<'b, B>) -> Result<u32, InternFault>
+        ensures number { IfOk result (λ number.
+            number_of text.entry.items self.new ≡ Some number) }
+        ensures texts { OnOk result (self.new ≡ interned self.old text.entry.items) }
+        ensures refused { OnErr result (self.new ≡ self.old) }
+        ensures known { IsSome (number_of text.entry.items self.old) → IsOk result }
+        ensures too_many { IsErrOf result TooMany → 2 ^ 32 ≤ length self.old }
+    {
+        self.intern_metered(alloc, text, &mut Meter::new())
+    }
+
+    /// [`Interner::intern`], counted. A new text is cloned once: where owners are shared, at most the 23 bytes are copied that a handle
+    /// holds in itself.
+    pub fn intern_metered(
         &mut self,
         alloc: Global,
         text: HipStr<'b, B>,
@@ -50,7 +65,8 @@ impl<'b, B: Backend, S: BuildHasher> Interner<'b, B, S> {
         ensures refused { OnErr result (self.new ≡ self.old) }
         ensures known { IsSome (number_of text.entry.items self.old) → IsOk result }
         ensures too_many { IsErrOf result TooMany → 2 ^ 32 ≤ length self.old }
-        ensures shared { B.SHARES ≡ true → RisesAtMost meter.old meter.new 23 }
+        ensures counted { RisesAtMost meter.old meter.new
+            (interned_cost B.SHARES text.entry self.old) }
     {
         if let Some(number) = self.find(&text) {
             return Ok(number);
@@ -71,7 +87,8 @@ impl<'b, B: Backend, S: BuildHasher> Interner<'b, B, S> {
         ensures texts { OnOk result (self.new ≡ self.old ++ text.entry.items ∷ []) }
         ensures refused { OnErr result (self.new ≡ self.old) }
         ensures too_many { IsErrOf result TooMany → 2 ^ 32 ≤ length self.old }
-        ensures shared { B.SHARES ≡ true → RisesAtMost meter.old meter.new 23 }
+        ensures counted { RisesAtMost meter.old meter.new
+            (clone_cost B.SHARES text.entry.kind (length text.entry.items)) }
     {
         let Ok(number) = u32::try_from(self.len()) else {
             return Err(InternFault::TooMany);
@@ -87,6 +104,7 @@ impl<'b, B: Backend, S: BuildHasher> Interner<'b, B, S> {
         text: &HipStr<'b, B>,
         start: usize,
         end: usize,
+        meter: &mut Meter,
     ) -> Result<u32, InternFault>
         requires { IsCut text.now.items (start, end) }
         ensures number { IfOk result (λ number.
@@ -95,12 +113,13 @@ impl<'b, B: Backend, S: BuildHasher> Interner<'b, B, S> {
             (self.new ≡ interned self.old (slice_range text.now.items start end)) }
         ensures refused { OnErr result (self.new ≡ self.old) }
         ensures too_many { IsErrOf result TooMany → 2 ^ 32 ≤ length self.old }
+        ensures counted { RisesAtMost meter.old meter.new
+            (word_cost B.SHARES text.now.kind self.old (slice_range text.now.items start end)) }
     {
         if let Some(number) = self.number_of(&text.as_str()[start..end]) {
             return Ok(number);
         }
-        let mut meter = Meter::new();
-        let part = text.part_metered(alloc, start, end, &mut meter)?;
-        self.intern_new(alloc, part, &mut meter)
+        let part = text.part_metered(alloc, start, end, meter)?;
+        self.intern_new(alloc, part, meter)
     }
 }

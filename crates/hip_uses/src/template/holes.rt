@@ -1,8 +1,13 @@
 //! The holes of a template, found by its braces.
-ghost use Rattle.std.specs.Prelude.{◌≡◌, ◌<◌, ◌≤◌, ◌∷◌, [], ◌++◌, IfErr, IfOk, IsTrue, MatchBool, drop, length, slice_range};
+ghost use Rattle.std.specs.Prelude.{◌≡◌, ◌<◌, ◌≤◌, ◌∷◌, [], ◌++◌, ◌-◌, All, IfErr, IfOk, IsTrue, MatchBool, drop, length, slice_range};
 ghost use Rattle.std.specs.Str.{IsCharBoundary};
+ghost use Rattle.std.specs.List.{flat_map};
+ghost use Rattle.hip_fields.specs.Records.{fields_cost};
+ghost use Rattle.hipstr.specs.Cost.{cut_cost};
+ghost use Rattle.hipstr.specs.Made.{IsPart};
+ghost use Rattle.hipstr.specs.Meter.{RisesAtMost};
 ghost use Rattle.hipstr.specs.Texts.{text_ends};
-ghost use Rattle.hip_uses.specs.Template.{HasByte, IsNextPair, IsNextStart, IsParsed, ParseFails, written};
+ghost use Rattle.hip_uses.specs.Template.{AreParts, HasByte, IsNextPair, IsNextStart, IsParsed, ParseFails, hole_texts, written};
 
 use crate::fault::TemplateFault;
 use crate::template::Hole;
@@ -48,36 +53,23 @@ fn next_pair(text: &str, brace: u8, two: &str, from: usize) -> Option<usize>
 
 /// The part of a template between two boundaries.
 #[inline]
-fn part<'b, B: Backend>(
+pub(crate) fn part<'b, B: Backend>(
     alloc: Global,
     template: &HipStr<'b, B>,
     start: usize,
     end: usize,
+    meter: &mut Meter,
 ) -> Result<HipStr<'b, B>, AllocError>
     requires ordered { start ≤ end }
     requires in_bounds { end ≤ length template.now.items }
     requires start_at_boundary { IsCharBoundary template.now.items start }
     requires end_at_boundary { IsCharBoundary template.now.items end }
-    ensures { IfOk result (λ made. made.items ≡ slice_range template.now.items start end) }
+    ensures part { IfOk result (λ made.
+        IsPart template.now made (slice_range template.now.items start end)) }
+    ensures counted { RisesAtMost meter.old meter.new
+        (cut_cost B.SHARES template.now.kind (end - start)) }
 {
-    template.part_metered(alloc, start, end, &mut Meter::new())
-}
-
-/// The text behind the last hole: the template's end, or all of it where there is no hole.
-pub(crate) fn last_part<'b, B: Backend>(
-    alloc: Global,
-    template: &HipStr<'b, B>,
-    start: usize,
-    is_whole: bool,
-) -> Result<HipStr<'b, B>, AllocError>
-    requires boundary { IsCharBoundary template.now.items start }
-    requires whole { IsTrue is_whole → drop start template.now.items ≡ template.now.items }
-    ensures { IfOk result (λ made. made.items ≡ drop start template.now.items) }
-{
-    if is_whole {
-        return template.clone(alloc);
-    }
-    part(alloc, template, start, template.len())
+    template.part_metered(alloc, start, end, meter)
 }
 
 /// The holes of a template, the leftmost first, and where the last one ends. Each search goes on where the last one ended, so the template
@@ -85,12 +77,16 @@ pub(crate) fn last_part<'b, B: Backend>(
 pub(crate) fn holes_of<'b, B: Backend>(
     alloc: Global,
     template: &HipStr<'b, B>,
+    meter: &mut Meter,
 ) -> Result<(Vec<Hole<'b, B>>, usize), TemplateFault<'b, B>>
     ensures boundary { IfOk result (λ found. IsCharBoundary template.now.items found.1) }
     ensures parsed { IfOk result (λ found.
         IsParsed template.now.items found.0.items (drop found.1 template.now.items)) }
     ensures written { IfOk result (λ found.
         written found.0.items ++ drop found.1 template.now.items ≡ template.now.items) }
+    ensures parts { IfOk result (λ found. All (AreParts template.now) found.0.items) }
+    ensures counted { IfOk result (λ found. RisesAtMost meter.old meter.new
+        (fields_cost B.SHARES template.now.kind (flat_map hole_texts found.0.items))) }
     ensures fault { IfErr result (ParseFails template.now.items) }
 {
     let text = template.as_str();
@@ -99,12 +95,12 @@ pub(crate) fn holes_of<'b, B: Backend>(
     while let Some(open) = next_pair(text, b'{', "{{", from) {
         let name = open + 2;
         let Some(close) = next_pair(text, b'}', "}}", name) else {
-            let behind = part(alloc, template, name, text.len())?;
+            let behind = part(alloc, template, name, text.len(), meter)?;
             return Err(TemplateFault::Unclosed(behind));
         };
         holes.push(Hole {
-            before: part(alloc, template, from, open)?,
-            name: part(alloc, template, name, close)?,
+            before: part(alloc, template, from, open, meter)?,
+            name: part(alloc, template, name, close, meter)?,
         })?;
         from = close + 2;
     }

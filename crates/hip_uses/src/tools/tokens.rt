@@ -10,8 +10,8 @@ use crate::tokens::{Class, Token, tokens};
 use crate::tools::input::read_text;
 use crate::tools::print::{print_place, write};
 use crate::tools::quoted::print_quoted;
+use hipstr::Backend;
 use hipstr::string::HipStr;
-use hipstr::{Backend, Meter};
 use std::alloc::Global;
 use std::io::{Read, Write};
 
@@ -45,7 +45,7 @@ fn write_tokens_of<B: Backend, W: Write>(
     ensures nothing { IfErr result (λ fault.
         WritesNothing fault (W.contents out.old) (W.contents out.new)) }
 {
-    let tokens = tokens(alloc, text, &mut Meter::new())?;
+    let tokens = tokens(alloc, text)?;
     print_tokens(out, tokens.as_slice())?;
     Ok(())
 }

@@ -2,7 +2,7 @@
 use super::super::support::must_hold;
 use hip_uses::intern::{InternFault, Interner};
 use hipstr::string::HipStr;
-use hipstr::{Backend, Meter, Rc, Unique};
+use hipstr::{Backend, Rc, Unique};
 use std::alloc::Global;
 use std::process::Abort;
 
@@ -39,7 +39,7 @@ fn number_of<B: Backend>(
     interner: &mut Interner<'static, B>,
     word: &'static str,
 ) -> Result<u32, InternFault> {
-    interner.intern(alloc, HipStr::borrowed(word), &mut Meter::new())
+    interner.intern(alloc, HipStr::borrowed(word))
 }
 
 /// Whether an owned text of the word has this number, and the number that word.

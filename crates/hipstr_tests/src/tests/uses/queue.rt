@@ -2,7 +2,7 @@
 use super::support::prints;
 use hip_uses::queue::{PublishFault, Queue, publish};
 use hipstr::bytes::HipByt;
-use hipstr::{Backend, Meter, Rc, Unique};
+use hipstr::{Backend, Rc, Unique};
 use std::alloc::{AllocError, Global};
 
 const ROWS: [(&str, &str); 5] = [
@@ -46,7 +46,7 @@ fn step<B: Backend>(
         return received(alloc, queue);
     }
     let message = message::<B>(alloc, step)?;
-    told(alloc, publish(alloc, queues, &message, &mut Meter::new()))
+    told(alloc, publish(alloc, queues, &message))
 }
 
 fn shown<B: Backend>(alloc: Global, steps: &str) -> Result<String, AllocError> {

@@ -2,7 +2,7 @@
 use super::support::prints;
 use hip_uses::tokens::tokens;
 use hipstr::string::HipStr;
-use hipstr::{Backend, Meter, Rc, Unique};
+use hipstr::{Backend, Rc, Unique};
 use std::alloc::{AllocError, Global};
 
 const ROWS: [(&str, &str); 5] = [
@@ -22,7 +22,7 @@ const ROWS: [(&str, &str); 5] = [
 fn shown<B: Backend>(alloc: Global, text: &str) -> Result<String, AllocError> {
     let mut printed = String::new(alloc);
     let source = HipStr::<B>::from_str(alloc, text)?;
-    for token in &tokens(alloc, &source, &mut Meter::new())? {
+    for token in &tokens(alloc, &source)? {
         write!(
             printed,
             "{} {:?} {:?}\n",

@@ -8,6 +8,7 @@ loop-place-preserved g c = record {
   pieces = woven-more c.args.values.now c.deref-hole-items.result.now c.loop-place.place c.hole-item.result c.as_str.result c.in-Some-value_of.value c.loop-place.pieces.items c.push_reserved.new.self.items c.push_reserved-in-loop-place.new.self.items
       (omega arith) c.hole-item.is c.as_str.ensures.items c.in-Some-value_of.ensures c.loop-place.invariant.pieces c.push_reserved.ensures.items c.push_reserved-in-loop-place.ensures.items;
   counted = omega arith;
+  meter = c.loop-place.invariant.meter;
   room = omega arith;
 }
 

@@ -7,5 +7,6 @@ invariant-loop-place g l = record {
   known : AllKnown l.values (take l.place l.hole-items);
   pieces : all_shown l.pieces.items ≡ woven l.values (take l.place l.hole-items);
   counted : vec_len l.pieces ≡ 2 * l.place;
+  meter : l.meter ≡ l.fn.meter;
   room : 2 * length l.hole-items ≤ vec_capacity l.pieces;
 }

@@ -1,6 +1,3 @@
-use Rattle.std.proofs.Common.{ap, subst}
-use Rattle.std.specs.Io.KnownBytes.{Appends}
-use Rattle.hip_uses.specs.Tools.{as_line}
 use Rattle.hip_uses.proofs.Columns.{cells-next}
 use Rattle.hip_uses.proofs.tools.column.print_cells.Goals as goal
 

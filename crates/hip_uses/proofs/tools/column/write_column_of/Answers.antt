@@ -1,4 +1,4 @@
-use Rattle.hip_uses.proofs.Columns.{column-within, table-fails}
+use Rattle.hip_uses.proofs.Columns.{column-within}
 use Rattle.hip_uses.proofs.tools.column.write_column_of.Goals as goal
 
 pub print_cells-requires : goal.print_cells-requires

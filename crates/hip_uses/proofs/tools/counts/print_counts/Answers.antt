@@ -1,4 +1,4 @@
-use Rattle.std.proofs.Common.{◌∙◌, ◌<◌, length, map, get_or, arith, ap, subst, sym}
+use Rattle.std.proofs.Common.{◌∙◌, ◌<◌, length, map, get_or, arith, ap, sym}
 use Rattle.std.proofs.lemmas.List.{get_or-map, get_or_default}
 use Rattle.hip_uses.specs.Number.{text_bytes}
 use Rattle.hip_uses.proofs.Counting.{counts-next}

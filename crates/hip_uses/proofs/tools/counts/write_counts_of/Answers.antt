@@ -1,4 +1,4 @@
-use Rattle.std.proofs.Common.{◌∙◌, ◌≡◌, ◌<◌, All, length, ap, subst, sym, map, arith, Err}
+use Rattle.std.proofs.Common.{◌≡◌, length, ap, arith, Err}
 use Rattle.std.proofs.lemmas.List.{length-map}
 use Rattle.hip_uses.specs.Number.{text_bytes}
 use Rattle.hip_uses.proofs.Counting.{counts-written, intern-fails, numbers-low, rows-low}

@@ -1,6 +1,5 @@
-use Rattle.std.proofs.Common.{◌≡◌, ◌+◌, ◌<◌, ◌≤◌, length, take, arith, sym}
+use Rattle.std.proofs.Common.{◌+◌, arith, sym}
 use Rattle.std.specs.Cmp.Lexicographic.{same_text}
-use Rattle.hip_uses.specs.Template.{written}
 use Rattle.hip_uses.proofs.Filling.{next-long, no-place, others-more, part-long, place-is}
 use Rattle.hip_uses.proofs.tools.filled.place_of.Goals as goal
 

@@ -1,4 +1,4 @@
-use Rattle.std.proofs.Common.{◌≡◌, ◌≤◌, ℕ, ◌+◌, take}
+use Rattle.std.proofs.Common.{◌≡◌, ◌≤◌, ◌+◌}
 use Rattle.hip_uses.specs.Tools.{line_at}
 use Rattle.hip_uses.proofs.tools.input.line_of.Given as goal
 

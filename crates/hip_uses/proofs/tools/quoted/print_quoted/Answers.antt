@@ -1,6 +1,5 @@
-use Rattle.std.proofs.Common.{◌++◌, ◌∷◌, [], subst, refl}
+use Rattle.std.proofs.Common.{◌++◌, ◌∷◌, [], refl}
 use Rattle.std.proofs.lemmas.Result.{on_ok_weaker}
-use Rattle.std.specs.Io.KnownBytes.{Appends}
 use Rattle.hip_uses.proofs.Appended.{appends-then}
 use Rattle.hip_uses.proofs.Quotes.{quoted-ascii}
 use Rattle.hip_uses.proofs.tools.quoted.print_quoted.Goals as goal

@@ -1,4 +1,4 @@
-use Rattle.std.proofs.Common.{refl, subst}
+use Rattle.std.proofs.Common.{refl}
 use Rattle.std.proofs.lemmas.Result.{on_ok_weaker}
 use Rattle.hip_uses.specs.Shown.{class_name}
 use Rattle.hip_uses.proofs.TokenLines.{line-written}

@@ -2,7 +2,7 @@ use Rattle.std.proofs.Common.{◌≡◌, ◌-◌, ◌*◌, length, take, true, A
 use Rattle.hipstr.specs.Meter.{RisesAtMost}
 use Rattle.hip_uses.specs.Token.{AreAdjacent, IsTokenOf, token_bytes}
 use Rattle.hip_uses.specs.Turns.{TurnsAhead}
-use Rattle.hip_uses.proofs.tokens.tokens.Given as goal
+use Rattle.hip_uses.proofs.tokens.tokens_metered.Given as goal
 
 abbrev pub invariant-loop-start : goal.invariant-loop-start
 invariant-loop-start g l = record {

@@ -2,7 +2,7 @@ use Rattle.std.proofs.Common.{◌≡◌, ◌∙◌, ◌<◌, ◌≤◌, length, 
 use Rattle.std.proofs.lemmas.Bool.{cases_lt}
 use Rattle.std.proofs.lemmas.List.{get_or_default}
 use Rattle.hip_uses.proofs.Tables.{even-rows, ragged, read-whole, row_of}
-use Rattle.hip_uses.proofs.table.Table.read.Goals as goal
+use Rattle.hip_uses.proofs.table.Table.read_metered.Goals as goal
 
 pub returns-in_default-clause-fault : goal.returns-in_default-clause-fault
 returns-in_default-clause-fault g c = sym c.new-records.ensures.rest ∙ c.in_default.ensures.first.0
@@ -11,7 +11,7 @@ pub returns-then-len-clause-fault : goal.returns-then-len-clause-fault
 returns-then-len-clause-fault g c = (
   row_of c.in_ok-header.header,
   map row_of c.in_ok-rows.rows.items,
-  read-whole _ _ c.new-records.result c.next_record.new.self c.in-Some.header c.in_ok-header.header c.in_ok-rows.rows.items c.new-records.ensures.rest c.in-Some.ensures.first c.in_ok-header.was c.in_ok-rows.ensures.records,
+  read-whole _ _ c.new-records.result c.next_record_metered.new.self c.in-Some.header c.in_ok-header.header c.in_ok-rows.rows.items c.new-records.ensures.rest c.in-Some.ensures.first c.in_ok-header.was c.in_ok-rows.ensures.records,
   grind (arith, ragged c.in_ok-header.header c.in_ok-rows.rows.items c.loop-i.i c.row-item.result),
 )
 
@@ -33,7 +33,7 @@ invariant_of-result g c =
 
 pub returns-clause-read : goal.returns-clause-read
 returns-clause-read g c =
-    sym (read-whole _ _ c.new-records.result c.next_record.new.self c.in-Some.header c.in_ok-header.header c.in_ok-rows.rows.items c.new-records.ensures.rest c.in-Some.ensures.first c.in_ok-header.was c.in_ok-rows.ensures.records)
+    sym (read-whole _ _ c.new-records.result c.next_record_metered.new.self c.in-Some.header c.in_ok-header.header c.in_ok-rows.rows.items c.new-records.ensures.rest c.in-Some.ensures.first c.in_ok-header.was c.in_ok-rows.ensures.records)
 
 pub returns-clause-even : goal.returns-clause-even
 returns-clause-even g c =

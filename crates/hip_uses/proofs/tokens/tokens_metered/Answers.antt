@@ -5,7 +5,7 @@ use Rattle.hipstr.specs.Made.{IsPart}
 use Rattle.hipstr.specs.Meter.{RisesAtMost}
 use Rattle.hip_uses.specs.Token.{AreAdjacent, IsClassRun, IsTokenOf, token_bytes}
 use Rattle.hip_uses.proofs.Runs.{All-more, adjacent-more, joined-more, length-range, rises-more}
-use Rattle.hip_uses.proofs.tokens.tokens.Goals as goal
+use Rattle.hip_uses.proofs.tokens.tokens_metered.Goals as goal
 
 pub loop-start-init : goal.loop-start-init
 loop-start-init g c = record {
