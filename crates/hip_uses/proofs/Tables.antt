@@ -1,10 +1,12 @@
 -- Tables that are read.
-use Rattle.std.proofs.Common.{◌≡◌, ℕ, ◌+◌, ◌<◌, List, [], ◌∷◌, Option, Some, Result, Ok, length, map, get_or, vec_len, ap, arith, All, MatchOption, Vec, slice_get, Global}
+use Rattle.std.proofs.Common.{◌≡◌, ℕ, ◌+◌, ◌<◌, List, [], ◌∷◌, Option, Some, Result, Ok, length, map, get_or, vec_len, ap, sym, subst, arith, All, MatchOption, Vec, slice_get, Global}
 use Rattle.std.proofs.lemmas.List.{get_or-map, length-map}
 use Rattle.std.proofs.lemmas.Option.{gets, slice_get-map}
+use Rattle.std.specs.List.{AllByRecursion}
 use Rattle.hipstr.specs.Handle.{Handle}
+use Rattle.hipstr.specs.Made.{IsPart}
 use Rattle.hip_fields.specs.Records.{AreFields, AreRecords, FirstRecord, RecordsLeft, Texts}
-use Rattle.hip_uses.specs.Cells.{Cells, HasCell, HasCellAt, HasNoCell, HasNoCellAt, IsFirstAt, IsRagged, texts_of}
+use Rattle.hip_uses.specs.Cells.{AllParts, Cells, HasCell, HasCellAt, HasNoCell, HasNoCellAt, IsFirstAt, IsRagged, texts_of}
 
 -- the bytes of the fields of a record
 abbrev pub row_of : Vec Handle Global → Texts
@@ -13,6 +15,23 @@ row_of row = texts_of row.items
 pub AreFields-texts : (source : Handle) (texts : Texts) (fields : List Handle) → AreFields source texts fields → texts_of fields ≡ texts
 AreFields-texts source [] fields are = ap texts_of are
 AreFields-texts source (text ∷ texts) fields are = grind (arith, AreFields-texts source texts)
+
+fields-parts : (source : Handle) (texts : Texts) (fields : List Handle) → AreFields source texts fields → AllByRecursion (λ field. IsPart source field field.items) fields
+fields-parts source [] fields are = rw are tt
+fields-parts source (text ∷ texts) [] are = absurd are
+fields-parts source (text ∷ texts) (field ∷ fields) are = (subst (IsPart source field) (sym are.0.items_are) are.0, fields-parts source texts fields are.1)
+
+records-parts : (source : Handle) (records : List Texts) (rows : List (Vec Handle Global)) → AreRecords source records rows → AllParts source (map (λ row. row.items) rows)
+records-parts source [] rows are = rw are tt
+records-parts source (texts ∷ more) [] are = absurd are
+records-parts source (texts ∷ more) (row ∷ rows) are = (fields-parts source texts row.items are.0, records-parts source more rows are.1)
+
+-- each field of a table is a part of its source
+pub table-parts : (E : Type 0) (old new : RecordsLeft) (drawn : Result (Vec Handle Global) E) (header : Vec Handle Global) (rows : List (Vec Handle Global)) → new.source ≡ old.source
+    → FirstRecord old (Some drawn) new → drawn ≡ Ok header → AreRecords new.source new.rest rows → AllParts old.source (header.items ∷ map (λ row. row.items) rows)
+table-parts E old new drawn header rows same first was left =
+    let here : AreFields old.source first.0 header.items = rw was at first.2 in
+    (fields-parts old.source first.0 header.items here, subst (λ (s : Handle). AllParts s (map (λ (row : Vec Handle Global). row.items) rows)) same (records-parts new.source new.rest rows left))
 
 pub AreRecords-texts : (source : Handle) (records : List Texts) (rows : List (Vec Handle Global)) → AreRecords source records rows → map row_of rows ≡ records
 AreRecords-texts source [] rows are = ap (map row_of) are

@@ -1,13 +1,17 @@
 -- A table: the bytes of its header and of its rows.
 use Rattle.std.specs.Prelude.{◌≡◌, ◌≢◌, ◌⊎◌, ℕ, ◌+◌, ◌<◌, ◌≤◌, List, [], ◌∷◌, length, map, slice_get, Some}
+use Rattle.std.specs.List.{AllByRecursion}
 use Rattle.hipstr.specs.Handle.{Handle}
+use Rattle.hipstr.specs.Made.{IsPart}
 use Rattle.hip_fields.specs.Records.{Texts}
 use Rattle.hip_uses.specs.declared.fault.TableFault.{TableFault}
 use Rattle.hip_uses.specs.declared.fault.TableFault.TheVariants.{Empty, Ragged, Memory}
 
+-- and the handles of all fields, the header's first
 pub record Cells : Type 0 where
   pub header : Texts
   pub rows : List Texts
+  pub fields : List (List Handle)
 
 abbrev pub texts_of : List Handle → Texts
 texts_of fields = map (λ field. field.items) fields
@@ -32,6 +36,14 @@ HasNoCell table row name = IsNoColumn table.header name ⊎ (length table.rows �
 -- the row's field at a place
 abbrev pub HasCellAt : Cells → ℕ → ℕ → List ℕ → Type 0
 HasCellAt table row place cell = (fields : Texts) × (slice_get table.rows row ≡ Some fields) × (slice_get fields place ≡ Some cell)
+
+-- the handle of the row's field at a place
+abbrev pub IsFieldAt : Cells → ℕ → ℕ → Handle → Type 0
+IsFieldAt table row place cell = (fields : List Handle) × (slice_get table.fields (row + 1) ≡ Some fields) × (slice_get fields place ≡ Some cell)
+
+-- each is the source's part of its bytes: its kind goes by the source's
+abbrev pub AllParts : Handle → List (List Handle) → Type 0
+AllParts source rows = AllByRecursion (λ row. AllByRecursion (λ field. IsPart source field field.items) row) rows
 
 -- there is no such column, or no such row
 abbrev pub HasNoCellAt : Cells → ℕ → ℕ → Type 0

@@ -1,10 +1,10 @@
 //! Tables: a header names the columns of the rows below it, a line each.
 #![tactic(auto, using(crate::proofs::Tables::tables))]
 
-ghost use Rattle.std.specs.Prelude.{◌≡◌, ◌∷◌, All, IfErr, IfOk, MatchOption, length};
+ghost use Rattle.std.specs.Prelude.{◌≡◌, ◌∷◌, All, IfErr, IfOk, IfSome, MatchOption, length};
 ghost use Rattle.hip_fields.specs.Records.{records_cost, records_of};
 ghost use Rattle.hipstr.specs.Meter.{RisesAtMost};
-ghost use Rattle.hip_uses.specs.Cells.{HasCell, HasCellAt, HasNoCell, HasNoCellAt, IsFirstAt, IsNoColumn, ReadFails};
+ghost use Rattle.hip_uses.specs.Cells.{AllParts, HasCell, HasCellAt, HasNoCell, HasNoCellAt, IsFieldAt, IsFirstAt, IsNoColumn, ReadFails};
 
 pub use crate::fault::TableFault;
 use hip_fields::reader::Records;
@@ -21,7 +21,7 @@ pub struct Table<'b, B: Backend> {
 }
 
 impl<'b, B: Backend> Model for Table<'b, B> {
-    ghost use Rattle.std.specs.Prelude.{◌≡◌, All, map, vec_len};
+    ghost use Rattle.std.specs.Prelude.{◌≡◌, ◌∷◌, All, map, vec_len};
     ghost use Rattle.hip_uses.specs.Cells.{Cells, texts_of};
 
     ghost Value = { Cells };
@@ -29,6 +29,7 @@ impl<'b, B: Backend> Model for Table<'b, B> {
     ghost view = { λ table. record {
       header = texts_of table.header.items;
       rows = map (λ row. texts_of row.items) table.rows.items;
+      fields = table.header.items ∷ map (λ row. row.items) table.rows.items;
     } };
 
     ghost invariant = { λ table.
@@ -42,6 +43,7 @@ impl<'b, B: Backend> Table<'b, B> {
             table.header ∷ table.rows ≡ records_of separator source.now.items) }
         ensures even { IfOk result (λ table.
             All (λ row. length row ≡ length table.header) table.rows) }
+        ensures fields { IfOk result (λ table. AllParts source.now table.fields) }
         ensures fault { IfErr result (ReadFails (records_of separator source.now.items)) }
     {
         Table::read_metered(alloc, source, separator, &mut Meter::new())
@@ -59,6 +61,7 @@ impl<'b, B: Backend> Table<'b, B> {
             table.header ∷ table.rows ≡ records_of separator source.now.items) }
         ensures even { IfOk result (λ table.
             All (λ row. length row ≡ length table.header) table.rows) }
+        ensures fields { IfOk result (λ table. AllParts source.now table.fields) }
         ensures fault { IfErr result (ReadFails (records_of separator source.now.items)) }
         ensures counted { RisesAtMost meter.old meter.new
             (records_cost B.SHARES source.now.kind (records_of separator source.now.items)) }
@@ -108,8 +111,9 @@ impl<'b, B: Backend> Table<'b, B> {
 
     /// The cell of a row in the column at a place, which [`Table::column`] finds once for many rows.
     pub fn cell_at(&self, row: usize, column: usize) -> Option<&HipStr<'b, B>>
-        ensures { MatchOption result (HasNoCellAt self.now row column)
+        ensures cell { MatchOption result (HasNoCellAt self.now row column)
             (λ cell. HasCellAt self.now row column cell.now.items) }
+        ensures field { IfSome result (λ cell. IsFieldAt self.now row column cell.now) }
     {
         let fields = self.rows.get(row)?;
         if fields.len() <= column {

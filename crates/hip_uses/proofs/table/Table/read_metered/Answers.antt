@@ -1,7 +1,9 @@
-use Rattle.std.proofs.Common.{◌≡◌, ◌∙◌, ◌<◌, ◌≤◌, length, map, get_or, vec_len, ap, sym, arith, ⊎_elim}
+use Rattle.std.proofs.Common.{◌≡◌, ◌∙◌, ◌<◌, ◌≤◌, ◌∷◌, length, map, get_or, vec_len, ap, sym, subst, arith, ⊎_elim, Vec, Global}
 use Rattle.std.proofs.lemmas.Bool.{cases_lt}
 use Rattle.std.proofs.lemmas.List.{get_or_default}
-use Rattle.hip_uses.proofs.Tables.{even-rows, ragged, read-whole, row_of}
+use Rattle.hipstr.specs.Handle.{Handle}
+use Rattle.hip_uses.specs.Cells.{AllParts}
+use Rattle.hip_uses.proofs.Tables.{even-rows, ragged, read-whole, row_of, table-parts}
 use Rattle.hip_uses.proofs.table.Table.read_metered.Goals as goal
 
 pub returns-in_default-clause-fault : goal.returns-in_default-clause-fault
@@ -40,3 +42,8 @@ returns-clause-even g c =
     let inside : c.deref-row-items.result.now ≡ c.in_ok-rows.rows.items = c.deref-row-items.ensures.value in
     even-rows c.in_ok-header.header c.in_ok-rows.rows.items
     (λ k other low. ap (λ l. vec_len (get_or l k other)) (sym inside) ∙ c.loop-i.invariant k other (omega (arith, ap length inside)))
+
+pub returns-clause-fields : goal.returns-clause-fields
+returns-clause-fields g c =
+    subst (λ (source : Handle). AllParts source (c.in_ok-header.header.items ∷ map (λ (row : Vec Handle Global). row.items) c.in_ok-rows.rows.items)) c.new-records.ensures.source
+    (table-parts _ c.new-records.result c.next_record_metered.new.self c.in-Some.header c.in_ok-header.header c.in_ok-rows.rows.items c.in-Some.ensures.source c.in-Some.ensures.first c.in_ok-header.was c.in_ok-rows.ensures.records)
