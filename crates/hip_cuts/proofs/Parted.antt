@@ -1,7 +1,7 @@
 -- Texts that are cut at an occurrence of another: the parts, joined with it, are the text.
 use Rattle.std.proofs.Common.{◌≡◌, ◌∙◌, ℕ, ◌+◌, ◌-◌, ◌<◌, ◌≤◌, ◌⊎◌, inl, inr, ◌==◌, List, [], ◌∷◌, ◌++◌, Option, None, Some, Result, Ok, Err, IsUtf8, encode_utf8, length, drop, take, arith, ap, subst, sym, refl, drop-drop, length-append, length-take-le, take-append-drop}
 use Rattle.std.proofs.{Math.Nat.min-le_left, Math.Seq.drop-append_seam, Math.Seq.take-append_seam}
-use Rattle.std.proofs.lemmas.{List.append-nil, List.drop_all, List.take_all, Option.none-some}
+use Rattle.std.proofs.lemmas.{List.append-nil, List.drop_all, List.take_all}
 use Rattle.std.proofs.lemmas.Str.{IsCharBoundary-at_seam, IsCharBoundary-end, IsCharBoundary-from_take, IsCharBoundary-start, IsUtf8-encode}
 use Rattle.std.specs.{Char.IsScalar, Option.option_map, Str.IsCharBoundary, Prelude.slice_range}
 use Rattle.hip_text.specs.Handle.{Handle}
