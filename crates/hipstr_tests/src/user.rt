@@ -159,6 +159,7 @@ impl From<AllocError> for BadLine {
 }
 
 /// A line of a log.
+#[derive(Drop)]
 struct LogRecord<'b> {
     host: LocalHipStr<'b>,
     user: LocalHipStr<'b>,
