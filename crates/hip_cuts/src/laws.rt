@@ -1,4 +1,5 @@
-//! Laws of what pieces cost together, and of the parts that a text or a character leaves of another. Each function does nothing; its contract is the law.
+//! Laws of what pieces cost together, and of the parts that a text or a character leaves of another. Each function does nothing; its
+//! contract is the law.
 ghost use Rattle.std.specs.Prelude.{◌≡◌, ◌==◌, ℕ, List, Option, Result, encode_utf8};
 ghost use Rattle.std.specs.declared.alloc.AllocError.{AllocError};
 ghost use Rattle.hip_match.specs.Characters.{char_ends};

@@ -1,6 +1,6 @@
 //! Code of a user who names `hipstr` alone: loops over walks, functions of a pattern and over a closure, with clauses that cite what a call
-//! is said to give, a struct that keeps a walk, and records that are cut field by field. A function that is generic in the backend is proved once for all, and takes longer than
-//! one that names `Rc`: most of these loops do.
+//! is said to give, a struct that keeps a walk, and records that are cut field by field. A function that is generic in the backend is
+//! proved once for all, and takes longer than one that names `Rc`: most of these do.
 ghost use Rattle.std.specs.Prelude.{◌≡◌, ◌==◌, ◌++◌, ℕ, IfOk, IfSome, codes, length};
 ghost use Rattle.std.specs.Char.{IsScalar, is_ascii_digit};
 ghost use Rattle.hipstr.specs.Answers.{answer_at};
