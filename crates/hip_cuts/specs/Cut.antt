@@ -1,7 +1,8 @@
 -- The part of a text that a trim or a strip leaves, and the two parts of one that is split once: the source's parts at the ranges that
 -- Rust's documentation of `str` tells. `shown` says what is seen of a text.
-use Rattle.std.specs.Prelude.{◌≡◌, ℕ, ◌+◌, ◌-◌, ◌<◌, ◌⊎◌, Bool, List, ◌++◌, length, Option, Some, None, Result, Ok, Err}
+use Rattle.std.specs.Prelude.{◌≡◌, ℕ, ◌+◌, ◌-◌, ◌<◌, ◌⊎◌, Bool, true, List, ◌++◌, encode_utf8, length, Option, Some, None, Result, Ok, Err}
 use Rattle.std.specs.Char.{is_whitespace}
+use Rattle.std.specs.List.{AllByRecursion, flat_map}
 use Rattle.hip_text.specs.Handle.{Handle}
 use Rattle.hip_text.specs.Cost.{CutNeedsMemory, cut_cost}
 use Rattle.hip_text.specs.Meter.{RisesAtLeast, RisesAtMost}
@@ -134,3 +135,20 @@ abbrev pub StrippedBack : {E : Type 0} → List ℕ → List ℕ → Result (Opt
 StrippedBack suffix text (Ok (Some part)) = text ≡ part.items ++ suffix
 StrippedBack suffix text (Ok None) = (front : List ℕ) → text ≡ front ++ suffix → ⊥
 StrippedBack suffix text (Err error) = Unit {0}
+
+-- white space alone: characters that Unicode calls `White_Space`, in UTF-8
+abbrev pub IsSpace : List ℕ → Type 0
+IsSpace bytes = (cs : List ℕ) × AllByRecursion (λ c. is_whitespace c ≡ true) cs × (bytes ≡ flat_map encode_utf8 cs)
+
+-- the text is what is left of it, with white space at both ends, at its front, or at its end
+abbrev pub TrimmedBetween : {E : Type 0} → List ℕ → Result Handle E → Type 0
+TrimmedBetween text (Ok part) = (front back : List ℕ) × IsSpace front × IsSpace back × (text ≡ front ++ (part.items ++ back))
+TrimmedBetween text (Err error) = Unit {0}
+
+abbrev pub TrimmedStart : {E : Type 0} → List ℕ → Result Handle E → Type 0
+TrimmedStart text (Ok part) = (front : List ℕ) × IsSpace front × (text ≡ front ++ part.items)
+TrimmedStart text (Err error) = Unit {0}
+
+abbrev pub TrimmedEnd : {E : Type 0} → List ℕ → Result Handle E → Type 0
+TrimmedEnd text (Ok part) = (back : List ℕ) × IsSpace back × (text ≡ part.items ++ back)
+TrimmedEnd text (Err error) = Unit {0}

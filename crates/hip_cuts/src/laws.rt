@@ -6,7 +6,8 @@ ghost use Rattle.hip_match.specs.Characters.{char_ends};
 ghost use Rattle.hip_match.specs.Texts.{text_ends};
 ghost use Rattle.hip_match.specs.Trims.{rsplit_once, split_once, strip_prefix, strip_suffix};
 ghost use Rattle.hip_text.specs.Handle.{Handle};
-ghost use Rattle.hip_cuts.specs.Cut.{OnceAnswers, PartedAs, PartedLastAs, StripAnswers, StrippedBack, StrippedFront};
+ghost use Rattle.hip_cuts.specs.Cut.{LeavesBetween, LeavesEnd, LeavesStart, OnceAnswers, PartedAs, PartedLastAs, StripAnswers, StrippedBack, StrippedFront};
+ghost use Rattle.hip_cuts.specs.Cut.{TrimAnswers, TrimmedBetween, TrimmedEnd, TrimmedStart, space_ends};
 ghost use Rattle.hip_cuts.specs.Laws.{BorrowedCopyNothing, InOrderCopyOnce, SharedCopyLittle};
 
 /// Where owners are shared, pieces cost at most the 23 bytes that a handle holds in itself, for each, whatever their source holds.
@@ -87,4 +88,18 @@ pub fn a_character_parts_as_its_text(text: &str, c: char)
         → source.items ≡ text.now
         → StripAnswers (λ part. part) strip_suffix (char_ends (λ d. d == c)) source result
         → StrippedBack (encode_utf8 c) text.now result }
+{}
+
+/// [`trim`](crate::text_cuts::TextCuts::trim) and its kin leave a part of the text with nothing but white space before it, behind it, or
+/// at either end.
+pub fn a_trim_leaves_what_white_space_surrounds(text: &str)
+    ensures both { (source : Handle) (result : Result Handle AllocError)
+        → source.items ≡ text.now
+        → TrimAnswers (λ part. part) LeavesBetween space_ends source result → TrimmedBetween text.now result }
+    ensures start { (source : Handle) (result : Result Handle AllocError)
+        → source.items ≡ text.now
+        → TrimAnswers (λ part. part) LeavesEnd space_ends source result → TrimmedStart text.now result }
+    ensures end { (source : Handle) (result : Result Handle AllocError)
+        → source.items ≡ text.now
+        → TrimAnswers (λ part. part) LeavesStart space_ends source result → TrimmedEnd text.now result }
 {}

@@ -74,7 +74,7 @@ pub use Rattle.hipstr.specs.TextSlice.{IsErrorOf as TextSlice-IsErrorOf, SliceAn
 pub use Rattle.hipstr.specs.TextSliceError.{error_end as TextSliceError-error_end, error_kind as TextSliceError-error_kind, error_source as TextSliceError-error_source, error_start as TextSliceError-error_start, slice_error_text as TextSliceError-slice_error_text}
 pub use Rattle.hipstr.specs.Texts.{text_ends as Texts-text_ends}
 pub use Rattle.hipstr.specs.Transfer.{CountsRefusal as Transfer-CountsRefusal}
-pub use Rattle.hipstr.specs.Trimmed.{IsPartedLast as Trimmed-IsPartedLast, LeavesBetween as Trimmed-LeavesBetween, LeavesEnd as Trimmed-LeavesEnd, LeavesStart as Trimmed-LeavesStart, OnceAnswers as Trimmed-OnceAnswers, OnceCosts as Trimmed-OnceCosts, PartedAs as Trimmed-PartedAs, PartedLastAs as Trimmed-PartedLastAs, StripAnswers as Trimmed-StripAnswers, StripCosts as Trimmed-StripCosts, StrippedBack as Trimmed-StrippedBack, StrippedFront as Trimmed-StrippedFront, TrimAnswers as Trimmed-TrimAnswers, TrimCosts as Trimmed-TrimCosts, found_in as Trimmed-found_in, space_ends as Trimmed-space_ends}
+pub use Rattle.hipstr.specs.Trimmed.{IsPartedLast as Trimmed-IsPartedLast, LeavesBetween as Trimmed-LeavesBetween, LeavesEnd as Trimmed-LeavesEnd, LeavesStart as Trimmed-LeavesStart, OnceAnswers as Trimmed-OnceAnswers, OnceCosts as Trimmed-OnceCosts, PartedAs as Trimmed-PartedAs, PartedLastAs as Trimmed-PartedLastAs, StripAnswers as Trimmed-StripAnswers, StripCosts as Trimmed-StripCosts, StrippedBack as Trimmed-StrippedBack, StrippedFront as Trimmed-StrippedFront, TrimAnswers as Trimmed-TrimAnswers, TrimCosts as Trimmed-TrimCosts, TrimmedBetween as Trimmed-TrimmedBetween, TrimmedEnd as Trimmed-TrimmedEnd, TrimmedStart as Trimmed-TrimmedStart, found_in as Trimmed-found_in, space_ends as Trimmed-space_ends}
 pub use Rattle.hipstr.specs.Trims.{TrimsBack as Trims-TrimsBack, TrimsFront as Trims-TrimsFront, cut_at_first as Trims-cut_at_first, rsplit_once as Trims-rsplit_once, split_once as Trims-split_once, strip_prefix as Trims-strip_prefix, strip_suffix as Trims-strip_suffix}
 pub use Rattle.hipstr.specs.Utf16.{IsFirstUnpaired as Utf16-IsFirstUnpaired, Spells as Utf16-Spells, SpellsWhatEncodes as Utf16-SpellsWhatEncodes, Utf16Answers as Utf16-Utf16Answers}
 pub use Rattle.hipstr.specs.Walks.{GoesAlike as Walks-GoesAlike, GoesOver as Walks-GoesOver}
