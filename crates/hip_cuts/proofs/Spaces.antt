@@ -1,7 +1,7 @@
 -- A trim of white space leaves a part between white space.
-use Rattle.std.proofs.Common.{◌≡◌, ◌∙◌, ℕ, ◌+◌, ◌-◌, ◌<◌, ◌≤◌, true, List, [], ◌∷◌, ◌++◌, Result, Ok, Err, Some, IsUtf8, encode_utf8, length, drop, take, arith, ap, append_assoc, drop-drop, refl, subst, sym, take-append-drop}
+use Rattle.std.proofs.Common.{◌≡◌, ◌∙◌, ℕ, ◌-◌, ◌≤◌, true, List, [], ◌∷◌, ◌++◌, Result, Ok, Err, Some, IsUtf8, encode_utf8, length, drop, arith, ap, append_assoc, drop-drop, refl, subst, sym, take-append-drop}
 use Rattle.std.proofs.lemmas.{Grind.flat_map-append, List.append-nil, List.drop_all}
-use Rattle.std.specs.{Char.is_whitespace, Char.len_utf8, List.AllByRecursion, List.flat_map, Prelude.slice_range}
+use Rattle.std.specs.{Char.is_whitespace, List.AllByRecursion, List.flat_map, Prelude.slice_range}
 use Rattle.hip_text.specs.Handle.{Handle}
 use Rattle.hip_match.proofs.TextLemmas.{rest_slice}
 use Rattle.hip_match.specs.{CharLaws.char_ends-is, Characters.char_ends, Trims.Follows, Trims.FollowsBack}
