@@ -1,3 +1,4 @@
 pub mod Costs
+pub mod Lines
 pub mod Parted
 pub mod Spaces

@@ -3,11 +3,14 @@
 ghost use Rattle.std.specs.Prelude.{◌≡◌, ◌==◌, ℕ, List, Option, Result, encode_utf8};
 ghost use Rattle.std.specs.declared.alloc.AllocError.{AllocError};
 ghost use Rattle.hip_match.specs.Characters.{char_ends};
+ghost use Rattle.hip_match.specs.Joined.{parts_at};
+ghost use Rattle.hip_match.specs.Runs.{lines};
 ghost use Rattle.hip_match.specs.Texts.{text_ends};
 ghost use Rattle.hip_match.specs.Trims.{rsplit_once, split_once, strip_prefix, strip_suffix};
 ghost use Rattle.hip_text.specs.Handle.{Handle};
 ghost use Rattle.hip_cuts.specs.Cut.{LeavesBetween, LeavesEnd, LeavesStart, OnceAnswers, PartedAs, PartedLastAs, StripAnswers, StrippedBack, StrippedFront};
 ghost use Rattle.hip_cuts.specs.Cut.{TrimAnswers, TrimmedBetween, TrimmedEnd, TrimmedStart, space_ends};
+ghost use Rattle.hip_cuts.specs.Lines.{AreLines};
 ghost use Rattle.hip_cuts.specs.Laws.{BorrowedCopyNothing, InOrderCopyOnce, SharedCopyLittle};
 
 /// Where owners are shared, pieces cost at most the 23 bytes that a handle holds in itself, for each, whatever their source holds.
@@ -102,4 +105,11 @@ pub fn a_trim_leaves_what_white_space_surrounds(text: &str)
     ensures end { (source : Handle) (result : Result Handle AllocError)
         → source.items ≡ text.now
         → TrimAnswers (λ part. part) LeavesStart space_ends source result → TrimmedEnd text.now result }
+{}
+
+/// The [`lines`](crate::text_cuts::TextCuts::lines) of a text, each with what ends it, are the text: a line feed, one carriage return before
+/// it, or the end of the text behind a line that holds something. No line holds a line feed.
+#[tactic(auto, using(crate::proofs::Lines::lines_are))]
+pub fn lines_and_their_ends_are_the_text(text: &str)
+    ensures { AreLines (parts_at text.now (lines text.now)) text.now }
 {}

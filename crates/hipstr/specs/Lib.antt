@@ -57,6 +57,7 @@ pub use Rattle.hip_match.specs.Trims
 pub use Rattle.hip_cuts.specs.Cut as Trimmed
 pub use Rattle.hip_cuts.specs.Piece
 pub use Rattle.hip_cuts.specs.Laws
+pub use Rattle.hip_cuts.specs.Lines
 pub use Rattle.hip_bytes.specs.Alike
 pub use Rattle.hip_bytes.specs.Allocated
 pub use Rattle.hip_bytes.specs.Block

@@ -38,6 +38,7 @@ pub use Rattle.hipstr.specs.JsonPath.{JsonPathAnswers as JsonPath-JsonPathAnswer
 pub use Rattle.hipstr.specs.Kinds.{HasCapacity as Kinds-HasCapacity, Holds as Kinds-Holds, HoldsByLength as Kinds-HoldsByLength, IsEmptyInline as Kinds-IsEmptyInline, PushedKind as Kinds-PushedKind, by_length as Kinds-by_length, cut_kind as Kinds-cut_kind, kept_capacity as Kinds-kept_capacity, owned_kind as Kinds-owned_kind}
 pub use Rattle.hipstr.specs.Laws.{BorrowedCopyNothing as Laws-BorrowedCopyNothing, InOrderCopyOnce as Laws-InOrderCopyOnce, SharedCopyLittle as Laws-SharedCopyLittle}
 pub use Rattle.hipstr.specs.Leftmost.{IsLeftmost as Leftmost-IsLeftmost, leftmost as Leftmost-leftmost, leftmost_between as Leftmost-leftmost_between, leftmost_from as Leftmost-leftmost_from}
+pub use Rattle.hipstr.specs.Lines.{AreLines as Lines-AreLines, EndsLine as Lines-EndsLine}
 pub use Rattle.hipstr.specs.Little.{CopiesLittle as Little-CopiesLittle, parts_made as Little-parts_made}
 pub use Rattle.hipstr.specs.Made.{CloneAnswers as Made-CloneAnswers, CopyAnswers as Made-CopyAnswers, CutAnswers as Made-CutAnswers, GatherAnswers as Made-GatherAnswers, GatherCosts as Made-GatherCosts, IsOwned as Made-IsOwned, IsPart as Made-IsPart, JoinAnswers as Made-JoinAnswers, MakeAnswers as Made-MakeAnswers, OwnedAnswers as Made-OwnedAnswers, RepeatAnswers as Made-RepeatAnswers}
 pub use Rattle.hipstr.specs.Marks.{Ahead as Marks-Ahead, Behind as Marks-Behind, has_nibbles as Marks-has_nibbles, in_rows as Marks-in_rows}
