@@ -1,7 +1,7 @@
 //! Texts that get numbers.
 #![tactic(auto, using(crate::proofs::Interned::pushes))]
 
-ghost use Rattle.std.specs.Prelude.{◌≡◌, ◌≤◌, ◌^◌, [], ◌∷◌, ◌++◌, length, None, Some, IfOk, IsErrOf, IsOk, IsSome, OnErr, OnOk, slice_range};
+ghost use Rattle.std.specs.Prelude.{◌≡◌, ◌≤◌, ◌^◌, [], ◌∷◌, ◌++◌, length, true, None, Some, IfOk, IsErrOf, IsOk, IsSome, OnErr, OnOk, slice_range};
 ghost use Rattle.hipstr.specs.Occurrence.{IsCut};
 ghost use Rattle.hipstr.specs.Cost.{clone_cost};
 ghost use Rattle.hipstr.specs.Meter.{RisesAtMost};
@@ -11,6 +11,7 @@ ghost use Rattle.hip_uses.specs.declared.fault.InternFault.TheVariants.{TooMany}
 
 use crate::intern::{InternFault, Interner};
 use crate::keyed::put;
+use hipstr::laws::one_part_copies_little;
 use hipstr::string::HipStr;
 use hipstr::{Backend, Meter};
 use std::alloc::{AllocError, Global};
@@ -67,7 +68,9 @@ impl<'b, B: Backend, S: BuildHasher> Interner<'b, B, S> {
         ensures too_many { IsErrOf result TooMany → 2 ^ 32 ≤ length self.old }
         ensures counted { RisesAtMost meter.old meter.new
             (interned_cost B.SHARES text.entry self.old) }
+        ensures shared { B.SHARES ≡ true → RisesAtMost meter.old meter.new 23 }
     {
+        one_part_copies_little::<B>();
         if let Some(number) = self.find(&text) {
             return Ok(number);
         }
