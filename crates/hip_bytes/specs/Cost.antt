@@ -13,7 +13,7 @@ clone_cost shares Inline len = min len INLINE_CAPACITY
 clone_cost shares Borrowed len = 0
 clone_cost shares Allocated len = unless_shared shares len
 
--- the bytes that are copied where another value lends them: none of a handle's own
+-- the least number of bytes that a write, or a call that makes a value own its bytes, copies: those that are borrowed
 abbrev pub lent_count : Kind → ℕ → ℕ
 lent_count Inline len = 0
 lent_count Borrowed len = len

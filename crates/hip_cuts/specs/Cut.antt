@@ -1,10 +1,10 @@
 -- The part of a text that a trim or a strip leaves, and the two parts of one that is split once: the source's parts at the ranges that
 -- Rust's documentation of `str` tells. `shown` says what is seen of a text.
-use Rattle.std.specs.Prelude.{◌≡◌, ℕ, ◌+◌, ◌-◌, ◌<◌, ◌⊎◌, Bool, true, List, ◌++◌, encode_utf8, length, Option, Some, None, Result, Ok, Err}
+use Rattle.std.specs.Prelude.{◌≡◌, ℕ, ◌+◌, ◌-◌, ◌<◌, ◌⊎◌, Bool, true, List, ◌++◌, encode_utf8, length, Option, Some, None, Result, Ok, Err, IfOk, IfSome}
 use Rattle.std.specs.Char.{is_whitespace}
 use Rattle.std.specs.List.{AllByRecursion, flat_map}
 use Rattle.hip_text.specs.Handle.{Handle}
-use Rattle.hip_text.specs.Cost.{CutNeedsMemory, cut_cost}
+use Rattle.hip_text.specs.Cost.{CutNeedsMemory, PartCounts, cut_cost}
 use Rattle.hip_text.specs.Meter.{RisesAtLeast, RisesAtMost}
 use Rattle.hip_match.specs.Characters.{char_ends}
 use Rattle.hip_match.specs.Parted.{IsParted, Lacks}
@@ -95,6 +95,18 @@ PartsIfAnyCosts shares (Some (front, back)) source before after =
 abbrev pub PartsCount : Bool → Handle → Handle → Handle → ℕ → ℕ → Type 0
 PartsCount shares source front back before after =
     RisesAtLeast before after (cut_cost shares source.kind (length front.items) + cut_cost shares source.kind (length back.items))
+
+-- the part that is left was counted, the part that there may be, or the two parts
+abbrev pub TrimCounts : {T E : Type 0} → (T → Handle) → Bool → Handle → Result T E → ℕ → ℕ → Type 0
+TrimCounts shown shares source result before after = IfOk result (λ part. PartCounts shares source (shown part) before after)
+
+abbrev pub StripCounts : {T E : Type 0} → (T → Handle) → Bool → Handle → Result (Option T) E → ℕ → ℕ → Type 0
+StripCounts shown shares source result before after =
+    IfOk result (λ found. IfSome found (λ part. PartCounts shares source (shown part) before after))
+
+abbrev pub OnceCounts : {T E : Type 0} → (T → Handle) → Bool → Handle → Result (Option (T × T)) E → ℕ → ℕ → Type 0
+OnceCounts shown shares source result before after =
+    IfOk result (λ found. IfSome found (λ parts. PartsCount shares source (shown parts.0) (shown parts.1) before after))
 
 -- the part, or the parts, at the ranges that are found in the source
 abbrev pub StripAnswers : {T E : Type 0} → (T → Handle) → FindsOne → Ends → Handle → Result (Option T) E → Type 0

@@ -107,8 +107,8 @@ pub fn a_trim_leaves_what_white_space_surrounds(text: &str)
         → TrimAnswers (λ part. part) LeavesStart space_ends source result → TrimmedEnd text.now result }
 {}
 
-/// The [`lines`](crate::text_cuts::TextCuts::lines) of a text, each with what ends it, are the text: a line feed, one carriage return before
-/// it, or the end of the text behind a line that holds something. No line holds a line feed.
+/// The [`lines`](crate::text_cuts::TextCuts::lines) of a text, each with its end, are the text, and none holds a line feed. A line ends with
+/// a line feed and at most one carriage return before it, or with the text, where it holds something.
 #[tactic(auto, using(crate::proofs::Lines::lines_are))]
 pub fn lines_and_their_ends_are_the_text(text: &str)
     ensures { AreLines (parts_at text.now (lines text.now)) text.now }

@@ -2,12 +2,11 @@
 ghost use Rattle.std.specs.Prelude.{◌≡◌, IfOk, IfSome, length};
 ghost use Rattle.std.specs.Iterator.{UpTo, at_most, item_count};
 ghost use Rattle.std.specs.Iterator.SizeHint.{IsWithinCount};
-ghost use Rattle.hip_text.specs.Cost.{PartCounts};
 ghost use Rattle.hip_text.specs.Handle.{Handle};
 ghost use Rattle.hip_text.specs.Meter.{RisesAtMost};
 ghost use Rattle.hip_cuts.specs.Piece.{AreMatches, AreParts, parts_cost};
 ghost use Rattle.hip_cuts.specs.Piece.{DrawsFirst, DrawsFirstMatch, DrawsLast, DrawsLastMatch};
-ghost use Rattle.hip_cuts.specs.Piece.{FirstCosts, FirstMatch, FirstPiece, LastCosts, LastMatch, LastPiece};
+ghost use Rattle.hip_cuts.specs.Piece.{FirstCosts, FirstMatch, FirstPiece, LastCosts, LastMatch, LastPiece, MatchCounts, PieceCounts};
 
 use hip_match::indices::Indices;
 use hip_match::lines::Lines;
@@ -121,8 +120,7 @@ impl<'h, 'b, B: Backend, I: Ranges> Pieces<'h, HipStr<'b, B>, I> {
     ) -> Option<(usize, Result<HipStr<'b, B>, AllocError>)>
         ensures first { FirstMatch self.old result self.new }
         ensures counted { FirstCosts B.SHARES self.old result self.new meter.old meter.new }
-        ensures copied { IfSome result (λ drawn. IfOk drawn.1
-            (λ part. PartCounts B.SHARES self.old.source part meter.old meter.new)) }
+        ensures copied { MatchCounts B.SHARES self.old result meter.old meter.new }
         ensures source { self.new.source ≡ self.old.source }
     {
         let (start, end) = self.ranges.next()?;
@@ -159,8 +157,7 @@ impl<'h, 'b, B: Backend, I: RangesBack> Pieces<'h, HipStr<'b, B>, I> {
     ) -> Option<(usize, Result<HipStr<'b, B>, AllocError>)>
         ensures last { LastMatch self.old result self.new }
         ensures counted { LastCosts B.SHARES self.old result self.new meter.old meter.new }
-        ensures copied { IfSome result (λ drawn. IfOk drawn.1
-            (λ part. PartCounts B.SHARES self.old.source part meter.old meter.new)) }
+        ensures copied { MatchCounts B.SHARES self.old result meter.old meter.new }
         ensures source { self.new.source ≡ self.old.source }
     {
         let (start, end) = self.ranges.next_back()?;
@@ -184,8 +181,7 @@ impl<'h, 'b, B: Backend, I: Unnumbered> Pieces<'h, HipStr<'b, B>, I> {
     pub fn next_metered(&mut self, meter: &mut Meter) -> Option<Result<HipStr<'b, B>, AllocError>>
         ensures first { FirstPiece self.old result self.new }
         ensures counted { FirstCosts B.SHARES self.old result self.new meter.old meter.new }
-        ensures copied { IfSome result (λ drawn. IfOk drawn
-            (λ part. PartCounts B.SHARES self.old.source part meter.old meter.new)) }
+        ensures copied { PieceCounts B.SHARES self.old result meter.old meter.new }
         ensures source { self.new.source ≡ self.old.source }
     {
         let (_, piece) = self.first_match(meter)?;
@@ -234,8 +230,7 @@ impl<'h, 'b, B: Backend, I: Unnumbered + RangesBack> Pieces<'h, HipStr<'b, B>, I
     ) -> Option<Result<HipStr<'b, B>, AllocError>>
         ensures last { LastPiece self.old result self.new }
         ensures counted { LastCosts B.SHARES self.old result self.new meter.old meter.new }
-        ensures copied { IfSome result (λ drawn. IfOk drawn
-            (λ part. PartCounts B.SHARES self.old.source part meter.old meter.new)) }
+        ensures copied { PieceCounts B.SHARES self.old result meter.old meter.new }
         ensures source { self.new.source ≡ self.old.source }
     {
         let (_, piece) = self.last_match(meter)?;
@@ -294,8 +289,7 @@ impl<'h, 'b, B: Backend, I: Ranges + Drop> Pieces<'h, HipStr<'b, B>, Indices<I>>
     ) -> Option<(usize, Result<HipStr<'b, B>, AllocError>)>
         ensures first { FirstMatch self.old result self.new }
         ensures counted { FirstCosts B.SHARES self.old result self.new meter.old meter.new }
-        ensures copied { IfSome result (λ drawn. IfOk drawn.1
-            (λ part. PartCounts B.SHARES self.old.source part meter.old meter.new)) }
+        ensures copied { MatchCounts B.SHARES self.old result meter.old meter.new }
         ensures source { self.new.source ≡ self.old.source }
     {
         self.first_match(meter)
@@ -341,8 +335,7 @@ impl<'h, 'b, B: Backend, I: RangesBack + Drop> Pieces<'h, HipStr<'b, B>, Indices
     ) -> Option<(usize, Result<HipStr<'b, B>, AllocError>)>
         ensures last { LastMatch self.old result self.new }
         ensures counted { LastCosts B.SHARES self.old result self.new meter.old meter.new }
-        ensures copied { IfSome result (λ drawn. IfOk drawn.1
-            (λ part. PartCounts B.SHARES self.old.source part meter.old meter.new)) }
+        ensures copied { MatchCounts B.SHARES self.old result meter.old meter.new }
         ensures source { self.new.source ≡ self.old.source }
     {
         self.last_match(meter)

@@ -1,5 +1,5 @@
 //! The calls that take a text apart.
-ghost use Rattle.std.specs.Prelude.{◌≡◌, IfOk, IfSome};
+ghost use Rattle.std.specs.Prelude.{◌≡◌, IfSome};
 ghost use Rattle.hip_match.specs.Leftmost.{leftmost};
 ghost use Rattle.hip_match.specs.Occurrence.{IsCut};
 ghost use Rattle.hip_match.specs.Pieces.{rsplit, rsplit_terminator, rsplitn};
@@ -9,8 +9,7 @@ ghost use Rattle.hip_match.specs.Runs.{lines, split_whitespace, split_ascii_whit
 ghost use Rattle.hip_match.specs.Trims.{strip_prefix, strip_suffix, split_once, rsplit_once};
 ghost use Rattle.hip_cuts.specs.Cut.{LeavesBetween, LeavesEnd, LeavesStart, found_in, space_ends};
 ghost use Rattle.hip_cuts.specs.Cut.{OnceAnswers, OnceCosts, StripAnswers, StripCosts, TrimAnswers, TrimCosts};
-ghost use Rattle.hip_text.specs.Cost.{PartCounts};
-ghost use Rattle.hip_cuts.specs.Cut.{PartsCount};
+ghost use Rattle.hip_cuts.specs.Cut.{OnceCounts, StripCounts, TrimCounts};
 ghost use Rattle.hip_cuts.specs.Cut.{PartIfAny, PartIfAnyCosts, PartsIfAny, PartsIfAnyCosts};
 ghost use Rattle.hip_cuts.specs.Walks.{GoesOver};
 
@@ -182,8 +181,8 @@ pub trait TextCuts<B: Backend>: PieceSource {
             (Self.handle self.now) result }
         ensures counted { TrimCosts B.SHARES LeavesBetween space_ends
             (Self.handle self.now) meter.old meter.new }
-        ensures copied { IfOk result
-            (λ part. PartCounts B.SHARES (Self.handle self.now) (Self.handle part) meter.old meter.new) };
+        ensures copied { TrimCounts Self.handle B.SHARES
+            (Self.handle self.now) result meter.old meter.new };
 
     /// The text without white space at its front.
     fn trim_start(&self, alloc: Global) -> Result<Self, AllocError>
@@ -196,8 +195,8 @@ pub trait TextCuts<B: Backend>: PieceSource {
             (Self.handle self.now) result }
         ensures counted { TrimCosts B.SHARES LeavesEnd space_ends
             (Self.handle self.now) meter.old meter.new }
-        ensures copied { IfOk result
-            (λ part. PartCounts B.SHARES (Self.handle self.now) (Self.handle part) meter.old meter.new) };
+        ensures copied { TrimCounts Self.handle B.SHARES
+            (Self.handle self.now) result meter.old meter.new };
 
     /// The text without white space at its end.
     fn trim_end(&self, alloc: Global) -> Result<Self, AllocError>
@@ -210,8 +209,8 @@ pub trait TextCuts<B: Backend>: PieceSource {
             (Self.handle self.now) result }
         ensures counted { TrimCosts B.SHARES LeavesStart space_ends
             (Self.handle self.now) meter.old meter.new }
-        ensures copied { IfOk result
-            (λ part. PartCounts B.SHARES (Self.handle self.now) (Self.handle part) meter.old meter.new) };
+        ensures copied { TrimCounts Self.handle B.SHARES
+            (Self.handle self.now) result meter.old meter.new };
 
     /// The text without the longest front of occurrences of `pattern`, and without the longest back of them in what is left.
     fn trim_matches<P: DoubleEndedPattern>(
@@ -235,8 +234,8 @@ pub trait TextCuts<B: Backend>: PieceSource {
             (Self.handle self.now) result }
         ensures counted { TrimCosts B.SHARES LeavesBetween (P.ends pattern)
             (Self.handle self.now) meter.old meter.new }
-        ensures copied { IfOk result
-            (λ part. PartCounts B.SHARES (Self.handle self.now) (Self.handle part) meter.old meter.new) };
+        ensures copied { TrimCounts Self.handle B.SHARES
+            (Self.handle self.now) result meter.old meter.new };
 
     /// The text without the longest front of occurrences of `pattern`. An empty pattern removes nothing.
     fn trim_start_matches<P: Pattern>(&self, alloc: Global, pattern: P) -> Result<Self, AllocError>
@@ -256,8 +255,8 @@ pub trait TextCuts<B: Backend>: PieceSource {
             (Self.handle self.now) result }
         ensures counted { TrimCosts B.SHARES LeavesEnd (P.ends pattern)
             (Self.handle self.now) meter.old meter.new }
-        ensures copied { IfOk result
-            (λ part. PartCounts B.SHARES (Self.handle self.now) (Self.handle part) meter.old meter.new) };
+        ensures copied { TrimCounts Self.handle B.SHARES
+            (Self.handle self.now) result meter.old meter.new };
 
     /// The text without the longest back of occurrences of `pattern`. An empty pattern removes nothing.
     fn trim_end_matches<P: ReversePattern>(
@@ -281,8 +280,8 @@ pub trait TextCuts<B: Backend>: PieceSource {
             (Self.handle self.now) result }
         ensures counted { TrimCosts B.SHARES LeavesStart (P.ends pattern)
             (Self.handle self.now) meter.old meter.new }
-        ensures copied { IfOk result
-            (λ part. PartCounts B.SHARES (Self.handle self.now) (Self.handle part) meter.old meter.new) };
+        ensures copied { TrimCounts Self.handle B.SHARES
+            (Self.handle self.now) result meter.old meter.new };
 
     /// The text without one occurrence of `pattern` at its front, if there is one.
     fn strip_prefix<P: Pattern>(
@@ -306,8 +305,8 @@ pub trait TextCuts<B: Backend>: PieceSource {
             (Self.handle self.now) result }
         ensures counted { StripCosts B.SHARES strip_prefix (P.ends pattern)
             (Self.handle self.now) meter.old meter.new }
-        ensures copied { IfOk result (λ found. IfSome found
-            (λ part. PartCounts B.SHARES (Self.handle self.now) (Self.handle part) meter.old meter.new)) };
+        ensures copied { StripCounts Self.handle B.SHARES
+            (Self.handle self.now) result meter.old meter.new };
 
     /// The text without one occurrence of `pattern` at its end, if there is one.
     fn strip_suffix<P: ReversePattern>(
@@ -331,8 +330,8 @@ pub trait TextCuts<B: Backend>: PieceSource {
             (Self.handle self.now) result }
         ensures counted { StripCosts B.SHARES strip_suffix (P.ends pattern)
             (Self.handle self.now) meter.old meter.new }
-        ensures copied { IfOk result (λ found. IfSome found
-            (λ part. PartCounts B.SHARES (Self.handle self.now) (Self.handle part) meter.old meter.new)) };
+        ensures copied { StripCounts Self.handle B.SHARES
+            (Self.handle self.now) result meter.old meter.new };
 
     /// The text before the first occurrence of `pattern` and the text behind it, if there is one.
     fn split_once<P: Pattern>(
@@ -356,9 +355,8 @@ pub trait TextCuts<B: Backend>: PieceSource {
             (Self.handle self.now) result }
         ensures counted { OnceCosts B.SHARES split_once (P.ends pattern)
             (Self.handle self.now) meter.old meter.new }
-        ensures copied { IfOk result (λ found. IfSome found
-            (λ parts. PartsCount B.SHARES (Self.handle self.now) (Self.handle parts.0)
-            (Self.handle parts.1) meter.old meter.new)) };
+        ensures copied { OnceCounts Self.handle B.SHARES
+            (Self.handle self.now) result meter.old meter.new };
 
     /// The text before the last occurrence of `pattern` and the text behind it, if there is one.
     fn rsplit_once<P: ReversePattern>(
@@ -382,9 +380,8 @@ pub trait TextCuts<B: Backend>: PieceSource {
             (Self.handle self.now) result }
         ensures counted { OnceCosts B.SHARES rsplit_once (P.ends pattern)
             (Self.handle self.now) meter.old meter.new }
-        ensures copied { IfOk result (λ found. IfSome found
-            (λ parts. PartsCount B.SHARES (Self.handle self.now) (Self.handle parts.0)
-            (Self.handle parts.1) meter.old meter.new)) };
+        ensures copied { OnceCounts Self.handle B.SHARES
+            (Self.handle self.now) result meter.old meter.new };
 }
 
 impl<'b, B: Backend> TextCuts<B> for HipStr<'b, B> {
@@ -708,8 +705,7 @@ fn part_at<'b, B: Backend>(
     requires { IfSome range (IsCut text.now.items) }
     ensures part { PartIfAny (λ part. part) range text.now result }
     ensures counted { PartIfAnyCosts B.SHARES range text.now meter.old meter.new }
-    ensures copied { IfOk result (λ found. IfSome found
-        (λ part. PartCounts B.SHARES text.now part meter.old meter.new)) }
+    ensures copied { StripCounts (λ part. part) B.SHARES text.now result meter.old meter.new }
 {
     let Some((start, end)) = range else {
         return Ok(None);
@@ -729,8 +725,7 @@ fn parts_at<'b, B: Backend>(
         (λ ranges. IsCut text.now.items ranges.0 × IsCut text.now.items ranges.1) }
     ensures parts { PartsIfAny (λ part. part) ranges text.now result }
     ensures counted { PartsIfAnyCosts B.SHARES ranges text.now meter.old meter.new }
-    ensures copied { IfOk result (λ found. IfSome found
-        (λ parts. PartsCount B.SHARES text.now parts.0 parts.1 meter.old meter.new)) }
+    ensures copied { OnceCounts (λ part. part) B.SHARES text.now result meter.old meter.new }
 {
     let Some((front, back)) = ranges else {
         return Ok(None);

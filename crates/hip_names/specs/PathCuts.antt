@@ -1,7 +1,7 @@
 -- The answers of calls that cut a part out of a path. A refusal says where memory may be needed.
-use Rattle.std.specs.Prelude.{◌≡◌, ℕ, Bool, List, length, Option, Some, None, Result, Ok, Err}
+use Rattle.std.specs.Prelude.{◌≡◌, ℕ, Bool, List, length, Option, Some, None, Result, Ok, Err, IfOk, IfSome}
 use Rattle.hip_bytes.specs.Handle.{Handle}
-use Rattle.hip_bytes.specs.Cost.{cut_cost, CutNeedsMemory}
+use Rattle.hip_bytes.specs.Cost.{cut_cost, CutNeedsMemory, PartCounts}
 use Rattle.hip_bytes.specs.Made.{IsPart}
 use Rattle.hip_raw.specs.Meter.{RisesAtMost}
 use Rattle.hip_names.specs.PathParts.{HasNoParent, IsParent}
@@ -17,6 +17,11 @@ PartIfAny (Some items) source (Err error) = CutNeedsMemory source.kind (length i
 abbrev pub PartIfAnyCosts : Bool → Option (List ℕ) → Handle → ℕ → ℕ → Type 0
 PartIfAnyCosts shares None source before after = after ≡ before
 PartIfAnyCosts shares (Some items) source before after = RisesAtMost before after (cut_cost shares source.kind (length items))
+
+-- the part, if there is any, was counted
+abbrev pub PartIfAnyCounts : {E : Type 0} → Bool → Handle → Result (Option Handle) E → ℕ → ℕ → Type 0
+PartIfAnyCounts shares source result before after =
+    IfOk result (λ found. IfSome found (λ part. PartCounts shares source part before after))
 
 -- the part of a source that is its parent as a path, if it has one
 abbrev pub ParentAnswers : {E : Type 0} → Handle → Result (Option Handle) E → Type 0

@@ -26,7 +26,7 @@ abbrev pub PartsAnswer : {E : Type 0} → Handle → List (ℕ × ℕ) → List 
 PartsAnswer source ranges old (Ok count) new = (count ≡ length ranges) × HoldParts source ranges new
 PartsAnswer source ranges old (Err error) new = SomeNeedsMemory source.kind ranges × (new ≡ old)
 
--- the bytes that a part of the source counts which became a slot, and those of parts in slots
+-- the number of bytes that are counted where a part of the source was made and became a slot, and where many were
 abbrev pub part_count : Bool → Handle → SlotState → ℕ
 part_count shares source part = cut_cost shares source.kind (length part.handle.items)
 

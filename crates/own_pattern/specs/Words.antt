@@ -48,9 +48,9 @@ pub use Rattle.hipstr.specs.NameDecode.{IntoStrAnswers as NameDecode-IntoStrAnsw
 pub use Rattle.hipstr.specs.Occurrence.{GoesOnAt as Occurrence-GoesOnAt, GoesOnBefore as Occurrence-GoesOnBefore, IsCut as Occurrence-IsCut, IsLastMatch as Occurrence-IsLastMatch, IsNextMatch as Occurrence-IsNextMatch, start_of as Occurrence-start_of}
 pub use Rattle.hipstr.specs.Parted.{IsParted as Parted-IsParted, Lacks as Parted-Lacks}
 pub use Rattle.hipstr.specs.Parts.{part_count as Parts-part_count, parts_count as Parts-parts_count}
-pub use Rattle.hipstr.specs.PathCuts.{ParentAnswers as PathCuts-ParentAnswers, ParentCosts as PathCuts-ParentCosts, PartIfAny as PathCuts-PartIfAny, PartIfAnyCosts as PathCuts-PartIfAnyCosts}
+pub use Rattle.hipstr.specs.PathCuts.{ParentAnswers as PathCuts-ParentAnswers, ParentCosts as PathCuts-ParentCosts, PartIfAny as PathCuts-PartIfAny, PartIfAnyCosts as PathCuts-PartIfAnyCosts, PartIfAnyCounts as PathCuts-PartIfAnyCounts}
 pub use Rattle.hipstr.specs.PathParts.{BeginWith as PathParts-BeginWith, EndWith as PathParts-EndWith, HasNoParent as PathParts-HasNoParent, IsParent as PathParts-IsParent, IsTrimmed as PathParts-IsTrimmed, extension as PathParts-extension, file_name as PathParts-file_name, file_stem as PathParts-file_stem, has_root as PathParts-has_root, is_rooted as PathParts-is_rooted, name_of as PathParts-name_of}
-pub use Rattle.hipstr.specs.Piece.{AreMatches as Piece-AreMatches, AreParts as Piece-AreParts, ClonesKeepRanges as Piece-ClonesKeepRanges, DrawsFirst as Piece-DrawsFirst, DrawsFirstMatch as Piece-DrawsFirstMatch, DrawsLast as Piece-DrawsLast, DrawsLastMatch as Piece-DrawsLastMatch, FirstCosts as Piece-FirstCosts, FirstMatch as Piece-FirstMatch, FirstPiece as Piece-FirstPiece, IsLittle as Piece-IsLittle, IsMatchAt as Piece-IsMatchAt, IsPartAt as Piece-IsPartAt, LastCosts as Piece-LastCosts, LastMatch as Piece-LastMatch, LastPiece as Piece-LastPiece, Left as Piece-Left, PartAnswers as Piece-PartAnswers, draws_by as Piece-draws_by, part_cost as Piece-part_cost, parts_cost as Piece-parts_cost}
+pub use Rattle.hipstr.specs.Piece.{AreMatches as Piece-AreMatches, AreParts as Piece-AreParts, ClonesKeepRanges as Piece-ClonesKeepRanges, DrawsFirst as Piece-DrawsFirst, DrawsFirstMatch as Piece-DrawsFirstMatch, DrawsLast as Piece-DrawsLast, DrawsLastMatch as Piece-DrawsLastMatch, FirstCosts as Piece-FirstCosts, FirstMatch as Piece-FirstMatch, FirstPiece as Piece-FirstPiece, IsLittle as Piece-IsLittle, IsMatchAt as Piece-IsMatchAt, IsPartAt as Piece-IsPartAt, LastCosts as Piece-LastCosts, LastMatch as Piece-LastMatch, LastPiece as Piece-LastPiece, Left as Piece-Left, MatchCounts as Piece-MatchCounts, PartAnswers as Piece-PartAnswers, PieceCounts as Piece-PieceCounts, draws_by as Piece-draws_by, part_cost as Piece-part_cost, parts_cost as Piece-parts_cost}
 pub use Rattle.hipstr.specs.Pieces.{AreInOrder as Pieces-AreInOrder, AreInReverseOrder as Pieces-AreInReverseOrder, at_most_from as Pieces-at_most_from, at_most_to as Pieces-at_most_to, ended as Pieces-ended, gaps as Pieces-gaps, gaps_back as Pieces-gaps_back, rsplit as Pieces-rsplit, rsplit_terminator as Pieces-rsplit_terminator, rsplitn as Pieces-rsplitn, split as Pieces-split, split_inclusive as Pieces-split_inclusive, split_terminator as Pieces-split_terminator, splitn as Pieces-splitn}
 pub use Rattle.hipstr.specs.Range.{range_fault as Range-range_fault, slice_fault as Range-slice_fault, slice_of as Range-slice_of}
 pub use Rattle.hipstr.specs.Ready.{IsBackWindow as Ready-IsBackWindow, IsBetween as Ready-IsBetween, IsBetweenBack as Ready-IsBetweenBack, IsFrontWindow as Ready-IsFrontWindow, IsGoing as Ready-IsGoing, IsWindow as Ready-IsWindow}

@@ -10,7 +10,8 @@ use hip_bytes::Backend;
 use simdutf8::basic;
 use std::fmt;
 
-/// A path that is printed as a text: each longest front of a character that isn't one, or byte that begins none, as U+FFFD.
+/// A path that is printed as a text. Where its bytes aren't UTF-8, U+FFFD stands for them, as in
+/// [`HipOsStr::to_str_lossy`](crate::HipOsStr::to_str_lossy).
 #[derive(Clone, Drop)]
 pub struct Display<'a> {
     path: &'a [u8],

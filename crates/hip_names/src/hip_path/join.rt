@@ -36,7 +36,7 @@ impl<'b, B: Backend> HipPath<'b, B> {
         ensures refused_counts_none { result ≡ Err GrowFault.TooLong → meter.new ≡ meter.old }
     {
         let base = kept(self.as_path(), path);
-        let bytes = one_of_three(alloc, base, separator(base), path, meter)?;
+        let bytes = joined_three(alloc, base, separator(base), path, meter)?;
         Ok(HipPath {
             name: HipOsStr::from(bytes),
         })
@@ -45,7 +45,7 @@ impl<'b, B: Backend> HipPath<'b, B> {
 
 /// Three lists one behind another.
 #[inline]
-fn one_of_three<'b, 'x, B: Backend>(
+fn joined_three<'b, 'x, B: Backend>(
     alloc: Global,
     first: &'x [u8],
     second: &'x [u8],

@@ -1,10 +1,10 @@
 //! Parts of a path, by its components.
-ghost use Rattle.std.specs.Prelude.{◌≡◌, ◌≤◌, IfOk, IfSome, length, not, take};
+ghost use Rattle.std.specs.Prelude.{◌≡◌, ◌≤◌, IfOk, length, not, take};
 ghost use Rattle.hip_raw.specs.Meter.{RisesAtMost};
 ghost use Rattle.hip_bytes.specs.Cost.{cut_cost, PartCounts};
 ghost use Rattle.hip_bytes.specs.Made.{CutAnswers};
 ghost use Rattle.hip_names.specs.PathParts.{extension, file_name, file_stem, has_root};
-ghost use Rattle.hip_names.specs.PathCuts.{ParentAnswers, ParentCosts, PartIfAny, PartIfAnyCosts};
+ghost use Rattle.hip_names.specs.PathCuts.{ParentAnswers, ParentCosts, PartIfAny, PartIfAnyCosts, PartIfAnyCounts};
 
 use super::HipPath;
 use crate::hip_os_str::HipOsStr;
@@ -58,8 +58,7 @@ impl<'b, B: Backend> HipPath<'b, B> {
         ensures part { PartIfAny (file_name self.now.items) self.now result }
         ensures counted { PartIfAnyCosts B.SHARES (file_name self.now.items) self.now
             meter.old meter.new }
-        ensures copied { IfOk result (λ found. IfSome found
-            (λ part. PartCounts B.SHARES self.now part meter.old meter.new)) }
+        ensures copied { PartIfAnyCounts B.SHARES self.now result meter.old meter.new }
     {
         let Some((start, end)) = file_name_range(self.as_path()) else {
             return Ok(None);
@@ -86,8 +85,7 @@ impl<'b, B: Backend> HipPath<'b, B> {
         ensures part { PartIfAny (file_stem self.now.items) self.now result }
         ensures counted { PartIfAnyCosts B.SHARES (file_stem self.now.items) self.now
             meter.old meter.new }
-        ensures copied { IfOk result (λ found. IfSome found
-            (λ part. PartCounts B.SHARES self.now part meter.old meter.new)) }
+        ensures copied { PartIfAnyCounts B.SHARES self.now result meter.old meter.new }
     {
         let Some((start, end)) = file_stem_range(self.as_path()) else {
             return Ok(None);
@@ -113,8 +111,7 @@ impl<'b, B: Backend> HipPath<'b, B> {
         ensures part { PartIfAny (extension self.now.items) self.now result }
         ensures counted { PartIfAnyCosts B.SHARES (extension self.now.items) self.now
             meter.old meter.new }
-        ensures copied { IfOk result (λ found. IfSome found
-            (λ part. PartCounts B.SHARES self.now part meter.old meter.new)) }
+        ensures copied { PartIfAnyCounts B.SHARES self.now result meter.old meter.new }
     {
         let Some((start, end)) = extension_range(self.as_path()) else {
             return Ok(None);
@@ -140,8 +137,7 @@ impl<'b, B: Backend> HipPath<'b, B> {
     ) -> Result<Option<Self>, AllocError>
         ensures parent { ParentAnswers self.now result }
         ensures counted { ParentCosts B.SHARES self.now result meter.old meter.new }
-        ensures copied { IfOk result (λ found. IfSome found
-            (λ part. PartCounts B.SHARES self.now part meter.old meter.new)) }
+        ensures copied { PartIfAnyCounts B.SHARES self.now result meter.old meter.new }
     {
         let Some(len) = parent_len(self.as_path()) else {
             return Ok(None);

@@ -1,9 +1,8 @@
 //! Commands that cut a text once, or in two.
-ghost use Rattle.std.specs.Prelude.{◌≡◌, ◌<◌, ℕ, false, length, None, Some, IfErr, IfOk, IfSome, OnOk};
+ghost use Rattle.std.specs.Prelude.{◌≡◌, ◌<◌, ℕ, false, length, None, Some, IfErr, IfOk, OnOk};
 ghost use Rattle.std.specs.Option.{option_or};
 ghost use Rattle.hip_bytes.specs.Meter.{RisesAtLeast, RisesAtMost};
-ghost use Rattle.hip_bytes.specs.Cost.{PartCounts};
-ghost use Rattle.hip_cuts.specs.Cut.{PartsCount};
+ghost use Rattle.hip_cuts.specs.Cut.{OnceCounts, StripCounts, TrimCounts};
 ghost use Rattle.hip_cuts.specs.Cut.{TrimAnswers, TrimCosts, StripAnswers, StripCosts, OnceAnswers, OnceCosts, space_ends};
 ghost use Rattle.hipstr.specs.declared.command.Command.{Command};
 ghost use Rattle.hipstr.specs.Cut.{Leaves, occurrences, stripped, parted, trims_one_end};
@@ -153,8 +152,7 @@ fn trimmed<'b, B: Backend>(
 ) -> Result<HipStr<'b, B>, AllocError>
     ensures trimmed { TrimAnswers (λ part. part) (Leaves side) space_ends text.now result }
     ensures counted { TrimCosts B.SHARES (Leaves side) space_ends text.now meter.old meter.new }
-    ensures copied { IfOk result
-        (λ part. PartCounts B.SHARES text.now part meter.old meter.new) }
+    ensures copied { TrimCounts (λ part. part) B.SHARES text.now result meter.old meter.new }
 {
     match side {
         Side::Start => text.trim_start_metered(alloc, meter),
@@ -189,8 +187,7 @@ fn trimmed_of<'b, B: Backend>(
         (occurrences pattern.entry) text.now result }
     ensures counted { TrimCosts B.SHARES (Leaves side)
         (occurrences pattern.entry) text.now meter.old meter.new }
-    ensures copied { IfOk result
-        (λ part. PartCounts B.SHARES text.now part meter.old meter.new) }
+    ensures copied { TrimCounts (λ part. part) B.SHARES text.now result meter.old meter.new }
 {
     match pattern {
         Pat::Text(pattern) => match side {
@@ -214,8 +211,7 @@ fn trimmed_matches<'b, B: Backend, P: DoubleEndedPattern>(
     ensures trimmed { TrimAnswers (λ part. part) (Leaves side) (P.ends pattern) text.now result }
     ensures counted { TrimCosts B.SHARES (Leaves side)
         (P.ends pattern) text.now meter.old meter.new }
-    ensures copied { IfOk result
-        (λ part. PartCounts B.SHARES text.now part meter.old meter.new) }
+    ensures copied { TrimCounts (λ part. part) B.SHARES text.now result meter.old meter.new }
 {
     match side {
         Side::Start => text.trim_start_matches_metered(alloc, pattern, meter),
@@ -236,8 +232,7 @@ fn stripped<'b, B: Backend>(
         (occurrences pattern.entry) text.now result }
     ensures counted { StripCosts B.SHARES (stripped end)
         (occurrences pattern.entry) text.now meter.old meter.new }
-    ensures copied { IfOk result (λ found. IfSome found
-        (λ part. PartCounts B.SHARES text.now part meter.old meter.new)) }
+    ensures copied { StripCounts (λ part. part) B.SHARES text.now result meter.old meter.new }
 {
     match pattern {
         Pat::Text(pattern) => text_without(alloc, text, end, pattern, meter),
@@ -258,8 +253,7 @@ fn text_without<'b, B: Backend, P: ReversePattern>(
     ensures stripped { StripAnswers (λ part. part) (stripped end) (P.ends pattern) text.now result }
     ensures counted { StripCosts B.SHARES (stripped end)
         (P.ends pattern) text.now meter.old meter.new }
-    ensures copied { IfOk result (λ found. IfSome found
-        (λ part. PartCounts B.SHARES text.now part meter.old meter.new)) }
+    ensures copied { StripCounts (λ part. part) B.SHARES text.now result meter.old meter.new }
 {
     match end {
         End::Front => text.strip_prefix_metered(alloc, pattern, meter),
@@ -279,8 +273,7 @@ fn parted<'b, B: Backend>(
         (occurrences pattern.entry) text.now result }
     ensures counted { OnceCosts B.SHARES (parted end)
         (occurrences pattern.entry) text.now meter.old meter.new }
-    ensures copied { IfOk result (λ found. IfSome found
-        (λ parts. PartsCount B.SHARES text.now parts.0 parts.1 meter.old meter.new)) }
+    ensures copied { OnceCounts (λ part. part) B.SHARES text.now result meter.old meter.new }
 {
     match pattern {
         Pat::Text(pattern) => two_parts(alloc, text, end, pattern, meter),
@@ -301,8 +294,7 @@ fn two_parts<'b, B: Backend, P: ReversePattern>(
     ensures parts { OnceAnswers (λ part. part) (parted end) (P.ends pattern) text.now result }
     ensures counted { OnceCosts B.SHARES (parted end)
         (P.ends pattern) text.now meter.old meter.new }
-    ensures copied { IfOk result (λ found. IfSome found
-        (λ parts. PartsCount B.SHARES text.now parts.0 parts.1 meter.old meter.new)) }
+    ensures copied { OnceCounts (λ part. part) B.SHARES text.now result meter.old meter.new }
 {
     match end {
         End::Front => text.split_once_metered(alloc, pattern, meter),
