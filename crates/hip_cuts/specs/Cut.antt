@@ -1,11 +1,12 @@
 -- The part of a text that a trim or a strip leaves, and the two parts of one that is split once: the source's parts at the ranges that
 -- Rust's documentation of `str` tells. `shown` says what is seen of a text.
 use Rattle.std.specs.Prelude.{◌≡◌, ℕ, ◌+◌, ◌-◌, ◌<◌, ◌⊎◌, Bool, true, List, ◌++◌, encode_utf8, length, Option, Some, None, Result, Ok, Err, IfOk, IfSome}
-use Rattle.std.specs.Char.{is_whitespace}
+use Rattle.std.specs.Char.{is_ascii_whitespace, is_whitespace}
 use Rattle.std.specs.List.{AllByRecursion, flat_map}
 use Rattle.hip_text.specs.Handle.{Handle}
 use Rattle.hip_text.specs.Cost.{CutNeedsMemory, PartCounts, cut_cost}
 use Rattle.hip_text.specs.Meter.{RisesAtLeast, RisesAtMost}
+use Rattle.hip_match.specs.Bytes.{byte_ends}
 use Rattle.hip_match.specs.Characters.{char_ends}
 use Rattle.hip_match.specs.Parted.{IsParted, Lacks}
 use Rattle.hip_match.specs.Texts.{text_ends}
@@ -19,6 +20,10 @@ Ends = List ℕ → ℕ → Option ℕ
 -- where white space ends: the characters that Unicode calls `White_Space`
 abbrev pub space_ends : Ends
 space_ends = char_ends is_whitespace
+
+-- where ASCII white space ends in bytes: the bytes that `u8::is_ascii_whitespace` tells
+abbrev pub ascii_space_ends : Ends
+ascii_space_ends = byte_ends is_ascii_whitespace
 
 -- a search, by where the occurrences in a text end, and by its length
 abbrev pub Finds : Type 0 → Type 0

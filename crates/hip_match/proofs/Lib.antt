@@ -23,6 +23,8 @@ pub mod StartLemmas
 pub mod MarkedSetLemmas
 pub mod SpaceLemmas
 pub mod GapLemmas
+pub mod ByteLemmas
+pub mod LineLemmas
 pub mod OrderLemmas
 pub mod PartedLemmas
 pub mod Rules

@@ -1,9 +1,11 @@
 -- The lemmas by which some functions are proved.
 use Rattle.hip_match.proofs.AnswerLemmas.{answered, same_ends}
 use Rattle.hip_match.proofs.BitLemmas.{below_kept, below_none, cut_lowest, cut_others, from_below, from_kept, one_some, top, up_below, up_moved, xor_other, xor_same}
+use Rattle.hip_match.proofs.ByteLemmas.{back_end, back_more, front_end, front_more}
 use Rattle.hip_match.proofs.DecodeLemmas.{before_four, before_three, before_two, fourth, is_four, is_three, is_two, room_2, room_3, second, third}
 use Rattle.hip_match.proofs.DrawLemmas.{TakesEnd-back, ends_meet}
 use Rattle.hip_match.proofs.LawLemmas.{split-joined, split_inclusive-together}
+use Rattle.hip_match.proofs.LineLemmas.{last-line, last-open, past-open}
 use Rattle.hip_match.proofs.MarkLemmas.{alike}
 use Rattle.hip_match.proofs.PiecesLemmas.{InOrderBack-append, IsBetweenBack-moved, gaps_back-append, nonempty-append_dropped, nonempty-append_kept, rterminator-next_back}
 use Rattle.hip_match.proofs.RunLemmas.{are_runs}
@@ -20,6 +22,10 @@ use Rattle.std.proofs.lemmas.Nat.Bits.{bit_at-trailing_zeros}
 use Rattle.std.proofs.lemmas.Str.{IsCharBoundary-before_ascii, IsCharBoundary-end, IsCharBoundary-start}
 
 pub ruleset ascii_set = (alphabetic, alphanumeric, whitespace, one_more, joined, others, nibbles_ascii, alike)
+
+pub ruleset bytes = (front_more, front_end, back_more, back_end)
+
+pub ruleset byte_lines = (last-line, last-open, past-open)
 
 pub ruleset bits = (top, cut_lowest, cut_others, one_some, xor_other, xor_same, from_below, from_kept, below_kept, below_none, up_below, up_moved, bit_at-trailing_zeros)
 

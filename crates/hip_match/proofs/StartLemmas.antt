@@ -32,7 +32,7 @@ module _ (p : ℕ → Bool) (low : (c : ℕ) → 128 ≤ c → p c ≡ false) (t
   ascii-some k lt is = grind (arith, nat_tests, common_steps, IsCharBoundary-before_ascii, char_at-ascii, char_at-starts, char_ends-yes, false≢true)
 
   -- an occurrence is the byte at its place
-  ascii-is : (a b : ℕ) → char_ends p t a ≡ Some b → (a < length t) × (p (slice_index t a) ≡ true) × (b ≡ a + 1)
+  pub ascii-is : (a b : ℕ) → char_ends p t a ≡ Some b → (a < length t) × (p (slice_index t a) ≡ true) × (b ≡ a + 1)
   ascii-is a b is = grind (arith, nat_tests, common_steps, ascii-none, ascii-some, char_at-end, char_ends-none, none-some, same_Some)
 
 pub ascii_starts : (belongs : ℕ → Bool) (places : List ℕ → ℕ → Bool) → ((t : List ℕ) (k : ℕ) → places t k ≡ belongs (slice_index t k)) → ((c : ℕ) → 128 ≤ c → belongs c ≡ false) → AreStarts belongs 1 places

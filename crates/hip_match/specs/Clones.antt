@@ -1,5 +1,5 @@
 -- Clones of patterns and of iterators, which keep what their originals have.
-use Rattle.std.proofs.Common.{arith, refl, sym, ◌∙◌}
+use Rattle.std.proofs.Common.{ap, arith, refl, subst, sym, ◌∙◌}
 use Rattle.std.proofs.lemmas.Bool.Decides.{nat_tests}
 use Rattle.std.proofs.lemmas.Grind.{common_steps}
 use Rattle.std.specs.Prelude.{◌≡◌, ℕ, Bool, Option, List, [], map, if◌then◌else◌}
@@ -26,6 +26,11 @@ pub record Keeps (can copy_can : Type 0) (t copy_t : List ℕ) (l copy_l : List 
 -- the iterator `copy` is ready where i is, and gives the same ranges of the same text
 abbrev pub KeepsRanges : {I : Type 0} → (I → Type 0) → (I → List ℕ) → (I → List (ℕ × ℕ)) → I → I → Type 0
 KeepsRanges ready text rest i copy = Keeps (ready i) (ready copy) (text i) (text copy) (rest i) (rest copy)
+
+-- an equal iterator keeps all
+pub same_ranges : {I : Type 0} (ready : I → Type 0) (text : I → List ℕ) (rest : I → List (ℕ × ℕ)) {i copy : I} → copy ≡ i
+    → KeepsRanges ready text rest i copy
+same_ranges ready text rest is = record { ready = subst ready (sym is); text = ap text is; rest = ap rest is }
 
 -- ---- what follows of the parts of an iterator
 

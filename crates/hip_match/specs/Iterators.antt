@@ -3,12 +3,19 @@ use Rattle.std.specs.Prelude.{◌≡◌, ℕ, Option, List, IfSome}
 use Rattle.hip_match.specs.Clones.{KeepsRanges}
 use Rattle.hip_match.specs.Occurrence.{IsCut}
 use Rattle.hip_match.specs.Ready.{IsBetween, IsBetweenBack}
+use Rattle.hip_match.specs.declared.ranges.ByteRanges.{Ghosts as ByteGhosts}
 use Rattle.hip_match.specs.declared.ranges.Ranges.{Ghosts}
 
 -- the iterator i is ready, and gives the ranges l of the text t
 pub record Gives {I : Type 0} (g : Ghosts I) (i : I) (t : List ℕ) (l : List (ℕ × ℕ)) : Type 0 where
   pub ready : g.ready i
   pub text : g.text i ≡ t
+  pub rest : g.rest i ≡ l
+
+-- like `Gives`, of ranges of bytes
+pub record GivesBytes {I : Type 0} (g : ByteGhosts I) (i : I) (t : List ℕ) (l : List (ℕ × ℕ)) : Type 0 where
+  pub ready : g.ready i
+  pub bytes : g.bytes i ≡ t
   pub rest : g.rest i ≡ l
 
 -- the iterator `copy` is ready where i is, and gives the same ranges of the same text

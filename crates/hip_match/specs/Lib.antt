@@ -7,6 +7,7 @@ pub mod Leftmost
 pub mod Rightmost
 pub mod Pieces
 pub mod Runs
+pub mod Bytes
 pub mod Trims
 pub mod Draw
 pub mod Joined

@@ -1,8 +1,8 @@
 -- Which places of a text pass a test, as the bits of a number. Only private functions cite it.
-use Rattle.std.specs.Prelude.{◌≡◌, ℕ, ◌+◌, ◌-◌, ◌/◌, ◌%◌, ◌<◌, ◌≤◌, ◌==◌, ◌&&◌, nat_lt, nat_le, Bool, true, not, List, [], ◌∷◌, length, slice_index, bit_and}
+use Rattle.std.specs.Prelude.{◌≡◌, ℕ, ◌+◌, ◌-◌, ◌/◌, ◌%◌, ◌<◌, ◌≤◌, ◌⊎◌, ◌==◌, ◌&&◌, nat_lt, nat_le, Bool, true, not, Option, Some, None, List, [], ◌∷◌, length, slice_index, bit_and}
 use Rattle.std.specs.Int.{bit_at}
 use Rattle.memchr.specs.Find.{Nowhere}
-use Rattle.hip_match.specs.Characters.{char_ends}
+use Rattle.hip_match.specs.Bytes.{byte_ends}
 use Rattle.hip_match.specs.Leftmost.{leftmost_between}
 use Rattle.hip_match.specs.Pieces.{gaps}
 
@@ -49,6 +49,19 @@ pub record Behind (test : List ℕ → ℕ → Bool) (text : List ℕ) (to start
   pub beyond : Nowhere (PassesAt test text) to start
   pub marks : AreMarks test text start to (start + 64) bits
 
--- the parts from `from` up to `to` between the characters of a set
+-- the parts from `from` up to `to` between the bytes that pass
 abbrev pub marked_parts : (ℕ → Bool) → List ℕ → ℕ → ℕ → List (ℕ × ℕ)
-marked_parts belongs text from to = gaps from (leftmost_between (char_ends belongs text) from to) to
+marked_parts passes bytes from to = gaps from (leftmost_between (byte_ends passes bytes) from to) to
+
+-- the part that is taken from the front of a window: it ends before a byte that passes, behind which the window goes on at `next`, or with
+-- the window
+abbrev pub IsFrontPart : (ℕ → Bool) → List ℕ → ℕ → ℕ → Option (ℕ × ℕ) → ℕ → Type 0
+IsFrontPart passes bytes from to None next = next ≡ from
+IsFrontPart passes bytes from to (Some part) next =
+    (part.0 ≡ from) × (((from ≤ part.1) × (part.1 < to) × (passes (slice_index bytes part.1) ≡ true) × (next ≡ part.1 + 1)) ⊎ ((part.1 ≡ to) × (next ≡ from)))
+
+-- like `IsFrontPart`, from the back: the part starts behind a byte that passes, at which the window now ends
+abbrev pub IsBackPart : (ℕ → Bool) → List ℕ → ℕ → ℕ → Option (ℕ × ℕ) → ℕ → Type 0
+IsBackPart passes bytes from to None end = end ≡ to
+IsBackPart passes bytes from to (Some part) end =
+    (part.1 ≡ to) × (((from ≤ end) × (end < to) × (passes (slice_index bytes end) ≡ true) × (part.0 ≡ end + 1)) ⊎ ((part.0 ≡ from) × (end ≡ to)))

@@ -30,7 +30,9 @@
 pub mod ascii_set;
 pub mod bits;
 mod boundaries;
+pub mod byte_lines;
 pub mod byte_test;
+pub mod bytes;
 mod chars;
 pub mod chosen;
 pub mod draw;
@@ -54,6 +56,7 @@ pub mod trim;
 pub mod white_space;
 
 pub use ascii_set::AsciiSet;
+pub use byte_lines::ByteLines;
 pub use chosen::Chosen;
 pub use draw::{End, draw_into};
 pub use indices::{Indices, MatchIndices, RMatchIndices};
@@ -62,7 +65,7 @@ pub use marked_parts::{MarkedParts, SplitByte};
 pub use matches::Matches;
 pub use pattern::{ClonePattern, DoubleEndedPattern, OneChar, Pattern, ReversePattern};
 pub use predicate::{CharPred, choose_by};
-pub use ranges::{CloneRanges, Ranges, RangesBack};
+pub use ranges::{ByteRanges, CloneByteRanges, CloneRanges, Ranges, RangesBack};
 pub use rmatches::RMatches;
 pub use rsplit::{RSplit, RSplitN, RSplitTerminator};
 pub use split::{Split, SplitInclusive, SplitN, SplitTerminator};

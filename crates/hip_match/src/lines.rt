@@ -1,11 +1,12 @@
 //! The lines of a text.
 ghost use Rattle.std.specs.Prelude.{◌≡◌, ◌==◌, map};
 ghost use Rattle.std.proofs.Common.{ap};
+ghost use Rattle.hip_match.specs.Bytes.{IsWithin};
 ghost use Rattle.hip_match.specs.Characters.{char_ends};
 ghost use Rattle.hip_match.specs.Clones.{ended_kept, lines_kept};
 ghost use Rattle.hip_match.specs.Iterators.{Gives};
 ghost use Rattle.hip_match.specs.Occurrence.{IsCut};
-ghost use Rattle.hip_match.specs.Runs.{line_of, lines};
+ghost use Rattle.hip_match.specs.Runs.{line_of, lines, without_return};
 
 use crate::ranges::{CloneRanges, Ranges, RangesBack};
 use crate::split::SplitInclusive;
@@ -30,6 +31,19 @@ impl<'h> Lines<'h> {
     }
 }
 
+// The range from `start` up to `feed` without one carriage return at its end.
+#[inline]
+pub(crate) fn without_return(bytes: &[u8], start: usize, feed: usize) -> (usize, usize)
+    requires { IsWithin bytes.now (start, feed) }
+    ensures value { result ≡ without_return bytes.now (start, feed) }
+    ensures within { IsWithin bytes.now result }
+{
+    if start == feed || bytes[feed - 1] != b'\r' {
+        return (start, feed);
+    }
+    (start, feed - 1)
+}
+
 // A part without its line feed and one carriage return before that.
 #[inline]
 fn without_line_end(text: &str, part: (usize, usize)) -> (usize, usize)
@@ -42,11 +56,7 @@ fn without_line_end(text: &str, part: (usize, usize)) -> (usize, usize)
     if start == end || bytes[end - 1] != b'\n' {
         return part;
     }
-    let feed = end - 1;
-    if start == feed || bytes[feed - 1] != b'\r' {
-        return (start, feed);
-    }
-    (start, feed - 1)
+    without_return(bytes, start, end - 1)
 }
 
 impl<'h> Ranges for Lines<'h> {
