@@ -1,16 +1,19 @@
 -- Texts that are cut at an occurrence of another: the parts, joined with it, are the text.
 use Rattle.std.proofs.Common.{◌≡◌, ◌∙◌, ℕ, ◌+◌, ◌-◌, ◌<◌, ◌≤◌, ◌⊎◌, inl, inr, ◌==◌, List, [], ◌∷◌, ◌++◌, Option, None, Some, Result, Ok, Err, IsUtf8, encode_utf8, length, drop, take, arith, ap, subst, sym, refl, drop-drop, length-append, length-take-le, take-append-drop}
 use Rattle.std.proofs.{Math.Nat.min-le_left, Math.Seq.drop-append_seam, Math.Seq.take-append_seam}
-use Rattle.std.proofs.lemmas.{List.append-nil, List.drop_all, List.take_all}
+use Rattle.std.proofs.lemmas.Bool.Decides.{nat_tests}
+use Rattle.std.proofs.lemmas.Option.{none-some}
+use Rattle.std.proofs.lemmas.{List.append-nil, List.drop_all, List.drop_more, List.take_all}
 use Rattle.std.proofs.lemmas.Str.{IsCharBoundary-at_seam, IsCharBoundary-end, IsCharBoundary-from_take, IsCharBoundary-start, IsUtf8-encode}
-use Rattle.std.specs.{Char.IsScalar, Option.option_map, Str.IsCharBoundary, Prelude.slice_range}
+use Rattle.std.specs.{Char.IsScalar, Option.option_map, Str.IsCharBoundary, Prelude.slice_index, Prelude.slice_range}
 use Rattle.hip_text.specs.Handle.{Handle}
-use Rattle.hip_match.specs.{Characters.char_ends, Leftmost.IsListed, Leftmost.leftmost, Occurrence.start_of, Rightmost.EndInOrder, Rightmost.EndsWithin, Rightmost.IsRightmost, Rightmost.place_before, Rightmost.rightmost, Texts.text_ends}
+use Rattle.hip_match.specs.{Bytes.byte_ends, Characters.char_ends, Leftmost.IsListed, Leftmost.leftmost, Occurrence.start_of, Rightmost.EndInOrder, Rightmost.EndsWithin, Rightmost.IsRightmost, Rightmost.place_before, Rightmost.rightmost, Texts.text_ends}
 use Rattle.hip_match.specs.TextLaws.{text_ends-is, text_ends-one_start, text_ends-some}
 use Rattle.hip_match.specs.Trims.{cut_at_first, rsplit_once, split_once, strip_prefix, strip_suffix}
-use Rattle.hip_match.proofs.{CharTextLemmas.same_ends, OccurrenceLemmas.option_cases, RightLawLemmas.rightmost-is, TextLemmas.rest_slice, TrimLemmas.start_of-is, TrimLemmas.start_of-one}
-use Rattle.hip_match.proofs.PartedLemmas.{IsParted-first, Lacks-none}
-use Rattle.hip_cuts.specs.Cut.{OnceAnswers, PartIfAny, PartedAs, PartedLastAs, PartsIfAny, StripAnswers, StrippedBack, StrippedFront}
+use Rattle.hip_match.proofs.{GapLemmas.byte-is, GapLemmas.byte-some, CharTextLemmas.same_ends, OccurrenceLemmas.option_cases, RightLawLemmas.rightmost-is, TextLemmas.rest_slice, TrimLemmas.start_of-is, TrimLemmas.start_of-one}
+use Rattle.hip_match.proofs.PartedLemmas.{IsParted-first, Lacks-none, byte_first, byte_nowhere}
+use Rattle.hip_cuts.proofs.Lines.{part-byte}
+use Rattle.hip_cuts.specs.Cut.{LacksByte, OnceAnswers, PartIfAny, PartedAs, PartedAtByte, PartedAtLastByte, PartedLastAs, PartsIfAny, StripAnswers, StrippedBack, StrippedFront}
 
 parted : {E : Type 0} (p t : List ℕ) (found : List (ℕ × ℕ)) (source : Handle) (result : Result (Option (Handle × Handle)) E) → leftmost (text_ends p t) (length t) ≡ found
     → source.items ≡ t → PartsIfAny (λ part. part) (cut_at_first found (length t)) source result → PartedAs p t result
@@ -108,6 +111,18 @@ none-listed : (a b : ℕ) → IsListed a b [] ⊎ EndsWithin b [] → ⊥
 none-listed a b (inl never) = never
 none-listed a b (inr never) = never
 
+-- where a later start has a later end, none starts behind the first that is listed from the back
+module _ (e : ℕ → Option ℕ) (n : ℕ) (rise : (a b c d : ℕ) → e a ≡ Some b → e c ≡ Some d → a < c → b < d) where
+  by-place : (k b : ℕ) (m : ℕ × ℕ) (ms : List (ℕ × ℕ)) → EndInOrder (place_before m) ms → m.0 < k → m.1 < b → IsListed k b (m ∷ ms) ⊎ EndsWithin b (m ∷ ms) → ⊥
+  by-place k b m ms order behind later (inl (inl listed)) = omega (arith, behind, listed.0)
+  by-place k b m ms order behind later (inr (inl within)) = omega (arith, later, within.1)
+  by-place k b m ms order behind later (inl (inr listed)) = later-end ms (place_before m) k b order (omega (arith, later, min-le_left m.1 (m.0 + 1))) (inl listed)
+  by-place k b m ms order behind later (inr (inr within)) = later-end ms (place_before m) k b order (omega (arith, later, min-le_left m.1 (m.0 + 1))) (inr within)
+
+  none-behind : (k b : ℕ) (m : ℕ × ℕ) (ms : List (ℕ × ℕ)) → IsRightmost e (n + 1) (m ∷ ms) → e m.0 ≡ Some m.1 → m.0 < k → b ≤ n → e k ≡ Some b → ⊥
+  none-behind k b m ms right occurs behind within is =
+      by-place k b m ms right.in_order.1 behind (rise m.0 m.1 k b occurs is behind) (right.no_other k b is (omega (arith, within)))
+
 module _ {E : Type 0} (p t : List ℕ) (source : Handle) (same : source.items ≡ t) where
   last-by : (found : List (ℕ × ℕ)) → IsRightmost (text_ends p t) (length t + 1) found → (result : Result (Option (Handle × Handle)) E)
       → PartsIfAny (λ part. part) (cut_at_first found (length t)) source result → PartedLastAs p t result
@@ -124,17 +139,8 @@ module _ {E : Type 0} (p t : List ℕ) (source : Handle) (same : source.items �
       let size = length-take-le (m.0 - 0) t (omega (arith, (spans p t m.0 m.1 occurs).0, (spans p t m.0 m.1 occurs).1)) in omega (arith, ap length front_is, size) in
       record {
         joined = joined-at p t m.0 m.1 occurs ∙ ap (λ l. l ++ (p ++ slice_range t m.1 (length t))) (sym front_is) ∙ ap (λ l. parts.0.items ++ (p ++ l)) (sym back_is);
-        last = λ k behind. option_cases (text_ends p t k) (λ none. none) (λ b is. absurd (none-behind k b m ms right occurs (omega (arith, long, behind)) is));
-      } where
-        none-behind : (k b : ℕ) (m : ℕ × ℕ) (ms : List (ℕ × ℕ)) → IsRightmost (text_ends p t) (length t + 1) (m ∷ ms) → text_ends p t m.0 ≡ Some m.1 → m.0 < k → text_ends p t k ≡ Some b → ⊥
-        none-behind k b m ms right occurs behind is =
-            let later : m.1 < b = omega (arith, behind, (text_ends-is p t k b is).3, (text_ends-is p t m.0 m.1 occurs).3) in
-            by-place (right.no_other k b is (omega (arith, (spans p t k b is).1))) where
-              by-place : IsListed k b (m ∷ ms) ⊎ EndsWithin b (m ∷ ms) → ⊥
-              by-place (inl (inl listed)) = omega (arith, behind, listed.0)
-              by-place (inr (inl within)) = omega (arith, (text_ends-is p t k b is).3, (text_ends-is p t m.0 m.1 occurs).3, behind, within.1)
-              by-place (inl (inr listed)) = later-end ms (place_before m) k b right.in_order.1 (omega (arith, (text_ends-is p t k b is).3, (text_ends-is p t m.0 m.1 occurs).3, behind, min-le_left m.1 (m.0 + 1))) (inl listed)
-              by-place (inr (inr within)) = later-end ms (place_before m) k b right.in_order.1 (omega (arith, (text_ends-is p t k b is).3, (text_ends-is p t m.0 m.1 occurs).3, behind, min-le_left m.1 (m.0 + 1))) (inr within)
+        last = λ k behind. option_cases (text_ends p t k) (λ none. none) (λ b is. absurd (none-behind (text_ends p t) (length t) (λ a b c d first second lt. omega (arith, lt, (text_ends-is p t a b first).3, (text_ends-is p t c d second).3)) k b m ms right occurs (omega (arith, long, behind)) (spans p t k b is).1 is));
+      }
 
 pub parted_last : {E : Type 0} (p t : List ℕ) (source : Handle) (result : Result (Option (Handle × Handle)) E) → IsUtf8 t → source.items ≡ t
     → OnceAnswers (λ part. part) rsplit_once (text_ends p) source result → PartedLastAs p t result
@@ -167,3 +173,71 @@ module _ {E : Type 0} (c : ℕ) (t : List ℕ) (source : Handle) (good : IsScala
   stripped_back_char result answers =
       stripped_back (encode_utf8 c) t source result (IsUtf8-encode c good) utf8 same
       (subst (λ (ends : ℕ → Option ℕ). PartIfAny (λ part. part) (strip_suffix ends (length source.items)) source result) (sym (at-source c t source good utf8 same)) answers)
+
+-- ---- bytes that are cut at a byte
+
+module _ (byte : ℕ) (t : List ℕ) where
+  abbrev at_byte : ℕ → Option ℕ
+  at_byte = byte_ends (λ b. b == byte) t
+
+  stands : (a b : ℕ) → at_byte a ≡ Some b → (a < length t) × (slice_index t a ≡ byte) × (b ≡ a + 1)
+  stands a b is = let at = byte-is (λ b. b == byte) t a b is in (at.0, (grind (arith, nat_tests, at.1)), at.2)
+
+  misses : (k : ℕ) → at_byte k ≡ None → k < length t → slice_index t k ≡ byte → ⊥
+  misses k none lt is = none-some (k + 1) (sym none ∙ byte-some (λ b. b == byte) t k lt (grind (arith, nat_tests, is)))
+
+  joined-byte : (a b : ℕ) → at_byte a ≡ Some b → t ≡ slice_range t 0 a ++ byte ∷ slice_range t b (length t)
+  joined-byte a b is =
+      let at = stands a b is in
+      let rest : drop a t ≡ byte ∷ slice_range t b (length t) =
+      drop_more t a 0 at.0 ∙ ap (λ x. x ∷ drop (a + 1) t) at.1 ∙ ap (λ n. byte ∷ drop n t) (sym at.2) ∙ ap (λ l. byte ∷ l) (sym (rest_slice t b)) in
+      sym (take-append-drop a t) ∙ ap (λ n. take n t ++ drop a t) (omega arith) ∙ ap (λ l. slice_range t 0 a ++ l) rest
+
+  lacks-in : (i j : ℕ) → j ≤ length t → ((k : ℕ) → i ≤ k → k < j → at_byte k ≡ None) → LacksByte byte (slice_range t i j)
+  lacks-in i j fits none k lt is =
+      let at = part-byte t i j k fits lt in
+      misses (i + k) (none (i + k) (omega arith) at.1) (omega (arith, at.1)) (sym at.0 ∙ is)
+
+  module _ {E : Type 0} (source : Handle) (same : source.items ≡ t) where
+    at-byte : (found : List (ℕ × ℕ)) → leftmost at_byte (length t) ≡ found → (result : Result (Option (Handle × Handle)) E)
+        → PartsIfAny (λ part. part) (cut_at_first found (length t)) source result → PartedAtByte byte t result
+    at-byte found is (Err error) answers = tt
+    at-byte [] is (Ok None) answers = λ k lt here. misses k (byte_nowhere (λ b. b == byte) t is k) lt here
+    at-byte [] is (Ok (Some parts)) answers = cc
+    at-byte (m ∷ ms) is (Ok None) answers = absurd answers
+    at-byte (m ∷ ms) is (Ok (Some parts)) answers =
+        let first = byte_first (λ b. b == byte) t m ms is in
+        let front_is : parts.0.items ≡ slice_range t 0 m.0 = answers.0.items_are ∙ ap (λ l. slice_range l 0 m.0) same in
+        let back_is : parts.1.items ≡ slice_range t m.1 (length t) = answers.1.items_are ∙ ap (λ l. slice_range l m.1 (length t)) same in
+        (joined-byte m.0 m.1 first.occurs ∙ ap (λ l. l ++ byte ∷ slice_range t m.1 (length t)) (sym front_is) ∙ ap (λ l. parts.0.items ++ byte ∷ l) (sym back_is),
+         subst (LacksByte byte) (sym front_is) (lacks-in 0 m.0 (omega (arith, (stands m.0 m.1 first.occurs).0)) first.first))
+
+    pub parted_at_byte : (result : Result (Option (Handle × Handle)) E) → OnceAnswers (λ part. part) split_once (byte_ends (λ b. b == byte)) source result → PartedAtByte byte t result
+    parted_at_byte result answers =
+        at-byte (leftmost at_byte (length t)) refl result
+        (subst (λ (l : List ℕ). PartsIfAny (λ part. part) (split_once (byte_ends (λ b. b == byte) l) (length l)) source result) same answers)
+
+    at-last-byte : (found : List (ℕ × ℕ)) → IsRightmost at_byte (length t + 1) found → (result : Result (Option (Handle × Handle)) E)
+        → PartsIfAny (λ part. part) (cut_at_first found (length t)) source result → PartedAtLastByte byte t result
+    at-last-byte found right (Err error) answers = tt
+    at-last-byte [] right (Ok None) answers = λ k lt here.
+        let is = byte-some (λ b. b == byte) t k lt (grind (arith, nat_tests, here)) in
+        none-listed k (k + 1) (right.no_other k (k + 1) is (omega (arith, lt)))
+    at-last-byte [] right (Ok (Some parts)) answers = cc
+    at-last-byte (m ∷ ms) right (Ok None) answers = absurd answers
+    at-last-byte (m ∷ ms) right (Ok (Some parts)) answers =
+        let occurs = right.occur.0 in
+        let front_is : parts.0.items ≡ slice_range t 0 m.0 = answers.0.items_are ∙ ap (λ l. slice_range l 0 m.0) same in
+        let back_is : parts.1.items ≡ slice_range t m.1 (length t) = answers.1.items_are ∙ ap (λ l. slice_range l m.1 (length t)) same in
+        let rise : (a b c d : ℕ) → at_byte a ≡ Some b → at_byte c ≡ Some d → a < c → b < d = λ a b c d first second lt. omega (arith, lt, (stands a b first).2, (stands c d second).2) in
+        let behind : (k : ℕ) → m.1 ≤ k → k < length t → at_byte k ≡ None =
+        λ k low high. option_cases (at_byte k) (λ none. none)
+            (λ b is. absurd (none-behind at_byte (length t) rise k b m ms right occurs (omega (arith, low, (stands m.0 m.1 occurs).2)) (omega (arith, high, (stands k b is).2)) is)) in
+        (joined-byte m.0 m.1 occurs ∙ ap (λ l. l ++ byte ∷ slice_range t m.1 (length t)) (sym front_is) ∙ ap (λ l. parts.0.items ++ byte ∷ l) (sym back_is),
+         subst (LacksByte byte) (sym back_is) (lacks-in m.1 (length t) (omega arith) behind))
+
+    pub parted_at_last_byte : (result : Result (Option (Handle × Handle)) E) → OnceAnswers (λ part. part) rsplit_once (byte_ends (λ b. b == byte)) source result → PartedAtLastByte byte t result
+    parted_at_last_byte result answers =
+        at-last-byte (rightmost at_byte (length t))
+        (rightmost-is at_byte (length t) (λ a b is. let at = stands a b is in (omega (arith, at.2), omega (arith, at.0, at.2))) (λ a b c first second. omega (arith, (stands a c first).2, (stands b c second).2))) result
+        (subst (λ (l : List ℕ). PartsIfAny (λ part. part) (rsplit_once (byte_ends (λ b. b == byte) l) (length l)) source result) same answers)

@@ -1,6 +1,6 @@
 -- The part of a text that a trim or a strip leaves, and the two parts of one that is split once: the source's parts at the ranges that
 -- Rust's documentation of `str` tells. `shown` says what is seen of a text.
-use Rattle.std.specs.Prelude.{◌≡◌, ℕ, ◌+◌, ◌-◌, ◌<◌, ◌⊎◌, Bool, true, List, ◌++◌, encode_utf8, length, Option, Some, None, Result, Ok, Err, IfOk, IfSome}
+use Rattle.std.specs.Prelude.{◌≡◌, ℕ, ◌+◌, ◌-◌, ◌<◌, ◌⊎◌, Bool, true, List, ◌∷◌, ◌++◌, encode_utf8, length, slice_index, Option, Some, None, Result, Ok, Err, IfOk, IfSome}
 use Rattle.std.specs.Char.{is_ascii_whitespace, is_whitespace}
 use Rattle.std.specs.List.{AllByRecursion, flat_map}
 use Rattle.hip_text.specs.Handle.{Handle}
@@ -153,19 +153,48 @@ StrippedBack suffix text (Ok (Some part)) = text ≡ part.items ++ suffix
 StrippedBack suffix text (Ok None) = (front : List ℕ) → text ≡ front ++ suffix → ⊥
 StrippedBack suffix text (Err error) = Unit {0}
 
--- white space alone: characters that Unicode calls `White_Space`, in UTF-8
+-- the byte stands nowhere among these
+abbrev pub LacksByte : ℕ → List ℕ → Type 0
+LacksByte byte bytes = (k : ℕ) → k < length bytes → slice_index bytes k ≡ byte → ⊥
+
+-- the two parts of bytes that are split once at a byte, which isn't in the first; or nothing where the bytes lack it
+abbrev pub PartedAtByte : {E : Type 0} → ℕ → List ℕ → Result (Option (Handle × Handle)) E → Type 0
+PartedAtByte byte bytes (Ok (Some parts)) = (bytes ≡ parts.0.items ++ byte ∷ parts.1.items) × LacksByte byte parts.0.items
+PartedAtByte byte bytes (Ok None) = LacksByte byte bytes
+PartedAtByte byte bytes (Err error) = Unit {0}
+
+-- like `PartedAtByte`, but the byte isn't in the second
+abbrev pub PartedAtLastByte : {E : Type 0} → ℕ → List ℕ → Result (Option (Handle × Handle)) E → Type 0
+PartedAtLastByte byte bytes (Ok (Some parts)) = (bytes ≡ parts.0.items ++ byte ∷ parts.1.items) × LacksByte byte parts.1.items
+PartedAtLastByte byte bytes (Ok None) = LacksByte byte bytes
+PartedAtLastByte byte bytes (Err error) = Unit {0}
+
+-- white space alone: characters that Unicode calls `White_Space`, in UTF-8; and bytes that `u8::is_ascii_whitespace` tells
 abbrev pub IsSpace : List ℕ → Type 0
 IsSpace bytes = (cs : List ℕ) × AllByRecursion (λ c. is_whitespace c ≡ true) cs × (bytes ≡ flat_map encode_utf8 cs)
 
--- the text is what is left of it, with white space at both ends, at its front, or at its end
+abbrev pub IsAsciiSpace : List ℕ → Type 0
+IsAsciiSpace bytes = AllByRecursion (λ b. is_ascii_whitespace b ≡ true) bytes
+
+-- the whole is what is left of it, with space at both ends, at its front, or at its end
+abbrev pub LeftBetween : {E : Type 0} → (List ℕ → Type 0) → List ℕ → Result Handle E → Type 0
+LeftBetween Space whole (Ok part) = (front back : List ℕ) × Space front × Space back × (whole ≡ front ++ (part.items ++ back))
+LeftBetween Space whole (Err error) = Unit {0}
+
+abbrev pub LeftBehind : {E : Type 0} → (List ℕ → Type 0) → List ℕ → Result Handle E → Type 0
+LeftBehind Space whole (Ok part) = (front : List ℕ) × Space front × (whole ≡ front ++ part.items)
+LeftBehind Space whole (Err error) = Unit {0}
+
+abbrev pub LeftBefore : {E : Type 0} → (List ℕ → Type 0) → List ℕ → Result Handle E → Type 0
+LeftBefore Space whole (Ok part) = (back : List ℕ) × Space back × (whole ≡ part.items ++ back)
+LeftBefore Space whole (Err error) = Unit {0}
+
+-- a text, without white space
 abbrev pub TrimmedBetween : {E : Type 0} → List ℕ → Result Handle E → Type 0
-TrimmedBetween text (Ok part) = (front back : List ℕ) × IsSpace front × IsSpace back × (text ≡ front ++ (part.items ++ back))
-TrimmedBetween text (Err error) = Unit {0}
+TrimmedBetween text result = LeftBetween IsSpace text result
 
 abbrev pub TrimmedStart : {E : Type 0} → List ℕ → Result Handle E → Type 0
-TrimmedStart text (Ok part) = (front : List ℕ) × IsSpace front × (text ≡ front ++ part.items)
-TrimmedStart text (Err error) = Unit {0}
+TrimmedStart text result = LeftBehind IsSpace text result
 
 abbrev pub TrimmedEnd : {E : Type 0} → List ℕ → Result Handle E → Type 0
-TrimmedEnd text (Ok part) = (back : List ℕ) × IsSpace back × (text ≡ part.items ++ back)
-TrimmedEnd text (Err error) = Unit {0}
+TrimmedEnd text result = LeftBefore IsSpace text result

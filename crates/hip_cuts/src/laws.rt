@@ -2,6 +2,7 @@
 //! contract is the law.
 ghost use Rattle.std.specs.Prelude.{◌≡◌, ◌==◌, ℕ, List, Option, Result, encode_utf8};
 ghost use Rattle.std.specs.declared.alloc.AllocError.{AllocError};
+ghost use Rattle.hip_match.specs.Bytes.{byte_ends, byte_lines};
 ghost use Rattle.hip_match.specs.Characters.{char_ends};
 ghost use Rattle.hip_match.specs.Joined.{parts_at};
 ghost use Rattle.hip_match.specs.Runs.{lines};
@@ -9,6 +10,7 @@ ghost use Rattle.hip_match.specs.Texts.{text_ends};
 ghost use Rattle.hip_match.specs.Trims.{rsplit_once, split_once, strip_prefix, strip_suffix};
 ghost use Rattle.hip_text.specs.Handle.{Handle};
 ghost use Rattle.hip_cuts.specs.Cut.{LeavesBetween, LeavesEnd, LeavesStart, OnceAnswers, PartedAs, PartedLastAs, StripAnswers, StrippedBack, StrippedFront};
+ghost use Rattle.hip_cuts.specs.Cut.{IsAsciiSpace, LeftBefore, LeftBehind, LeftBetween, PartedAtByte, PartedAtLastByte, ascii_space_ends};
 ghost use Rattle.hip_cuts.specs.Cut.{TrimAnswers, TrimmedBetween, TrimmedEnd, TrimmedStart, space_ends};
 ghost use Rattle.hip_cuts.specs.Lines.{AreLines};
 ghost use Rattle.hip_cuts.specs.Laws.{BorrowedCopyNothing, InOrderCopyOnce, SharedCopyLittle};
@@ -112,4 +114,37 @@ pub fn a_trim_leaves_what_white_space_surrounds(text: &str)
 #[tactic(auto, using(crate::proofs::Lines::lines_are))]
 pub fn lines_and_their_ends_are_the_text(text: &str)
     ensures { AreLines (parts_at text.now (lines text.now)) text.now }
+{}
+
+/// The [`lines`](crate::byte_cuts::ByteCuts::lines) of bytes, each with its end, are the bytes, as those of a text are the text.
+#[tactic(auto, using(crate::proofs::Lines::byte_lines_are))]
+pub fn lines_and_their_ends_are_the_bytes(bytes: &[u8])
+    ensures { AreLines (parts_at bytes.now (byte_lines bytes.now)) bytes.now }
+{}
+
+/// A byte parts bytes in two: they are the first part, the byte and the second part. The byte isn't in the first part, where it is the first
+/// such byte, or not in the second, where it is the last. Where there are no parts, the byte isn't in the bytes.
+pub fn a_byte_parts_bytes(bytes: &[u8], byte: u8)
+    ensures first { (source : Handle) (result : Result (Option (Handle × Handle)) AllocError)
+        → source.items ≡ bytes.now
+        → OnceAnswers (λ part. part) split_once (byte_ends (λ b. b == byte)) source result
+        → PartedAtByte byte bytes.now result }
+    ensures last { (source : Handle) (result : Result (Option (Handle × Handle)) AllocError)
+        → source.items ≡ bytes.now
+        → OnceAnswers (λ part. part) rsplit_once (byte_ends (λ b. b == byte)) source result
+        → PartedAtLastByte byte bytes.now result }
+{}
+
+/// [`trim_ascii`](crate::byte_cuts::ByteCuts::trim_ascii) and its kin leave a part of the bytes with nothing but ASCII white space before it,
+/// behind it, or at either end.
+pub fn a_trim_of_bytes_leaves_what_white_space_surrounds(bytes: &[u8])
+    ensures both { (source : Handle) (result : Result Handle AllocError)
+        → source.items ≡ bytes.now
+        → TrimAnswers (λ part. part) LeavesBetween ascii_space_ends source result → LeftBetween IsAsciiSpace bytes.now result }
+    ensures start { (source : Handle) (result : Result Handle AllocError)
+        → source.items ≡ bytes.now
+        → TrimAnswers (λ part. part) LeavesEnd ascii_space_ends source result → LeftBehind IsAsciiSpace bytes.now result }
+    ensures end { (source : Handle) (result : Result Handle AllocError)
+        → source.items ≡ bytes.now
+        → TrimAnswers (λ part. part) LeavesStart ascii_space_ends source result → LeftBefore IsAsciiSpace bytes.now result }
 {}
