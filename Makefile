@@ -37,12 +37,13 @@ vendor:
 check-readme:
 	@scripts/check-readme.sh
 
-# The gate: the README's program, the contracts that CALLING.md quotes, the words that DEFINITIONS.md tells, the tests that docs/TESTED.md names, the calls that copy bytes, and then every proof from
-# nothing, every must-fail edit, every test, every program. Four checks at a time, each in one process: a check
-# in several takes up to a third more processor time.
+# The gate: the README's program, the contracts that CALLING.md quotes, the words that DEFINITIONS.md tells, as specs have them, the tests that
+# docs/PLANTS.md names, the calls that copy bytes, and then every proof from nothing, every must-fail edit, every test, every program. Four
+# checks at a time, each in one process: a check in several takes up to a third more processor time.
 .PHONY: test
 test: check-readme
 	@docs/check-calling
+	@docs/definitions
 	@docs/check-words
 	@scripts/check-tested.sh
 	@scripts/check-copies.sh

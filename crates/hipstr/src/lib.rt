@@ -16,8 +16,8 @@
 //! implementors, stand here. All four types are made JSON values of the crate serde_json, and made of them.
 //!
 //! The words of `run`'s clauses are defined in `specs/`: `Slot` (the machine's state), `Step` (one command: its fault, its answer, what it
-//! leaves, its cost, with `Cut` and `Parts` for texts that are taken apart and `Reason` for refusals) and `Run` (many commands). `Amortised`
-//! and `Little` have what a run costs in all, and what parts cost where owners are shared.
+//! leaves, its cost, with `Cut`, `Ways` and `Parts` for texts that are taken apart and `Reason` for refusals) and `Run` (many commands).
+//! `Amortised` and `Little` have what a run costs in all, and what parts cost where owners are shared.
 #![tactic(auto)]
 
 pub mod bits;
