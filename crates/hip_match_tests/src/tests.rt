@@ -2,6 +2,7 @@ mod by_both_ends;
 mod by_characters;
 mod by_closures;
 mod by_texts;
+mod bytes;
 mod clones;
 mod cuts;
 mod each_way;

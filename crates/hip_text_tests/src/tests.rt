@@ -1,3 +1,4 @@
+mod byte_cuts;
 mod carried;
 mod clones;
 mod closures;
