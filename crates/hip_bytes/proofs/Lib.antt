@@ -1,5 +1,6 @@
 pub mod Clones
 pub mod Costs
+pub mod Drafts
 pub mod Forms
 pub mod GatherLemmas
 pub mod JoinLemmas

@@ -37,6 +37,10 @@ taken_cost shares len = if nat_le len INLINE_CAPACITY then len else unless_share
 abbrev pub push_cost : Bool → ℕ → ℕ → ℕ
 push_cost shares len added = if nat_le added 0 then 0 else times_copied shares (len + added)
 
+-- a value that writes `added` bytes behind `len`: they are gathered, then pushed
+abbrev pub written_cost : Bool → ℕ → ℕ → ℕ
+written_cost shares len added = added + INLINE_CAPACITY + push_cost shares len added
+
 -- a handle that loses bytes at its end
 abbrev pub shortened_cost : Kind → ℕ
 shortened_cost Inline = 0

@@ -17,6 +17,7 @@ mod make;
 mod mutate;
 mod views;
 mod write;
+mod written;
 
 /// Where the bytes of a handle lie.
 #[derive(Drop)]

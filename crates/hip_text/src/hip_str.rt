@@ -15,6 +15,7 @@ mod mutate;
 mod utf16;
 mod views;
 mod write;
+mod written;
 
 /// A text that is cheap to clone and to cut: a [`HipByt`] that is UTF-8.
 pub struct HipStr<'b, B: Backend> {
