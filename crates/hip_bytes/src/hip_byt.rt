@@ -10,6 +10,7 @@ mod build;
 mod compare;
 mod convert;
 mod cuts;
+mod extend;
 mod growth;
 mod join;
 mod json;
