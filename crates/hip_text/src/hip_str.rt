@@ -8,6 +8,7 @@ mod compare;
 mod convert;
 mod cuts;
 mod decode;
+mod extend;
 mod formats;
 mod growth;
 mod make;

@@ -16,3 +16,4 @@ mod suite;
 mod support;
 mod text;
 mod walks;
+mod written;
