@@ -42,24 +42,6 @@ impl fmt::Write for Draft {
     }
 }
 
-impl Draft {
-    /// What a value writes, as `{}` does.
-    #[tactic(auto, using(crate::proofs::Drafts::drafts))]
-    fn of<D: Display + Drop>(alloc: Global, value: D) -> Result<Self, AllocError>
-        ensures text { IfOk result (λ draft. IfSome (D.output value) (λ text. draft.items ≡ text)) }
-    {
-        let mut formatter = Formatter::new(Draft {
-            gathering: Gathering::new(),
-            counted: Meter::new(),
-            alloc,
-        });
-        match formatter.write(value) {
-            Ok(()) => Ok(formatter.into_inner()),
-            Err(fmt::Error) => Err(AllocError),
-        }
-    }
-}
-
 /// What a value writes, as `{}` does.
 #[tactic(auto, using(crate::proofs::Drafts::drafts))]
 pub(crate) fn drafted<D: Display + Drop>(
@@ -73,11 +55,20 @@ pub(crate) fn drafted<D: Display + Drop>(
         (λ made. RisesAtMost meter.old meter.new (length made.items + INLINE_CAPACITY)) }
     ensures copied { IfOk result (λ made. RisesAtLeast meter.old meter.new (length made.items)) }
 {
+    let mut formatter = Formatter::new(Draft {
+        gathering: Gathering::new(),
+        counted: Meter::new(),
+        alloc,
+    });
+    let outcome = formatter.write(value);
     let Draft {
         gathering,
         counted,
         ..
-    } = Draft::of(alloc, value)?;
+    } = formatter.into_inner();
     meter.add(&counted);
-    Ok(gathering)
+    match outcome {
+        Ok(()) => Ok(gathering),
+        Err(fmt::Error) => Err(AllocError),
+    }
 }
