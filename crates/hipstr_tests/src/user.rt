@@ -1,8 +1,9 @@
 //! Code of a user who names `hipstr` alone: loops over walks, functions of a pattern and over a closure, with clauses that cite what a call
 //! is said to give, a struct that keeps a walk, and records that are cut field by field. A function that is generic in the backend is
 //! proved once for all, and takes longer than one that names `Rc`: most of these do.
-ghost use Rattle.std.specs.Prelude.{◌≡◌, ◌==◌, ◌++◌, ℕ, IfOk, IfSome, codes, length};
+ghost use Rattle.std.specs.Prelude.{◌≡◌, ◌==◌, ◌++◌, ℕ, IfOk, IfSome, OnErr, OnOk, codes, length};
 ghost use Rattle.std.specs.Char.{IsScalar, is_ascii_digit};
+ghost use Rattle.std.specs.Fmt.{decimal};
 ghost use Rattle.hipstr.specs.Answers.{answer_at};
 ghost use Rattle.hipstr.specs.Characters.{char_ends};
 ghost use Rattle.hipstr.specs.Piece.{AreParts};
@@ -12,7 +13,7 @@ use hipstr::laws::{
     split_once_parts_at_the_first, strip_prefix_leaves_the_rest, strip_suffix_leaves_the_front,
 };
 use hipstr::pattern::{CharPred, Chosen, Pattern, Split, choose_by};
-use hipstr::string::{HipStr, IterWrapper, TextCuts};
+use hipstr::string::{HipStr, IterWrapper, TextCuts, Writer};
 use hipstr::{Backend, LocalHipStr, Rc, Unique};
 use std::alloc::{AllocError, Global};
 
@@ -216,6 +217,44 @@ fn key_and_value<'b>(
     Ok(parts)
 }
 
+/// Adds a line of a report: a name, and how often it was counted.
+fn report_count<'b, B: Backend>(
+    alloc: Global,
+    report: &mut HipStr<'b, B>,
+    name: &str,
+    count: u32,
+) -> Result<(), AllocError>
+    ensures line { OnOk result (report.new.items
+        ≡ report.old.items ++ (name.now ++ (codes ": " ++ (decimal count ++ codes "\n")))) }
+    ensures err { OnErr result (report.new ≡ report.old) }
+{
+    let mut out = Writer {
+        text: report,
+        alloc,
+    };
+    writeln!(out, "{name}: {count}")
+}
+
+/// The line of a name's count.
+fn count_line(alloc: Global, name: &str, count: u32) -> Result<LocalHipStr<'static>, AllocError>
+    ensures { IfOk result
+        (λ line. line.items ≡ name.now ++ (codes ": " ++ decimal count)) }
+{
+    let mut line = LocalHipStr::new();
+    let mut out = line.writer(alloc);
+    write!(out, "{name}: {count}")?;
+    Ok(line)
+}
+
+/// Whether counts are reported.
+fn reports(alloc: Global) -> Result<bool, AllocError> {
+    let mut report = LocalHipStr::borrowed("counts\n");
+    report_count(alloc, &mut report, "a", 4)?;
+    report_count(alloc, &mut report, "é", 15)?;
+    let line = count_line(alloc, "a", 4)?;
+    Ok(report.str_eq("counts\na: 4\né: 15\n") & line.str_eq("a: 4"))
+}
+
 /// Whether the texts are these.
 fn are<B: Backend>(texts: &Result<Vec<HipStr<'_, B>>, AllocError>, expected: &[&str]) -> bool {
     let Ok(texts) = texts else {
@@ -315,6 +354,11 @@ fn takes_apart(alloc: Global) -> Result<bool, AllocError> {
 fn records_are_cut_by_one_call_a_field(rt: HostRuntime) {
     assert!(rt; reads_records(rt.alloc()));
     assert!(rt; takes_apart(rt.alloc()) == Ok(true));
+}
+
+#[test]
+fn counts_are_written(rt: HostRuntime) {
+    assert!(rt; reports(rt.alloc()) == Ok(true));
 }
 
 #[test]

@@ -12,12 +12,12 @@ pub use Rattle.hipstr.specs.Borsh.{BorshReads as Borsh-BorshReads, BorshRoundTri
 pub use Rattle.hipstr.specs.BorshText.{BorshReadsText as BorshText-BorshReadsText}
 pub use Rattle.hipstr.specs.Boundary.{is_boundary as Boundary-is_boundary}
 pub use Rattle.hipstr.specs.Buffer.{IsBuffer as Buffer-IsBuffer}
-pub use Rattle.hipstr.specs.Change.{IsPushed as Change-IsPushed, IsRewritten as Change-IsRewritten, IsShortened as Change-IsShortened, IsShrunk as Change-IsShrunk, PopAnswers as Change-PopAnswers, PushAnswers as Change-PushAnswers, ShrinkAnswers as Change-ShrinkAnswers, WriteAnswers as Change-WriteAnswers}
+pub use Rattle.hipstr.specs.Change.{IsPushed as Change-IsPushed, IsRewritten as Change-IsRewritten, IsShortened as Change-IsShortened, IsShrunk as Change-IsShrunk, PopAnswers as Change-PopAnswers, PushAnswers as Change-PushAnswers, PushesText as Change-PushesText, ShrinkAnswers as Change-ShrinkAnswers, WriteAnswers as Change-WriteAnswers}
 pub use Rattle.hipstr.specs.CharLaws.{StartsChar as CharLaws-StartsChar}
 pub use Rattle.hipstr.specs.Characters.{char_ends as Characters-char_ends}
 pub use Rattle.hipstr.specs.Clones.{ClonesKeep as Clones-ClonesKeep, Keeps as Clones-Keeps, KeepsPattern as Clones-KeepsPattern, KeepsRanges as Clones-KeepsRanges}
 pub use Rattle.hipstr.specs.Components.{Component as Components-Component, component_order as Components-component_order, components as Components-components, path_order as Components-path_order, rank as Components-rank}
-pub use Rattle.hipstr.specs.Cost.{CopyNeedsMemory as Cost-CopyNeedsMemory, CutNeedsMemory as Cost-CutNeedsMemory, GrowthNeedsMemory as Cost-GrowthNeedsMemory, OwnNeedsMemory as Cost-OwnNeedsMemory, PartCounts as Cost-PartCounts, PushIsPaid as Cost-PushIsPaid, PushNeedsMemory as Cost-PushNeedsMemory, WriteNeedsMemory as Cost-WriteNeedsMemory, clone_cost as Cost-clone_cost, cut_cost as Cost-cut_cost, handle_pot as Cost-handle_pot, lent_count as Cost-lent_count, owned_cost as Cost-owned_cost, pot_of as Cost-pot_of, push_cost as Cost-push_cost, shortened_cost as Cost-shortened_cost, shrink_cost as Cost-shrink_cost, taken_cost as Cost-taken_cost, write_cost as Cost-write_cost}
+pub use Rattle.hipstr.specs.Cost.{CopyNeedsMemory as Cost-CopyNeedsMemory, CutNeedsMemory as Cost-CutNeedsMemory, ExtendNeedsMemory as Cost-ExtendNeedsMemory, GrowthNeedsMemory as Cost-GrowthNeedsMemory, OwnNeedsMemory as Cost-OwnNeedsMemory, PartCounts as Cost-PartCounts, PushIsPaid as Cost-PushIsPaid, PushNeedsMemory as Cost-PushNeedsMemory, WriteNeedsMemory as Cost-WriteNeedsMemory, clone_cost as Cost-clone_cost, cut_cost as Cost-cut_cost, extend_cost as Cost-extend_cost, handle_pot as Cost-handle_pot, lent_count as Cost-lent_count, owned_cost as Cost-owned_cost, pot_of as Cost-pot_of, push_cost as Cost-push_cost, shortened_cost as Cost-shortened_cost, shrink_cost as Cost-shrink_cost, taken_cost as Cost-taken_cost, write_cost as Cost-write_cost, written_cost as Cost-written_cost}
 pub use Rattle.hipstr.specs.Cut.{Leaves as Cut-Leaves, PutsParts as Cut-PutsParts, SomeNeedsMemory as Cut-SomeNeedsMemory, has_back as Cut-has_back, has_one_end as Cut-has_one_end, is_both as Cut-is_both, is_text as Cut-is_text, occurrences as Cut-occurrences, parted as Cut-parted, pieces_of as Cut-pieces_of, stripped as Cut-stripped, trims_one_end as Cut-trims_one_end}
 pub use Rattle.hipstr.specs.Decode.{CloneErrorAnswers as Decode-CloneErrorAnswers, FromUtf8Answers as Decode-FromUtf8Answers, IsCauseOf as Decode-IsCauseOf, ReadAnswers as Decode-ReadAnswers, Utf8Failure as Decode-Utf8Failure, refusal_of as Decode-refusal_of}
 pub use Rattle.hipstr.specs.Displayed.{displayed as Displayed-displayed}
@@ -31,7 +31,7 @@ pub use Rattle.hipstr.specs.Handle.{Handle as Handle-Handle}
 pub use Rattle.hipstr.specs.Held.{Held as Held-Held, IsTakenOver as Held-IsTakenOver, OwnAnswers as Held-OwnAnswers, held_capacity as Held-held_capacity, held_items as Held-held_items}
 pub use Rattle.hipstr.specs.Inline.{LendsBytes as Inline-LendsBytes}
 pub use Rattle.hipstr.specs.Iterators.{Gives as Iterators-Gives, GivesAlike as Iterators-GivesAlike, LiesBetween as Iterators-LiesBetween, LiesBetweenBack as Iterators-LiesBetweenBack}
-pub use Rattle.hipstr.specs.Join.{GivesAll as Join-GivesAll, GivesFirst as Join-GivesFirst, RepeatNeedsMemory as Join-RepeatNeedsMemory, bytes_of as Join-bytes_of, is_plain as Join-is_plain, join_cost as Join-join_cost, joined as Join-joined, repeat_cost as Join-repeat_cost, repeated_kind as Join-repeated_kind}
+pub use Rattle.hipstr.specs.Join.{GivesAll as Join-GivesAll, GivesFirst as Join-GivesFirst, RepeatNeedsMemory as Join-RepeatNeedsMemory, bytes_of as Join-bytes_of, is_plain as Join-is_plain, join_cost as Join-join_cost, joined as Join-joined, one_byte as Join-one_byte, repeat_cost as Join-repeat_cost, repeated_kind as Join-repeated_kind}
 pub use Rattle.hipstr.specs.Joined.{parts_at as Joined-parts_at, rejoined as Joined-rejoined, together as Joined-together}
 pub use Rattle.hipstr.specs.Json.{AreBytes as Json-AreBytes, IsFirstOther as Json-IsFirstOther, JsonReadsArray as Json-JsonReadsArray, JsonReadsBytes as Json-JsonReadsBytes, JsonReadsString as Json-JsonReadsString, JsonReadsUnix as Json-JsonReadsUnix, byte_of as Json-byte_of, bytes_in as Json-bytes_in, json_byte as Json-json_byte, json_bytes as Json-json_bytes, json_unix as Json-json_unix, only_unix as Json-only_unix, unix_of as Json-unix_of}
 pub use Rattle.hipstr.specs.JsonPath.{JsonPathAnswers as JsonPath-JsonPathAnswers}
@@ -40,7 +40,7 @@ pub use Rattle.hipstr.specs.Laws.{BorrowedCopyNothing as Laws-BorrowedCopyNothin
 pub use Rattle.hipstr.specs.Leftmost.{IsLeftmost as Leftmost-IsLeftmost, leftmost as Leftmost-leftmost, leftmost_between as Leftmost-leftmost_between, leftmost_from as Leftmost-leftmost_from}
 pub use Rattle.hipstr.specs.Lines.{AreLines as Lines-AreLines, EndsLine as Lines-EndsLine}
 pub use Rattle.hipstr.specs.Little.{CopiesLittle as Little-CopiesLittle, parts_made as Little-parts_made}
-pub use Rattle.hipstr.specs.Made.{CloneAnswers as Made-CloneAnswers, CopyAnswers as Made-CopyAnswers, CutAnswers as Made-CutAnswers, GatherAnswers as Made-GatherAnswers, GatherCosts as Made-GatherCosts, IsOwned as Made-IsOwned, IsPart as Made-IsPart, JoinAnswers as Made-JoinAnswers, MakeAnswers as Made-MakeAnswers, OwnedAnswers as Made-OwnedAnswers, RepeatAnswers as Made-RepeatAnswers}
+pub use Rattle.hipstr.specs.Made.{CloneAnswers as Made-CloneAnswers, CopyAnswers as Made-CopyAnswers, CutAnswers as Made-CutAnswers, ExtendAnswers as Made-ExtendAnswers, ExtendCosts as Made-ExtendCosts, GatherAnswers as Made-GatherAnswers, GatherCosts as Made-GatherCosts, IsOwned as Made-IsOwned, IsPart as Made-IsPart, JoinAnswers as Made-JoinAnswers, MakeAnswers as Made-MakeAnswers, OwnedAnswers as Made-OwnedAnswers, RepeatAnswers as Made-RepeatAnswers}
 pub use Rattle.hipstr.specs.Marks.{Ahead as Marks-Ahead, Behind as Marks-Behind, has_nibbles as Marks-has_nibbles, in_rows as Marks-in_rows}
 pub use Rattle.hipstr.specs.Meter.{RisesAtLeast as Meter-RisesAtLeast, RisesAtMost as Meter-RisesAtMost, RisesBy as Meter-RisesBy, append_copies as Meter-append_copies, count_from as Meter-count_from, pot as Meter-pot, times_copied as Meter-times_copied, unless_shared as Meter-unless_shared}
 pub use Rattle.hipstr.specs.Mutated.{MutateAnswers as Mutated-MutateAnswers, MutateCosts as Mutated-MutateCosts, Ran as Mutated-Ran, TakesItems as Mutated-TakesItems}
