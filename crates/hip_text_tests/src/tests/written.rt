@@ -52,7 +52,13 @@ fn through_a_writer<B: Backend>(rt: &impl Abort, alloc: Global) {
 
 /// By the trait alone.
 fn shows<W: Write>(out: &mut W, number: i64) -> fmt::Result {
+    out.write_char('ß')?;
     writeln!(out, "{number:>4}")
+}
+
+/// By the trait, of a writer: it gets a proof where the writer is a parameter.
+fn shows_in<B: Backend>(out: &mut Writer<'_, '_, B>, number: i64) -> fmt::Result {
+    shows(out, number)
 }
 
 fn as_an_output<B: Backend>(rt: &impl Abort, alloc: Global) {
@@ -62,8 +68,7 @@ fn as_an_output<B: Backend>(rt: &impl Abort, alloc: Global) {
         alloc,
     };
     must(rt, out.write_str("漢"));
-    must(rt, out.write_char('ß'));
-    must(rt, shows(&mut out, -7));
+    must(rt, shows_in(&mut out, -7));
     is(rt, text, "é漢ß  -7\n", Kind::Inline);
 }
 
