@@ -1,5 +1,7 @@
 pub mod Clones
 pub mod Costs
+pub mod Drafts
+pub mod Extends
 pub mod Forms
 pub mod GatherLemmas
 pub mod JoinLemmas

@@ -1,5 +1,5 @@
 -- The answers of calls that change a handle, and the handle that they leave. A refused call leaves all as it was.
-use Rattle.std.specs.Prelude.{◌≡◌, ℕ, ◌-◌, ◌<◌, ◌≤◌, Bool, false, List, [], ◌∷◌, ◌++◌, length, take, min, Option, Some, None, Result, Ok, Err}
+use Rattle.std.specs.Prelude.{◌≡◌, ℕ, ◌-◌, ◌<◌, ◌≤◌, Bool, false, IsUtf8, List, [], ◌∷◌, ◌++◌, length, take, min, Option, Some, None, Result, Ok, Err}
 use Rattle.hip_bytes.specs.Handle.{Handle}
 use Rattle.hip_bytes.specs.Kinds.{cut_kind, kept_capacity, owned_kind, PushedKind, HasCapacity}
 use Rattle.hip_bytes.specs.Cost.{CutNeedsMemory, PushNeedsMemory, WriteNeedsMemory}
@@ -17,6 +17,10 @@ pub record IsPushed (shares : Bool) (old new : Handle) (addition : List ℕ) : T
 abbrev pub PushAnswers : {T E : Type 0} → Bool → Handle → List ℕ → Result T E → Handle → Type 0
 PushAnswers shares old addition (Ok done) new = IsPushed shares old new addition
 PushAnswers shares old addition (Err error) new = PushNeedsMemory shares old.kind old.capacity (length old.items) (length addition) × (new ≡ old)
+
+-- the handle got a text at its end
+abbrev pub PushesText : Bool → Handle → Handle → Type 0
+PushesText shares old new = (text : List ℕ) × IsUtf8 text × IsPushed shares old new text
 
 -- the handle keeps its first `len` items; where it has no more, it is as it was
 pub record IsShortened (old new : Handle) (len : ℕ) : Type 0 where

@@ -1,6 +1,6 @@
 -- The greatest number of bytes that a call copies, and where it may need memory, by the kind and the length that there are. `shares` says
 -- whether owners are shared.
-use Rattle.std.specs.Prelude.{◌≡◌, ℕ, ◌+◌, ◌*◌, ◌<◌, ◌≤◌, min, Bool, true, false, length, if◌then◌else◌, nat_le, refl}
+use Rattle.std.specs.Prelude.{◌≡◌, ℕ, ◌+◌, ◌*◌, ◌<◌, ◌≤◌, min, Bool, true, false, length, if◌then◌else◌, nat_le, ◌⊎◌, refl}
 use Rattle.hip_raw.specs.Meter.{RisesAtLeast, pot, unless_shared, times_copied}
 use Rattle.hip_bytes.specs.Handle.{Handle}
 use Rattle.hip_bytes.specs.declared.kind.Kind.{Kind}
@@ -36,6 +36,14 @@ taken_cost shares len = if nat_le len INLINE_CAPACITY then len else unless_share
 -- a push of `added` bytes on `len`; one of nothing copies none
 abbrev pub push_cost : Bool → ℕ → ℕ → ℕ
 push_cost shares len added = if nat_le added 0 then 0 else times_copied shares (len + added)
+
+-- a value that writes `added` bytes behind `len`: they are gathered, then pushed
+abbrev pub written_cost : Bool → ℕ → ℕ → ℕ
+written_cost shares len added = added + INLINE_CAPACITY + push_cost shares len added
+
+-- items that an iterator gives, of `added` bytes, behind `len`: a handle is made of them, and pushed
+abbrev pub extend_cost : Bool → ℕ → ℕ → ℕ
+extend_cost shares len added = times_copied shares added + INLINE_CAPACITY + push_cost shares len added
 
 -- a handle that loses bytes at its end
 abbrev pub shortened_cost : Kind → ℕ
@@ -89,6 +97,10 @@ GrowthNeedsMemory shares Allocated capacity len = shares ≡ false → capacity 
 -- a push of `added` bytes on `len` may need memory where the bytes together may; one of nothing doesn't
 abbrev pub PushNeedsMemory : Bool → Kind → ℕ → ℕ → ℕ → Type 0
 PushNeedsMemory shares kind capacity len added = (0 < added) × GrowthNeedsMemory shares kind capacity (len + added)
+
+-- items that an iterator gives, of `added` bytes, may need memory where a handle of them may, or the push
+abbrev pub ExtendNeedsMemory : Bool → Handle → ℕ → Type 0
+ExtendNeedsMemory shares handle added = (INLINE_CAPACITY < added) ⊎ PushNeedsMemory shares handle.kind handle.capacity (length handle.items) added
 
 -- bytes that are made the handle's own may need memory
 abbrev pub OwnNeedsMemory : Kind → ℕ → Type 0

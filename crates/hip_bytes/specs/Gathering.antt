@@ -1,5 +1,7 @@
 -- A list that is being made of others. No public clause cites this module.
-use Rattle.std.specs.Prelude.{ℕ, Bool, true, false, List, if◌then◌else◌, ◌&&◌, not}
+use Rattle.std.specs.Prelude.{◌≡◌, ℕ, ◌+◌, ◌≤◌, Bool, true, false, List, length, if◌then◌else◌, ◌&&◌, not}
+use Rattle.std.specs.Str.{is_utf8}
+use Rattle.hip_raw.specs.Meter.{RisesAtLeast}
 use Rattle.hip_bytes.specs.declared.gathering.Place.{Place}
 use Rattle.hip_bytes.specs.declared.gathering.Place.TheVariants.{Handle, Vector}
 use Rattle.hip_bytes.specs.declared.kind.TheConstants.{INLINE_CAPACITY}
@@ -17,3 +19,14 @@ gathered_in (Vector filling) = record { items = filling.items; room = filling.ca
 -- bytes that moved from the handle into a vector were copied once more
 abbrev pub spill_cost : Bool → Bool → ℕ
 spill_cost before after = if before && not after then INLINE_CAPACITY else 0
+
+-- the text of a value so far, and the number of bytes that were copied for it
+pub record Drafted : Type 0 where
+  pub items : List ℕ
+  pub counted : ℕ
+
+-- the bytes so far are a text, each copied once, and once more where they moved into a vector
+pub record IsDraft (made : Gathered) (counted : ℕ) : Type 0 where
+  pub utf8 : is_utf8 made.items ≡ true
+  pub at_most : counted ≤ length made.items + (if made.in_handle then 0 else INLINE_CAPACITY)
+  pub at_least : RisesAtLeast 0 counted (length made.items)

@@ -14,6 +14,10 @@ use Rattle.hip_bytes.specs.declared.kind.TheConstants.{INLINE_CAPACITY}
 abbrev pub bytes_of : Bor (List ℕ) → List ℕ
 bytes_of slice = slice.now
 
+-- the bytes of a byte
+abbrev pub one_byte : ℕ → List ℕ
+one_byte byte = byte ∷ []
+
 -- the slices one behind another, with the separator between each two
 abbrev pub joined : List ℕ → List (Bor (List ℕ)) → List ℕ
 joined sep slices = join_by bytes_of sep slices

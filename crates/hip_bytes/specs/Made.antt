@@ -1,10 +1,11 @@
 -- The answers of calls that make a handle. A refusal says where memory may be needed.
-use Rattle.std.specs.Prelude.{◌≡◌, ℕ, ◌*◌, ◌^◌, ◌<◌, ◌≤◌, Bool, List, length, Option, Result, Ok, Err}
+use Rattle.std.specs.Prelude.{◌≡◌, ℕ, ◌*◌, ◌^◌, ◌<◌, ◌≤◌, Bool, List, [], length, Option, Result, Ok, Err}
 use Rattle.std.specs.List.{join_by, repeat}
 use Rattle.hip_raw.specs.Meter.{RisesAtLeast, RisesAtMost}
 use Rattle.hip_bytes.specs.Handle.{Handle}
 use Rattle.hip_bytes.specs.Kinds.{cut_kind, owned_kind, Holds, HoldsByLength}
-use Rattle.hip_bytes.specs.Cost.{CopyNeedsMemory, CutNeedsMemory, OwnNeedsMemory}
+use Rattle.hip_bytes.specs.Change.{IsPushed}
+use Rattle.hip_bytes.specs.Cost.{extend_cost, CopyNeedsMemory, CutNeedsMemory, ExtendNeedsMemory, OwnNeedsMemory}
 use Rattle.hip_bytes.specs.Join.{join_cost, repeated_kind, GivesAll, GivesFirst, RepeatNeedsMemory}
 use Rattle.hip_bytes.specs.declared.grow_fault.GrowFault.{GrowFault}
 use Rattle.hip_bytes.specs.declared.grow_fault.GrowFault.TheVariants.{Memory, TooLong}
@@ -68,3 +69,14 @@ abbrev pub GatherCosts : {I T A : Type 0} → Bool → (A → List ℕ) → (I �
 GatherCosts shares shown into steps pieces sep (Ok handle) old new =
     RisesAtMost old new (join_cost shares (length handle.items)) × RisesAtLeast old new (length handle.items)
 GatherCosts shares shown into steps pieces sep (Err fault) old new = GivesFirst into steps pieces (λ given. RisesAtMost old new (join_cost shares (length (join_by shown sep given))))
+
+-- a handle to which the items of an iterator were pushed, one behind another; a refused one is as it was
+abbrev pub ExtendAnswers : {I T A : Type 0} → Bool → (A → List ℕ) → (I → T → Type 0) → (T → Option A → T → Type 0) → I → Handle → Result (Unit {0}) GrowFault → Handle → Type 0
+ExtendAnswers shares shown into steps items old (Ok done) new = GivesAll into steps items (λ given. IsPushed shares old new (join_by shown [] given))
+ExtendAnswers shares shown into steps items old (Err Memory) new = (new ≡ old) × GivesFirst into steps items (λ given. ExtendNeedsMemory shares old (length (join_by shown [] given)))
+ExtendAnswers shares shown into steps items old (Err TooLong) new = (new ≡ old) × GivesFirst into steps items (λ given. 2 ^ 64 ≤ length (join_by shown [] given))
+
+-- the rise of a meter by such a call
+abbrev pub ExtendCosts : {I T A : Type 0} → Bool → (A → List ℕ) → (I → T → Type 0) → (T → Option A → T → Type 0) → I → Handle → ℕ → ℕ → Type 0
+ExtendCosts shares shown into steps items old before after =
+    GivesFirst into steps items (λ given. RisesAtMost before after (extend_cost shares (length old.items) (length (join_by shown [] given))))

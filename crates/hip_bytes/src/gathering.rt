@@ -2,6 +2,8 @@
 ghost use Rattle.std.specs.Prelude.{◌≡◌, ◌≤◌, ◌<◌, ◌+◌, ◌^◌, ◌&&◌, true, false, [], ◌++◌, nat_le, length, take, IfOk, OnOk, OnErr};
 ghost use Rattle.hip_raw.specs.Meter.{RisesAtLeast, RisesAtMost, unless_shared};
 ghost use Rattle.hip_bytes.specs.Kinds.{by_length, HasCapacity};
+ghost use Rattle.hip_bytes.specs.Change.{PushAnswers};
+ghost use Rattle.hip_bytes.specs.Cost.{push_cost};
 ghost use Rattle.hip_bytes.specs.Gathering.{spill_cost};
 ghost use Rattle.hip_bytes.specs.declared.kind.TheConstants.{INLINE_CAPACITY};
 
@@ -89,7 +91,7 @@ impl Gathering {
         })
     }
 
-    /// Adds a gap and bytes at the end.
+    /// Adds a gap and bytes at the end. A refused call changes nothing.
     #[inline(always)]
     pub(crate) fn add_behind(
         &mut self,
@@ -113,6 +115,7 @@ impl Gathering {
         ensures copied { OnOk result
             (RisesAtLeast meter.old meter.new (length gap.now + length bytes.now)) }
         ensures refused_copies_nothing { OnErr result (meter.new ≡ meter.old) }
+        ensures err { OnErr result (self.new ≡ self.old) }
     {
         let Some(more) = gap.len().checked_add(bytes.len()) else {
             return Err(GrowFault::TooLong);
@@ -126,9 +129,16 @@ impl Gathering {
                 // A call that isn't inlined keeps in memory what it is lent, so it gets a meter of its own, and the bytes by value.
                 let mut apart = Meter::new();
                 let front = mem::replace(inline, Inline::empty());
-                let filling = spilled(alloc, front, gap, bytes, &mut apart)?;
-                meter.add(&apart);
-                self.place = Place::Vector(filling);
+                match spilled(alloc, &front, gap, bytes, &mut apart) {
+                    Ok(filling) => {
+                        meter.add(&apart);
+                        self.place = Place::Vector(filling);
+                    }
+                    Err(fault) => {
+                        *inline = front;
+                        return Err(fault);
+                    }
+                }
             }
             Place::Vector(filling) => {
                 if filling.len().checked_add(more).is_none() {
@@ -173,6 +183,27 @@ impl Gathering {
         }
     }
 
+    /// Adds all bytes at the end of a handle.
+    #[inline]
+    pub(crate) fn push_on<'b, B: Backend>(
+        self,
+        handle: &mut HipByt<'b, B>,
+        alloc: Global,
+        meter: &mut Meter,
+    ) -> Result<(), AllocError>
+        ensures push { PushAnswers B.SHARES handle.old self.items result handle.new }
+        ensures counted { RisesAtMost meter.old meter.new
+            (push_cost B.SHARES (length handle.old.items) (length self.items)) }
+        ensures copied { OnOk result (RisesAtLeast meter.old meter.new (length self.items)) }
+    {
+        match self.place {
+            Place::Handle(inline) => handle.push_slice_metered(alloc, inline.as_slice(), meter),
+            Place::Vector(filling) => {
+                handle.push_slice_metered(alloc, filling.into_vec().as_slice(), meter)
+            }
+        }
+    }
+
     /// The handle of all bytes.
     #[inline]
     pub(crate) fn finish<'b, B: Backend>(
@@ -208,17 +239,17 @@ impl Gathering {
 #[inline(never)]
 fn spilled(
     alloc: Global,
-    inline: Inline<INLINE_CAPACITY, u8>,
+    inline: &Inline<INLINE_CAPACITY, u8>,
     gap: &[u8],
     bytes: &[u8],
     meter: &mut Meter,
 ) -> Result<Filling, GrowFault>
     requires { length gap.now + length bytes.now < 2 ^ 64 }
-    ensures items { IfOk result (λ filling. filling.items ≡ (inline ++ gap.now) ++ bytes.now) }
+    ensures items { IfOk result (λ filling. filling.items ≡ (inline.now ++ gap.now) ++ bytes.now) }
     ensures too_long { result ≡ Err GrowFault.TooLong
-        → 2 ^ 64 ≤ length inline + length gap.now + length bytes.now }
+        → 2 ^ 64 ≤ length inline.now + length gap.now + length bytes.now }
     ensures counted { OnOk result
-        (RisesAtMost meter.old meter.new (length inline + length gap.now + length bytes.now)) }
+        (RisesAtMost meter.old meter.new (length inline.now + length gap.now + length bytes.now)) }
     ensures copied { OnOk result
         (RisesAtLeast meter.old meter.new (length gap.now + length bytes.now)) }
     ensures refused_copies_nothing { OnErr result (meter.new ≡ meter.old) }

@@ -10,6 +10,7 @@ mod build;
 mod compare;
 mod convert;
 mod cuts;
+mod extend;
 mod growth;
 mod join;
 mod json;
@@ -17,6 +18,7 @@ mod make;
 mod mutate;
 mod views;
 mod write;
+mod written;
 
 /// Where the bytes of a handle lie.
 #[derive(Drop)]

@@ -10,6 +10,7 @@
 //!   wasn't read.
 //! - [`RefMut`] lends a value of a [`Source`], as a handle is one, as a vector; [`mutate`] makes one in functions that are generic in
 //!   the source. [`with_mutated`] lends the vector to a closure, and [`MutateFault`] says what a refusal left.
+//! - [`Writer`] is a handle with its allocator, for `write!` and as an [`io::Write`](std::io::Write).
 //! - [`Piece`] is what joins are made of, bytes or texts.
 //! - What an implementor of [`Backend`], or a caller of the representations, names is handed on: [`Room`], [`Extent`], [`Span`],
 //!   [`Whole`], [`Appended`], [`Block`], [`Inline`], [`Length`], [`Borrowed`], [`Allocated`], [`Sole`], [`fill_counted`],
@@ -26,6 +27,7 @@
 #![tactic(auto)]
 
 mod borsh_fault;
+mod draft;
 mod gathering;
 mod grow_fault;
 mod hip_byt;
@@ -37,6 +39,7 @@ mod piece;
 mod range;
 mod ref_mut;
 mod slice_error;
+mod writer;
 
 pub use borsh_fault::BorshFault;
 pub use grow_fault::GrowFault;
@@ -53,3 +56,4 @@ pub use piece::Piece;
 pub use range::{bound_of, end_of, range_of, start_of};
 pub use ref_mut::{RefMut, Source, mutate, mutate_metered, with_mutated, with_mutated_metered};
 pub use slice_error::{SliceError, SliceErrorKind, SliceRefusal};
+pub use writer::Writer;

@@ -1,7 +1,9 @@
 //! The pieces of joins.
 ghost use Rattle.std.specs.Prelude.{◌≡◌, List, ℕ, [], ◌++◌};
 
-/// Bytes, or a text: what a join puts one behind another.
+use std::slice;
+
+/// Bytes, a text, or a byte: what a join puts one behind another.
 pub trait Piece: Drop {
     /// Its bytes.
     ghost bytes: { Self → List ℕ };
@@ -52,4 +54,22 @@ impl<'a> Piece for &'a str {
     ghost empty = { IsUtf8-nil };
 
     ghost together = { λ front rest. IsUtf8-append front rest };
+}
+
+/// A byte is a piece of one.
+impl Piece for u8 {
+    ghost use Rattle.hip_bytes.specs.Join.{one_byte};
+
+    ghost bytes = { one_byte };
+
+    ghost keeps = { λ _. Unit {0} };
+
+    #[inline(always)]
+    fn as_piece(&self) -> &[u8] {
+        slice::from_ref(self)
+    }
+
+    ghost empty = { tt };
+
+    ghost together = { λ _ _ _ _. tt };
 }

@@ -10,6 +10,7 @@
 //! - `guards`: bytes that are lent out as a vector.
 //! - `owned_room`: the bytes that `Unique` copies as it grows, and its capacity.
 //! - `joins`: repetitions, joins and room that is given back.
+//! - `written`: values that are written at the end, and bytes of an iterator.
 //! - `comparisons`: order, equality and maps.
 //!
 //! `bytes` has the calls that the tests make on a byte string, each by its own name, `hip_byt` implements them for any backend, and

@@ -14,3 +14,4 @@ mod spaces;
 mod suite;
 mod support;
 mod writes;
+mod written;

@@ -15,7 +15,7 @@ use Rattle.std.specs.String.{string_vec}
 use Rattle.std.specs.declared.string.String.{String}
 use Rattle.std.specs.declared.vec.Vec.{Vec}
 use Rattle.hip_bytes.specs.Handle.{Handle}
-use Rattle.hip_bytes.specs.Change.{IsShortened, PushAnswers, ShrinkAnswers}
+use Rattle.hip_bytes.specs.Change.{IsShortened, PushAnswers, PushesText, ShrinkAnswers}
 use Rattle.hip_bytes.specs.Kinds.{HoldsByLength}
 use Rattle.hip_bytes.specs.Made.{IsPart}
 use mathlib.Core.HLevel.{is_prop→PathP}
@@ -38,6 +38,12 @@ boundary-drop text start end ordered at =
       omega (arith, length-drop start text, at.0),
       λ within high. subst (λ (byte : ℕ). 192 ≤ byte) (sym there) (at.1 (omega (arith, length-drop start text, within)) (subst (λ (byte : ℕ). 128 ≤ byte) there high)),
     )
+
+-- a text at whose end a value wrote
+pub is_utf8-written : {T E : Type 0} (shares : Bool) (old new : Handle) (result : Result T E) → OnOk result (PushesText shares old new) → OnErr result (new ≡ old)
+    → is_utf8 old.items ≡ true → is_utf8 new.items ≡ true
+is_utf8-written shares old new (Ok done) (addition, more, pushed) same text = ap is_utf8 pushed.items ∙ is_utf8-append old.items addition text more
+is_utf8-written shares old new (Err error) pushed same text = ap (λ (handle : Handle). is_utf8 handle.items) same ∙ text
 
 -- the part of a text between two boundaries
 pub is_utf8-part : (text : List ℕ) (start end : ℕ) → is_utf8 text ≡ true → start ≤ end → IsCharBoundary text start → IsCharBoundary text end
@@ -111,6 +117,8 @@ a_fault Cause (Some error) told is found same = λ utf8. told.0 (subst IsUtf8 (s
 pub ruleset texts = (IsUtf8-from_is_utf8, is_utf8-from_IsUtf8, not-is_utf8)
 
 pub ruleset pushes = (texts, is_utf8-pushed)
+
+pub ruleset writes = (texts, is_utf8-written)
 
 pub ruleset cuts = (texts, is_utf8-part)
 

@@ -8,6 +8,7 @@ mod compare;
 mod convert;
 mod cuts;
 mod decode;
+mod extend;
 mod formats;
 mod growth;
 mod make;
@@ -15,6 +16,7 @@ mod mutate;
 mod utf16;
 mod views;
 mod write;
+mod written;
 
 /// A text that is cheap to clone and to cut: a [`HipByt`] that is UTF-8.
 pub struct HipStr<'b, B: Backend> {

@@ -15,6 +15,7 @@
 //! - `carried`: hipstr's own tests, and worked cases.
 //! - `decoding`: bytes that are UTF-8, that aren't, and their repair.
 //! - `made`: joins and repetitions, and texts of units of UTF-16.
+//! - `written`: values that are written at the end, and characters of an iterator.
 //! - `errors`: ranges that are refused, and bytes that aren't a text.
 //!
 //! Of texts that are taken apart:

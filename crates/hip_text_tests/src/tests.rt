@@ -17,3 +17,4 @@ mod suite;
 mod support;
 mod text;
 mod walks;
+mod written;

@@ -40,6 +40,7 @@ pub use Rattle.hip_names.specs.JsonPath
 pub use Rattle.hip_match.specs.Answers
 pub use Rattle.hip_match.specs.AsciiSets
 pub use Rattle.hip_match.specs.Bits
+pub use Rattle.hip_match.specs.Bytes
 pub use Rattle.hip_match.specs.CharLaws
 pub use Rattle.hip_match.specs.Characters
 pub use Rattle.hip_match.specs.Clones

@@ -5,7 +5,7 @@
 //! are those of a machine that keeps one plain list for each handle, so that no write through one handle shows in another, and
 //! that no more bytes are copied than the run costs.
 //!
-//! [`bytes`] has the byte strings themselves, [`HipByt`](bytes::HipByt) generic in the [`Backend`]: owners are shared on [`Rc`], and not on
+//! [`bytes`] has the byte strings themselves, [`HipByt`](bytes::HipByt) generic in the [`Backend`], with the calls that take them apart: owners are shared on [`Rc`], and not on
 //! [`Unique`]. [`string`] has the texts, [`HipStr`](string::HipStr): byte strings that are UTF-8, with the calls that take them apart, and
 //! [`pattern`] the patterns of these calls and the iterators that pieces come from. [`os_string`] has the OS strings,
 //! [`HipOsStr`](os_string::HipOsStr), which needn't be UTF-8, and [`path`] the paths, [`HipPath`](path::HipPath), which are compared

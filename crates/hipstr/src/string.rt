@@ -2,6 +2,6 @@
 pub use hip_cuts::{IterWrapper, Pieces, PiecesAt, TextCuts, Unnumbered, Walk};
 pub use hip_text::{
     BorshFault, BytesFault, FromUtf8Error, HipStr, JsonFault, MutateFault, RefMut, SliceError,
-    SliceErrorKind, SliceRefusal, TextSource, Utf16Fault, mutate, mutate_metered, with_mutated,
-    with_mutated_metered,
+    SliceErrorKind, SliceRefusal, TextSource, Utf16Fault, Writer, mutate, mutate_metered,
+    with_mutated, with_mutated_metered,
 };

@@ -1,19 +1,21 @@
 //! Code of a user who names `hipstr` alone: loops over walks, functions of a pattern and over a closure, with clauses that cite what a call
 //! is said to give, a struct that keeps a walk, and records that are cut field by field. A function that is generic in the backend is
 //! proved once for all, and takes longer than one that names `Rc`: most of these do.
-ghost use Rattle.std.specs.Prelude.{◌≡◌, ◌==◌, ◌++◌, ℕ, IfOk, IfSome, codes, length};
+ghost use Rattle.std.specs.Prelude.{◌≡◌, ◌==◌, ◌++◌, ◌∷◌, ℕ, IfOk, IfSome, OnErr, OnOk, codes, length};
 ghost use Rattle.std.specs.Char.{IsScalar, is_ascii_digit};
+ghost use Rattle.std.specs.Fmt.{decimal};
 ghost use Rattle.hipstr.specs.Answers.{answer_at};
 ghost use Rattle.hipstr.specs.Characters.{char_ends};
 ghost use Rattle.hipstr.specs.Piece.{AreParts};
 ghost use Rattle.hipstr.specs.Pieces.{split};
 
+use hipstr::bytes::ByteCuts;
 use hipstr::laws::{
-    split_once_parts_at_the_first, strip_prefix_leaves_the_rest, strip_suffix_leaves_the_front,
+    a_byte_parts_bytes, split_once_parts_at_the_first, strip_prefix_leaves_the_rest, strip_suffix_leaves_the_front,
 };
 use hipstr::pattern::{CharPred, Chosen, Pattern, Split, choose_by};
-use hipstr::string::{HipStr, IterWrapper, TextCuts};
-use hipstr::{Backend, LocalHipStr, Rc, Unique};
+use hipstr::string::{HipStr, IterWrapper, TextCuts, Writer};
+use hipstr::{Backend, LocalHipByt, LocalHipStr, Rc, Unique};
 use std::alloc::{AllocError, Global};
 
 /// The parts of a text between the occurrences of a pattern.
@@ -216,6 +218,75 @@ fn key_and_value<'b>(
     Ok(parts)
 }
 
+/// Adds a line of a report: a name, and how often it was counted.
+fn report_count<'b, B: Backend>(
+    alloc: Global,
+    report: &mut HipStr<'b, B>,
+    name: &str,
+    count: u32,
+) -> Result<(), AllocError>
+    ensures line { OnOk result (report.new.items
+        ≡ report.old.items ++ (name.now ++ (codes ": " ++ (decimal count ++ codes "\n")))) }
+    ensures err { OnErr result (report.new ≡ report.old) }
+{
+    let mut out = Writer {
+        text: report,
+        alloc,
+    };
+    writeln!(out, "{name}: {count}")
+}
+
+/// The line of a name's count.
+fn count_line(alloc: Global, name: &str, count: u32) -> Result<LocalHipStr<'static>, AllocError>
+    ensures { IfOk result
+        (λ line. line.items ≡ name.now ++ (codes ": " ++ decimal count)) }
+{
+    let mut line = LocalHipStr::new();
+    let mut out = line.writer(alloc);
+    write!(out, "{name}: {count}")?;
+    Ok(line)
+}
+
+/// Whether counts are reported.
+fn reports(alloc: Global) -> Result<bool, AllocError> {
+    let mut report = LocalHipStr::borrowed("counts\n");
+    report_count(alloc, &mut report, "a", 4)?;
+    report_count(alloc, &mut report, "é", 15)?;
+    let line = count_line(alloc, "a", 4)?;
+    Ok(report.str_eq("counts\na: 4\né: 15\n") & line.str_eq("a: 4"))
+}
+
+/// The number of lines of a log that end with this status. The lines needn't be UTF-8.
+fn lines_with_status(
+    alloc: Global,
+    log: &LocalHipByt<'_>,
+    status: &[u8],
+) -> Result<usize, AllocError> {
+    let mut count = 0usize;
+    for line in log.lines(alloc) {
+        let line = line?.trim_ascii(alloc)?;
+        if let Some((_front, last)) = line.rsplit_once(alloc, b' ')? {
+            if last.eq_slice(status) {
+                count = count.saturating_add(1);
+            }
+        }
+    }
+    Ok(count)
+}
+
+/// A key and its value in bytes, if a `=` stands between them.
+fn key_and_value_bytes<'b>(
+    alloc: Global,
+    line: &LocalHipByt<'b>,
+) -> Result<Option<(LocalHipByt<'b>, LocalHipByt<'b>)>, AllocError>
+    ensures { IfOk result (λ found. IfSome found
+        (λ parts. line.now.items ≡ parts.0.items ++ 61 ∷ parts.1.items)) }
+{
+    let parts = line.split_once(alloc, b'=')?;
+    a_byte_parts_bytes(line.as_slice(), b'=');
+    Ok(parts)
+}
+
 /// Whether the texts are these.
 fn are<B: Backend>(texts: &Result<Vec<HipStr<'_, B>>, AllocError>, expected: &[&str]) -> bool {
     let Ok(texts) = texts else {
@@ -311,10 +382,31 @@ fn takes_apart(alloc: Global) -> Result<bool, AllocError> {
     Ok(is_text(unquoted(alloc, &quoted)?, "a=b") & unquoted(alloc, &half)?.is_none() & pair)
 }
 
+/// Whether bytes that are no UTF-8 are read by lines, and parted.
+fn takes_bytes_apart(alloc: Global) -> Result<bool, AllocError> {
+    let log = LocalHipByt::borrowed(b"GET /\xFF 200\r\n\xC3 404 \nPUT /a 200");
+    let line = LocalHipByt::borrowed(b"\xFF=\x80=");
+    let pair = match key_and_value_bytes(alloc, &line)? {
+        Some((key, value)) => key.eq_slice(b"\xFF") & value.eq_slice(b"\x80="),
+        None => false,
+    };
+    Ok((lines_with_status(alloc, &log, b"200")? == 2) & pair)
+}
+
+#[test]
+fn bytes_are_cut_as_texts_are(rt: HostRuntime) {
+    assert!(rt; takes_bytes_apart(rt.alloc()) == Ok(true));
+}
+
 #[test]
 fn records_are_cut_by_one_call_a_field(rt: HostRuntime) {
     assert!(rt; reads_records(rt.alloc()));
     assert!(rt; takes_apart(rt.alloc()) == Ok(true));
+}
+
+#[test]
+fn counts_are_written(rt: HostRuntime) {
+    assert!(rt; reports(rt.alloc()) == Ok(true));
 }
 
 #[test]

@@ -1,7 +1,7 @@
 //! The calls of byte strings.
 use super::calls::Place;
 use super::handle::{Change, Conversion, Copying, Handle, Lending, Making, Taking, Telling};
-use super::held::{BROKEN, EACH_HELD, FORM, Held, LISTS, PARTS};
+use super::held::{ADDED, BROKEN, EACH_HELD, FORM, Held, LISTS, PARTS};
 use super::outcomes::{
     is_cow, is_written, lent_back, of_borsh, of_growth, of_json, of_memory, put_back,
 };
@@ -44,6 +44,16 @@ impl<B: Backend> Handle for HipByt<'static, B> {
         match change {
             Change::Push => self.push(alloc, b'!').is_ok(),
             Change::PushSlice => self.push_slice(alloc, &[b'!'; 200]).is_ok(),
+            Change::WriteFmt => {
+                let written = self.write_fmt(alloc, format_args!("{ADDED}-{}", 1));
+                written.is_ok()
+            }
+            Change::WriteThrough => {
+                let mut out = self.writer(alloc);
+                let written = write!(out, "{ADDED}-{}", 1);
+                written.is_ok()
+            }
+            Change::Extend => self.extend_bytes(alloc, [b'!'; 200]).is_ok(),
             Change::ShrinkTo => self.shrink_to(alloc, 24).is_ok(),
             Change::ShrinkToFit => self.shrink_to_fit(alloc).is_ok(),
             Change::MakeAsciiUppercase => self.make_ascii_uppercase(alloc).is_ok(),
@@ -135,6 +145,7 @@ impl<B: Backend> Handle for HipByt<'static, B> {
             Making::Concat => of_growth(HipByt::concat(alloc, PARTS)),
             Making::JoinSlices => of_growth(HipByt::join_slices(alloc, &PARTS, b"-")),
             Making::Join => of_growth(HipByt::join(alloc, PARTS, b"-")),
+            Making::FromIterated => of_growth(HipByt::from_bytes(alloc, [b'!'; 200])),
             Making::FromJson => of_json(HipByt::from_json(alloc, value)),
             Making::DeserializeReader => {
                 let mut source = SliceSource::new(FORM);

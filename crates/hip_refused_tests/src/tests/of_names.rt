@@ -47,6 +47,9 @@ impl<B: Backend> Handle for HipOsStr<'static, B> {
             Change::ShrinkToFit => self.shrink_to_fit(alloc).is_ok(),
             Change::PushSlice
             | Change::PushStr
+            | Change::WriteFmt
+            | Change::WriteThrough
+            | Change::Extend
             | Change::MakeAsciiUppercase
             | Change::MakeAsciiLowercase
             | Change::ToMutSlice
@@ -123,6 +126,7 @@ impl<B: Backend> Handle for HipOsStr<'static, B> {
             | Making::Concat
             | Making::JoinSlices
             | Making::Join
+            | Making::FromIterated
             | Making::TryFromSlice
             | Making::FromUtf16
             | Making::FromUtf16Lossy
@@ -190,6 +194,9 @@ impl<B: Backend> Handle for HipPath<'static, B> {
             Change::Push
             | Change::PushSlice
             | Change::PushStr
+            | Change::WriteFmt
+            | Change::WriteThrough
+            | Change::Extend
             | Change::MakeAsciiUppercase
             | Change::MakeAsciiLowercase
             | Change::ToMutSlice
@@ -261,6 +268,7 @@ impl<B: Backend> Handle for HipPath<'static, B> {
             | Making::Concat
             | Making::JoinSlices
             | Making::Join
+            | Making::FromIterated
             | Making::TryFromSlice
             | Making::FromUtf16
             | Making::FromUtf16Lossy

@@ -41,6 +41,9 @@ impl<B: Backend> Handle for Allocated<B> {
             Change::ShrinkTo => self.shrink_to(alloc, 24).is_ok(),
             Change::Push
             | Change::PushStr
+            | Change::WriteFmt
+            | Change::WriteThrough
+            | Change::Extend
             | Change::ShrinkToFit
             | Change::MakeAsciiUppercase
             | Change::MakeAsciiLowercase
@@ -113,6 +116,7 @@ impl<B: Backend> Handle for Allocated<B> {
             | Making::Concat
             | Making::JoinSlices
             | Making::Join
+            | Making::FromIterated
             | Making::TryFromSlice
             | Making::FromUtf16
             | Making::FromUtf16Lossy

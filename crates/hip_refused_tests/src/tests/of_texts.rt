@@ -47,6 +47,16 @@ impl<B: Backend> Handle for HipStr<'static, B> {
         match change {
             Change::Push => self.push(alloc, 'é').is_ok(),
             Change::PushStr => self.push_str(alloc, ADDED).is_ok(),
+            Change::WriteFmt => {
+                let written = self.write_fmt(alloc, format_args!("{ADDED}-{}", 1));
+                written.is_ok()
+            }
+            Change::WriteThrough => {
+                let mut out = self.writer(alloc);
+                let written = write!(out, "{ADDED}-{}", 1);
+                written.is_ok()
+            }
+            Change::Extend => self.extend_chars(alloc, ['é'; 20]).is_ok(),
             Change::ShrinkTo => self.shrink_to(alloc, 24).is_ok(),
             Change::ShrinkToFit => self.shrink_to_fit(alloc).is_ok(),
             Change::MakeAsciiUppercase => self.make_ascii_uppercase(alloc).is_ok(),
@@ -144,6 +154,7 @@ impl<B: Backend> Handle for HipStr<'static, B> {
             Making::TryFromSlice => of_bytes(HipStr::try_from_slice(alloc, BYTES)),
             Making::FromUtf16 => of_utf16(HipStr::from_utf16(alloc, UNITS)),
             Making::FromUtf16Lossy => of_memory(HipStr::from_utf16_lossy(alloc, UNITS_AND_ONE)),
+            Making::FromIterated => of_growth(HipStr::from_chars(alloc, ['é'; 20])),
             Making::FromJson => of_json(HipStr::from_json(alloc, value)),
             Making::DeserializeReader => {
                 let mut source = SliceSource::new(FORM);

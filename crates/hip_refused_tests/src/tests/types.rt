@@ -34,6 +34,9 @@ const OF_ALL: &[Call] = &[
 /// The calls that byte strings and texts have.
 const OF_LISTS: &[Call] = &[
     Call::Change(Change::Push),
+    Call::Change(Change::WriteFmt),
+    Call::Change(Change::WriteThrough),
+    Call::Change(Change::Extend),
     Call::Change(Change::MakeAsciiUppercase),
     Call::Change(Change::MakeAsciiLowercase),
     Call::Copying(Copying::Slice),
@@ -51,6 +54,7 @@ const OF_LISTS: &[Call] = &[
     Call::Making(Making::Concat),
     Call::Making(Making::JoinSlices),
     Call::Making(Making::Join),
+    Call::Making(Making::FromIterated),
     Call::Making(Making::DeserializeReader),
     Call::Telling(Telling::Serialize),
 ];
