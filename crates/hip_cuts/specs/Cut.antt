@@ -1,5 +1,5 @@
--- The part of a text that a trim or a strip leaves, and the two parts of one that is split once: the source's parts at the ranges that
--- Rust's documentation of `str` tells. `shown` says what is seen of a text.
+-- The part of a text, or of bytes, that a trim or a strip leaves, and the two parts of one that is split once: the source's parts at the
+-- ranges that Rust's documentation of `str`, or of `[u8]`, tells. `shown` says what is seen of a source.
 use Rattle.std.specs.Prelude.{◌≡◌, ℕ, ◌+◌, ◌-◌, ◌<◌, ◌⊎◌, Bool, true, List, ◌∷◌, ◌++◌, encode_utf8, length, slice_index, Option, Some, None, Result, Ok, Err, IfOk, IfSome}
 use Rattle.std.specs.Char.{is_ascii_whitespace, is_whitespace}
 use Rattle.std.specs.List.{AllByRecursion, flat_map}

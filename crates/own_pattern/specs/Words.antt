@@ -12,7 +12,7 @@ pub use Rattle.hipstr.specs.Borsh.{BorshReads as Borsh-BorshReads, BorshRoundTri
 pub use Rattle.hipstr.specs.BorshText.{BorshReadsText as BorshText-BorshReadsText}
 pub use Rattle.hipstr.specs.Boundary.{is_boundary as Boundary-is_boundary}
 pub use Rattle.hipstr.specs.Buffer.{IsBuffer as Buffer-IsBuffer}
-pub use Rattle.hipstr.specs.Bytes.{IsWithin as Bytes-IsWithin, byte_ends as Bytes-byte_ends, byte_lines as Bytes-byte_lines, ended_lines as Bytes-ended_lines, lines_left as Bytes-lines_left, open_lines as Bytes-open_lines}
+pub use Rattle.hipstr.specs.Bytes.{IsWithin as Bytes-IsWithin, byte_ends as Bytes-byte_ends, byte_lines as Bytes-byte_lines}
 pub use Rattle.hipstr.specs.Change.{IsPushed as Change-IsPushed, IsRewritten as Change-IsRewritten, IsShortened as Change-IsShortened, IsShrunk as Change-IsShrunk, PopAnswers as Change-PopAnswers, PushAnswers as Change-PushAnswers, PushesText as Change-PushesText, ShrinkAnswers as Change-ShrinkAnswers, WriteAnswers as Change-WriteAnswers}
 pub use Rattle.hipstr.specs.CharLaws.{StartsChar as CharLaws-StartsChar}
 pub use Rattle.hipstr.specs.Characters.{char_ends as Characters-char_ends}
@@ -42,7 +42,7 @@ pub use Rattle.hipstr.specs.Leftmost.{IsLeftmost as Leftmost-IsLeftmost, leftmos
 pub use Rattle.hipstr.specs.Lines.{AreLines as Lines-AreLines, EndsLine as Lines-EndsLine}
 pub use Rattle.hipstr.specs.Little.{CopiesLittle as Little-CopiesLittle, parts_made as Little-parts_made}
 pub use Rattle.hipstr.specs.Made.{CloneAnswers as Made-CloneAnswers, CopyAnswers as Made-CopyAnswers, CutAnswers as Made-CutAnswers, ExtendAnswers as Made-ExtendAnswers, ExtendCosts as Made-ExtendCosts, GatherAnswers as Made-GatherAnswers, GatherCosts as Made-GatherCosts, IsOwned as Made-IsOwned, IsPart as Made-IsPart, JoinAnswers as Made-JoinAnswers, MakeAnswers as Made-MakeAnswers, OwnedAnswers as Made-OwnedAnswers, RepeatAnswers as Made-RepeatAnswers}
-pub use Rattle.hipstr.specs.Marks.{Ahead as Marks-Ahead, Behind as Marks-Behind, IsBackPart as Marks-IsBackPart, IsFrontPart as Marks-IsFrontPart, has_nibbles as Marks-has_nibbles, in_rows as Marks-in_rows}
+pub use Rattle.hipstr.specs.Marks.{Ahead as Marks-Ahead, Behind as Marks-Behind, has_nibbles as Marks-has_nibbles, in_rows as Marks-in_rows}
 pub use Rattle.hipstr.specs.Meter.{RisesAtLeast as Meter-RisesAtLeast, RisesAtMost as Meter-RisesAtMost, RisesBy as Meter-RisesBy, append_copies as Meter-append_copies, count_from as Meter-count_from, pot as Meter-pot, times_copied as Meter-times_copied, unless_shared as Meter-unless_shared}
 pub use Rattle.hipstr.specs.Mutated.{MutateAnswers as Mutated-MutateAnswers, MutateCosts as Mutated-MutateCosts, Ran as Mutated-Ran, TakesItems as Mutated-TakesItems}
 pub use Rattle.hipstr.specs.NameDecode.{IntoStrAnswers as NameDecode-IntoStrAnswers, ToStrAnswers as NameDecode-ToStrAnswers}
@@ -51,7 +51,7 @@ pub use Rattle.hipstr.specs.Parted.{IsParted as Parted-IsParted, Lacks as Parted
 pub use Rattle.hipstr.specs.Parts.{part_count as Parts-part_count, parts_count as Parts-parts_count}
 pub use Rattle.hipstr.specs.PathCuts.{ParentAnswers as PathCuts-ParentAnswers, ParentCosts as PathCuts-ParentCosts, PartIfAny as PathCuts-PartIfAny, PartIfAnyCosts as PathCuts-PartIfAnyCosts, PartIfAnyCounts as PathCuts-PartIfAnyCounts}
 pub use Rattle.hipstr.specs.PathParts.{BeginWith as PathParts-BeginWith, EndWith as PathParts-EndWith, HasNoParent as PathParts-HasNoParent, IsParent as PathParts-IsParent, IsTrimmed as PathParts-IsTrimmed, extension as PathParts-extension, file_name as PathParts-file_name, file_stem as PathParts-file_stem, has_root as PathParts-has_root, is_rooted as PathParts-is_rooted, name_of as PathParts-name_of}
-pub use Rattle.hipstr.specs.Piece.{AreMatches as Piece-AreMatches, AreParts as Piece-AreParts, ClonesKeepRanges as Piece-ClonesKeepRanges, DrawsFirst as Piece-DrawsFirst, DrawsFirstBytes as Piece-DrawsFirstBytes, DrawsFirstMatch as Piece-DrawsFirstMatch, DrawsLast as Piece-DrawsLast, DrawsLastBytes as Piece-DrawsLastBytes, DrawsLastMatch as Piece-DrawsLastMatch, FirstBytes as Piece-FirstBytes, FirstCosts as Piece-FirstCosts, FirstMatch as Piece-FirstMatch, FirstPart as Piece-FirstPart, FirstPiece as Piece-FirstPiece, IsLittle as Piece-IsLittle, IsMatchAt as Piece-IsMatchAt, IsPartAt as Piece-IsPartAt, LastBytes as Piece-LastBytes, LastCosts as Piece-LastCosts, LastMatch as Piece-LastMatch, LastPart as Piece-LastPart, LastPiece as Piece-LastPiece, Left as Piece-Left, MatchCounts as Piece-MatchCounts, PartAnswers as Piece-PartAnswers, PieceCounts as Piece-PieceCounts, draws_by as Piece-draws_by, part_cost as Piece-part_cost, parts_cost as Piece-parts_cost}
+pub use Rattle.hipstr.specs.Piece.{AreMatches as Piece-AreMatches, AreParts as Piece-AreParts, ClonesKeepRanges as Piece-ClonesKeepRanges, DrawsFirst as Piece-DrawsFirst, DrawsFirstMatch as Piece-DrawsFirstMatch, DrawsLast as Piece-DrawsLast, DrawsLastMatch as Piece-DrawsLastMatch, FirstBytes as Piece-FirstBytes, FirstCosts as Piece-FirstCosts, FirstMatch as Piece-FirstMatch, FirstPiece as Piece-FirstPiece, IsLittle as Piece-IsLittle, IsMatchAt as Piece-IsMatchAt, IsPartAt as Piece-IsPartAt, LastBytes as Piece-LastBytes, LastCosts as Piece-LastCosts, LastMatch as Piece-LastMatch, LastPiece as Piece-LastPiece, Left as Piece-Left, MatchCounts as Piece-MatchCounts, PartAnswers as Piece-PartAnswers, PieceCounts as Piece-PieceCounts, draws_by as Piece-draws_by, part_cost as Piece-part_cost, parts_cost as Piece-parts_cost}
 pub use Rattle.hipstr.specs.Pieces.{AreInOrder as Pieces-AreInOrder, AreInReverseOrder as Pieces-AreInReverseOrder, at_most_from as Pieces-at_most_from, at_most_to as Pieces-at_most_to, ended as Pieces-ended, gaps as Pieces-gaps, gaps_back as Pieces-gaps_back, rsplit as Pieces-rsplit, rsplit_terminator as Pieces-rsplit_terminator, rsplitn as Pieces-rsplitn, split as Pieces-split, split_inclusive as Pieces-split_inclusive, split_terminator as Pieces-split_terminator, splitn as Pieces-splitn}
 pub use Rattle.hipstr.specs.Range.{range_fault as Range-range_fault, slice_fault as Range-slice_fault, slice_of as Range-slice_of}
 pub use Rattle.hipstr.specs.Ready.{IsBackWindow as Ready-IsBackWindow, IsBetween as Ready-IsBetween, IsBetweenBack as Ready-IsBetweenBack, IsFrontWindow as Ready-IsFrontWindow, IsGoing as Ready-IsGoing, IsWindow as Ready-IsWindow}
@@ -76,7 +76,7 @@ pub use Rattle.hipstr.specs.TextSlice.{IsErrorOf as TextSlice-IsErrorOf, SliceAn
 pub use Rattle.hipstr.specs.TextSliceError.{error_end as TextSliceError-error_end, error_kind as TextSliceError-error_kind, error_source as TextSliceError-error_source, error_start as TextSliceError-error_start, slice_error_text as TextSliceError-slice_error_text}
 pub use Rattle.hipstr.specs.Texts.{text_ends as Texts-text_ends}
 pub use Rattle.hipstr.specs.Transfer.{CountsRefusal as Transfer-CountsRefusal}
-pub use Rattle.hipstr.specs.Trimmed.{IsAsciiSpace as Trimmed-IsAsciiSpace, IsPartedLast as Trimmed-IsPartedLast, LacksByte as Trimmed-LacksByte, LeavesBetween as Trimmed-LeavesBetween, LeavesEnd as Trimmed-LeavesEnd, LeavesStart as Trimmed-LeavesStart, LeftBefore as Trimmed-LeftBefore, LeftBehind as Trimmed-LeftBehind, LeftBetween as Trimmed-LeftBetween, OnceAnswers as Trimmed-OnceAnswers, OnceCosts as Trimmed-OnceCosts, PartedAs as Trimmed-PartedAs, PartedAtByte as Trimmed-PartedAtByte, PartedAtLastByte as Trimmed-PartedAtLastByte, PartedLastAs as Trimmed-PartedLastAs, StripAnswers as Trimmed-StripAnswers, StripCosts as Trimmed-StripCosts, StrippedBack as Trimmed-StrippedBack, StrippedFront as Trimmed-StrippedFront, TrimAnswers as Trimmed-TrimAnswers, TrimCosts as Trimmed-TrimCosts, TrimmedBetween as Trimmed-TrimmedBetween, TrimmedEnd as Trimmed-TrimmedEnd, TrimmedStart as Trimmed-TrimmedStart, ascii_space_ends as Trimmed-ascii_space_ends, found_in as Trimmed-found_in, space_ends as Trimmed-space_ends}
+pub use Rattle.hipstr.specs.Trimmed.{IsPartedLast as Trimmed-IsPartedLast, LeavesBetween as Trimmed-LeavesBetween, LeavesEnd as Trimmed-LeavesEnd, LeavesStart as Trimmed-LeavesStart, LeftBefore as Trimmed-LeftBefore, LeftBehind as Trimmed-LeftBehind, LeftBetween as Trimmed-LeftBetween, OnceAnswers as Trimmed-OnceAnswers, OnceCosts as Trimmed-OnceCosts, PartedAs as Trimmed-PartedAs, PartedAtByte as Trimmed-PartedAtByte, PartedAtLastByte as Trimmed-PartedAtLastByte, PartedLastAs as Trimmed-PartedLastAs, StripAnswers as Trimmed-StripAnswers, StripCosts as Trimmed-StripCosts, StrippedBack as Trimmed-StrippedBack, StrippedFront as Trimmed-StrippedFront, TrimAnswers as Trimmed-TrimAnswers, TrimCosts as Trimmed-TrimCosts, TrimmedBetween as Trimmed-TrimmedBetween, TrimmedEnd as Trimmed-TrimmedEnd, TrimmedStart as Trimmed-TrimmedStart, ascii_space_ends as Trimmed-ascii_space_ends, found_in as Trimmed-found_in, space_ends as Trimmed-space_ends}
 pub use Rattle.hipstr.specs.Trims.{TrimsBack as Trims-TrimsBack, TrimsFront as Trims-TrimsFront, cut_at_first as Trims-cut_at_first, rsplit_once as Trims-rsplit_once, split_once as Trims-split_once, strip_prefix as Trims-strip_prefix, strip_suffix as Trims-strip_suffix}
 pub use Rattle.hipstr.specs.Utf16.{IsFirstUnpaired as Utf16-IsFirstUnpaired, Spells as Utf16-Spells, SpellsWhatEncodes as Utf16-SpellsWhatEncodes, Utf16Answers as Utf16-Utf16Answers}
 pub use Rattle.hipstr.specs.Walks.{GoesAlike as Walks-GoesAlike, GoesOver as Walks-GoesOver}

@@ -56,6 +56,7 @@ pub enum Cut {
     SplitOnce,
     RsplitOnce,
     Split,
+    Lines,
     MatchIndices,
 }
 

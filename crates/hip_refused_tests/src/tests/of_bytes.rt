@@ -1,11 +1,11 @@
 //! The calls of byte strings.
 use super::calls::Place;
-use super::handle::{Change, Conversion, Copying, Handle, Lending, Making, Taking, Telling};
+use super::handle::{Change, Conversion, Copying, Cut, Handle, Lending, Making, Taking, Telling};
 use super::held::{ADDED, BROKEN, EACH_HELD, FORM, Held, LISTS, PARTS};
 use super::outcomes::{
     is_cow, is_written, lent_back, of_borsh, of_growth, of_json, of_memory, put_back,
 };
-use hipstr::bytes::{HipByt, JsonFault};
+use hipstr::bytes::{ByteCuts, HipByt, JsonFault};
 use hipstr::string::HipStr;
 use hipstr::{Backend, SliceSource, VecSink};
 use serde_json::Value;
@@ -87,9 +87,8 @@ impl<B: Backend> Handle for HipByt<'static, B> {
             Copying::RepeatOnce => self.repeat(alloc, 1).or(Err(AllocError)),
             Copying::ToAsciiUppercase => self.to_ascii_uppercase(alloc),
             Copying::ToAsciiLowercase => self.to_ascii_lowercase(alloc),
-            Copying::Cut(_) | Copying::ToStr | Copying::ToStrLossy => {
-                panic!(rt; "no call of byte strings")
-            }
+            Copying::Cut(cut) => cut_of(rt, self, alloc, cut),
+            Copying::ToStr | Copying::ToStrLossy => panic!(rt; "no call of byte strings"),
         }
     }
 
@@ -183,5 +182,39 @@ impl<B: Backend> Handle for HipByt<'static, B> {
             },
             Lending::WithMutated => { lent_back(self.with_mutated(alloc, |_vec: &mut Vec<u8>| ())) }
         }
+    }
+}
+
+/// The part of bytes that a call cuts out, or the last one where it gives several.
+fn cut_of<B: Backend>(
+    rt: &impl Abort,
+    bytes: &HipByt<'static, B>,
+    alloc: Global,
+    cut: Cut,
+) -> Result<HipByt<'static, B>, AllocError> {
+    match cut {
+        Cut::Trim => bytes.trim_ascii(alloc),
+        Cut::TrimStart => bytes.trim_ascii_start(alloc),
+        Cut::TrimEnd => bytes.trim_ascii_end(alloc),
+        Cut::SplitOnce => Ok(behind(bytes.split_once(alloc, b',')?)),
+        Cut::RsplitOnce => Ok(behind(bytes.rsplit_once(alloc, b',')?)),
+        Cut::Split => Ok(bytes.split(alloc, b',').collect()?.pop().unwrap_or_default()),
+        Cut::Lines => Ok(bytes.lines(alloc).collect()?.pop().unwrap_or_default()),
+        Cut::TrimMatches
+        | Cut::TrimStartMatches
+        | Cut::TrimEndMatches
+        | Cut::StripPrefix
+        | Cut::StripSuffix
+        | Cut::MatchIndices => panic!(rt; "no call of byte strings"),
+    }
+}
+
+/// The second part, if there are two.
+fn behind<B: Backend>(
+    parts: Option<(HipByt<'static, B>, HipByt<'static, B>)>,
+) -> HipByt<'static, B> {
+    match parts {
+        Some((_front, back)) => back,
+        None => HipByt::new(),
     }
 }

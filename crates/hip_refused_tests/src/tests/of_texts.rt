@@ -211,6 +211,7 @@ fn cut_of<B: Backend>(
         Cut::SplitOnce => Ok(behind(text.split_once(alloc, ",")?)),
         Cut::RsplitOnce => Ok(behind(text.rsplit_once(alloc, ',')?)),
         Cut::Split => Ok(text.split(alloc, ',').collect()?.pop().unwrap_or_default()),
+        Cut::Lines => Ok(text.lines(alloc).collect()?.pop().unwrap_or_default()),
         Cut::MatchIndices => {
             let mut matches = text.match_indices(alloc, PART).collect()?;
             Ok(match matches.pop() {

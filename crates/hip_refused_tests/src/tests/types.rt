@@ -94,7 +94,18 @@ const OF_CUTS: &[Call] = &[
     Call::Copying(Copying::Cut(Cut::SplitOnce)),
     Call::Copying(Copying::Cut(Cut::RsplitOnce)),
     Call::Copying(Copying::Cut(Cut::Split)),
+    Call::Copying(Copying::Cut(Cut::Lines)),
     Call::Copying(Copying::Cut(Cut::MatchIndices)),
+];
+
+const OF_BYTE_CUTS: &[Call] = &[
+    Call::Copying(Copying::Cut(Cut::Trim)),
+    Call::Copying(Copying::Cut(Cut::TrimStart)),
+    Call::Copying(Copying::Cut(Cut::TrimEnd)),
+    Call::Copying(Copying::Cut(Cut::SplitOnce)),
+    Call::Copying(Copying::Cut(Cut::RsplitOnce)),
+    Call::Copying(Copying::Cut(Cut::Split)),
+    Call::Copying(Copying::Cut(Cut::Lines)),
 ];
 
 const OF_OS_STRINGS: &[Call] = &[
@@ -137,7 +148,7 @@ impl Type for ByteStrings {
 
 #[test]
 fn calls_of_byte_strings(rt: HostRuntime) {
-    let tables = [OF_ALL, OF_LISTS, OF_BYTES];
+    let tables = [OF_ALL, OF_LISTS, OF_BYTES, OF_BYTE_CUTS];
     on_both::<ByteStrings>(&rt, rt.alloc(), &tables);
 }
 
