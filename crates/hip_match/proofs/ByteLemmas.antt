@@ -1,10 +1,10 @@
 -- Trims of bytes, and the first and the last of them that pass a test.
-use Rattle.std.proofs.Common.{◌≡◌, ◌∙◌, ℕ, ◌+◌, ◌<◌, ◌≤◌, Bool, true, false, List, [], ◌∷◌, Option, None, Some, length, slice_index, ap, arith, option_map, refl, sym, ◌-◌}
+use Rattle.std.proofs.Common.{◌≡◌, ◌∙◌, ℕ, ◌+◌, ◌<◌, ◌≤◌, Bool, true, false, List, Option, None, Some, length, slice_index, ap, arith, option_map, refl, sym, ◌-◌}
 use Rattle.std.proofs.lemmas.Bool.{false≢true}
 use Rattle.memchr.specs.Find.{IsFirst, IsLast, Passes}
 use Rattle.hip_match.specs.Bytes.{byte_ends}
 use Rattle.hip_match.specs.Trims.{IsSequence, IsSequenceBack, TrimsBack, TrimsFront, cut_at_first, rsplit_once, split_once}
-use Rattle.hip_match.proofs.GapLemmas.{byte-is, byte-none, byte-some, last-match, next-match, one_start, quiet-ahead, quiet-behind, sorted}
+use Rattle.hip_match.proofs.GapLemmas.{byte-is, byte-some, last-match, next-match, one_start, quiet-ahead, quiet-behind, sorted}
 use Rattle.hip_match.proofs.LeftmostLemmas.{leftmost_between-none, leftmost_between-some}
 use Rattle.hip_match.proofs.RightmostLemmas.{rightmost_between-none, rightmost_between-some}
 use Rattle.hip_match.proofs.TrimLemmas.{TrimsBack-stuck, TrimsFront-stuck, sequence_back_more, sequence_more}

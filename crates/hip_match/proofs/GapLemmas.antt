@@ -1,26 +1,25 @@
 -- The parts of bytes between those that pass a test, from either end.
-use Rattle.std.proofs.Common.{◌≡◌, ◌∙◌, ℕ, zero, suc, ◌+◌, ◌-◌, ◌<◌, ◌≤◌, ◌⊎◌, Bool, true, false, List, [], ◌∷◌, ◌++◌, Option, None, Some, IfSome, length, slice_index, ap, sym, refl, arith, ⊎_elim, inl, inr, subst, reverse, IsUtf8, IsCharBoundary}
-use Rattle.std.proofs.lemmas.Bool.{cases_lt, cond-true, cond-false, false≢true, and_parts, and_from}
+use Rattle.std.proofs.Common.{◌≡◌, ◌∙◌, ℕ, zero, suc, ◌+◌, ◌-◌, ◌<◌, ◌≤◌, Bool, true, false, List, [], ◌∷◌, ◌++◌, Option, None, Some, IfSome, length, slice_index, ap, sym, refl, arith, ⊎_elim, inl, inr, subst, reverse, IsUtf8, IsCharBoundary}
+use Rattle.std.proofs.lemmas.Bool.{cases_lt, cond-true, false≢true, and_parts, and_from}
 use Rattle.std.proofs.lemmas.Bool.Decides.{nat_tests}
 use Rattle.std.proofs.lemmas.Grind.{common_steps}
 use Rattle.std.proofs.lemmas.List.{reverse-append}
 use Rattle.std.proofs.lemmas.Option.{none-some, same_Some, cond_some}
-use Rattle.std.proofs.lemmas.Str.{IsCharBoundary-before_ascii}
 use Rattle.memchr.specs.Find.{IsFirst, IsLast, Passes}
 use Rattle.hip_match.specs.Bytes.{byte_ends}
 use Rattle.hip_match.specs.Characters.{char_ends}
 use Rattle.hip_match.specs.CharLaws.{char_ends-spans}
 use Rattle.hip_match.specs.Leftmost.{leftmost_between, leftmost_from, end_within}
 use Rattle.hip_match.specs.Marks.{IsBackPart, IsFrontPart, marked_parts}
-use Rattle.hip_match.specs.Occurrence.{EndsLast, IsCut, IsLastMatch, IsNextMatch, NoneCrosses, StartsFirst}
+use Rattle.hip_match.specs.Occurrence.{EndsLast, IsCut, NoneCrosses, StartsFirst}
 use Rattle.hip_match.specs.Pieces.{gaps, split}
 use Rattle.hip_match.specs.Rightmost.{rightmost_between}
 use Rattle.hip_match.specs.Ready.{IsWindow}
-use Rattle.hip_match.proofs.LeftmostLemmas.{leftmost_between-none, leftmost_between-some, leftmost_from-none, end_within-none, end_within-past}
+use Rattle.hip_match.proofs.LeftmostLemmas.{leftmost_between-some, leftmost_from-none, end_within-none, end_within-past}
 use Rattle.hip_match.proofs.OccurrenceLemmas.{option_cases}
 use Rattle.hip_match.proofs.PiecesLemmas.{gaps-append}
 use Rattle.hip_match.proofs.ReversalLemmas.{leftmost_between-reverse}
-use Rattle.hip_match.proofs.RightmostLemmas.{rightmost_between-none, rightmost_between-some}
+use Rattle.hip_match.proofs.RightmostLemmas.{rightmost_between-some}
 use Rattle.hip_match.proofs.StartLemmas.{ascii-is, ascii-some}
 
 module _ (p : ℕ → Bool) (t : List ℕ) where
@@ -119,13 +118,15 @@ module _ (p : ℕ → Bool) (low : (c : ℕ) → 128 ≤ c → p c ≡ false) (t
       (tt, subst P (sym goes) w)
   front_cut from to next (Some part) w (start, inl (low_end, lt, is, goes)) =
       let cut = passed-cut w.utf8 part.1 (omega (arith, lt, w.end.0)) is in
-      let P : ℕ → Type 0 = IsCharBoundary t in
-      (record { start = subst P (sym start) w.start; end = cut.start; ordered = omega (arith, start, low_end) },
-       record { utf8 = w.utf8; start = subst P (sym goes) cut.end; end = w.end; ordered = omega (arith, lt, goes) })
+      let P : ℕ → Type 0 = IsCharBoundary t in (
+        record { start = subst P (sym start) w.start; end = cut.start; ordered = omega (arith, start, low_end) },
+        record { utf8 = w.utf8; start = subst P (sym goes) cut.end; end = w.end; ordered = omega (arith, lt, goes) },
+      )
   front_cut from to next (Some part) w (start, inr (end, goes)) =
-      let P : ℕ → Type 0 = IsCharBoundary t in
-      (record { start = subst P (sym start) w.start; end = subst P (sym end) w.end; ordered = omega (arith, start, end, w.ordered) },
-       record { utf8 = w.utf8; start = subst P (sym goes) w.start; end = w.end; ordered = omega (arith, w.ordered, goes) })
+      let P : ℕ → Type 0 = IsCharBoundary t in (
+        record { start = subst P (sym start) w.start; end = subst P (sym end) w.end; ordered = omega (arith, start, end, w.ordered) },
+        record { utf8 = w.utf8; start = subst P (sym goes) w.start; end = w.end; ordered = omega (arith, w.ordered, goes) },
+      )
 
   pub back_cut : (from to end : ℕ) (part : Option (ℕ × ℕ)) → IsWindow t from to → IsBackPart p t from to part end → IfSome part (IsCut t) × IsWindow t from end
   back_cut from to end None w same =
@@ -133,13 +134,15 @@ module _ (p : ℕ → Bool) (low : (c : ℕ) → 128 ≤ c → p c ≡ false) (t
       (tt, subst P (sym same) w)
   back_cut from to end (Some part) w (stop, inl (low_end, lt, is, starts)) =
       let cut = passed-cut w.utf8 end (omega (arith, lt, w.end.0)) is in
-      let P : ℕ → Type 0 = IsCharBoundary t in
-      (record { start = subst P (sym starts) cut.end; end = subst P (sym stop) w.end; ordered = omega (arith, stop, starts, lt) },
-       record { utf8 = w.utf8; start = w.start; end = cut.start; ordered = low_end })
+      let P : ℕ → Type 0 = IsCharBoundary t in (
+        record { start = subst P (sym starts) cut.end; end = subst P (sym stop) w.end; ordered = omega (arith, stop, starts, lt) },
+        record { utf8 = w.utf8; start = w.start; end = cut.start; ordered = low_end },
+      )
   back_cut from to end (Some part) w (stop, inr (starts, same)) =
-      let P : ℕ → Type 0 = IsCharBoundary t in
-      (record { start = subst P (sym starts) w.start; end = subst P (sym stop) w.end; ordered = omega (arith, stop, starts, w.ordered) },
-       record { utf8 = w.utf8; start = w.start; end = subst P (sym same) w.end; ordered = omega (arith, w.ordered, same) })
+      let P : ℕ → Type 0 = IsCharBoundary t in (
+        record { start = subst P (sym starts) w.start; end = subst P (sym stop) w.end; ordered = omega (arith, stop, starts, w.ordered) },
+        record { utf8 = w.utf8; start = w.start; end = subst P (sym same) w.end; ordered = omega (arith, w.ordered, same) },
+      )
 
   -- the characters that pass stand where the bytes do
   same_ends : IsUtf8 t → (k : ℕ) → byte_ends p t k ≡ char_ends p t k

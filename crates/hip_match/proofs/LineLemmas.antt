@@ -1,14 +1,14 @@
 -- The lines of bytes, by the parts between line feeds.
-use Rattle.std.proofs.Common.{◌≡◌, ◌∙◌, ℕ, zero, suc, ◌+◌, ◌-◌, ◌<◌, ◌≤◌, ◌==◌, Bool, true, false, List, [], ◌∷◌, ◌++◌, Option, None, Some, MatchOption, length, map, slice_index, ap, sym, refl, arith, ⊎_elim, eq-eqb, ne_eqb, lt-ltb, if◌then◌else◌}
-use Rattle.std.proofs.lemmas.Bool.{cases_lt, cond-true, cond-false, false≢true, and_parts, and_from}
+use Rattle.std.proofs.Common.{◌≡◌, ◌∙◌, ℕ, zero, suc, ◌+◌, ◌-◌, ◌<◌, ◌≤◌, ◌==◌, Bool, true, false, List, [], ◌∷◌, ◌++◌, Option, None, length, map, slice_index, ap, refl, arith, ⊎_elim, eq-eqb, ne_eqb, if◌then◌else◌}
+use Rattle.std.proofs.lemmas.Bool.{cases_lt, cond-true, cond-false, and_from}
 use Rattle.std.proofs.lemmas.Bool.Decides.{nat_tests}
 use Rattle.std.proofs.lemmas.Grind.{common_steps}
 use Rattle.std.proofs.lemmas.List.{map-append}
 use Rattle.hip_match.specs.Bytes.{byte_ends, byte_lines, ended_lines, lines_left, open_lines}
-use Rattle.hip_match.specs.Leftmost.{leftmost, leftmost_from, end_within}
+use Rattle.hip_match.specs.Leftmost.{leftmost_from, end_within}
 use Rattle.hip_match.specs.Pieces.{ended, gaps, split}
-use Rattle.hip_match.specs.Runs.{ends_with, line_of, without_return}
-use Rattle.hip_match.proofs.GapLemmas.{byte-is, byte-none, byte-some}
+use Rattle.hip_match.specs.Runs.{line_of, without_return}
+use Rattle.hip_match.proofs.GapLemmas.{byte-is, byte-some}
 use Rattle.hip_match.proofs.LeftmostLemmas.{end_within-none, end_within-some, leftmost_from-hit, leftmost_from-miss}
 use Rattle.hip_match.proofs.OccurrenceLemmas.{option_cases}
 

@@ -1,5 +1,5 @@
 -- Where bytes that pass a test occur, in bytes that needn't be UTF-8: what Rust's documentation of `[u8]::split` says of a closure.
-use Rattle.std.specs.Prelude.{◌≡◌, ℕ, ◌+◌, ◌≤◌, ◌==◌, nat_lt, Bool, ◌&&◌, Option, Some, None, List, [], ◌∷◌, map, length, slice_index, if◌then◌else◌}
+use Rattle.std.specs.Prelude.{ℕ, ◌+◌, ◌≤◌, ◌==◌, nat_lt, Bool, ◌&&◌, Option, Some, None, List, [], ◌∷◌, map, length, slice_index, if◌then◌else◌}
 use Rattle.hip_match.specs.Pieces.{split_inclusive}
 use Rattle.hip_match.specs.Runs.{line_of, without_return}
 

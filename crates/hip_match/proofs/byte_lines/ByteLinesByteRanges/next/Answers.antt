@@ -1,4 +1,4 @@
-use Rattle.std.proofs.Common.{◌∙◌, ap, sym, ◌∷◌}
+use Rattle.std.proofs.Common.{◌∙◌, sym}
 use Rattle.std.proofs.lemmas.Bool.{false≢true}
 use Rattle.hip_match.proofs.LineLemmas.{next-line}
 use Rattle.hip_match.proofs.byte_lines.ByteLinesByteRanges.next.Goals as goal
