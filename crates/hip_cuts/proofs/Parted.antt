@@ -208,9 +208,10 @@ module _ (byte : ℕ) (t : List ℕ) where
     at-byte (m ∷ ms) is (Ok (Some parts)) answers =
         let first = byte_first (λ b. b == byte) t m ms is in
         let front_is : parts.0.items ≡ slice_range t 0 m.0 = answers.0.items_are ∙ ap (λ l. slice_range l 0 m.0) same in
-        let back_is : parts.1.items ≡ slice_range t m.1 (length t) = answers.1.items_are ∙ ap (λ l. slice_range l m.1 (length t)) same in
-        (joined-byte m.0 m.1 first.occurs ∙ ap (λ l. l ++ byte ∷ slice_range t m.1 (length t)) (sym front_is) ∙ ap (λ l. parts.0.items ++ byte ∷ l) (sym back_is),
-         subst (LacksByte byte) (sym front_is) (lacks-in 0 m.0 (omega (arith, (stands m.0 m.1 first.occurs).0)) first.first))
+        let back_is : parts.1.items ≡ slice_range t m.1 (length t) = answers.1.items_are ∙ ap (λ l. slice_range l m.1 (length t)) same in (
+          joined-byte m.0 m.1 first.occurs ∙ ap (λ l. l ++ byte ∷ slice_range t m.1 (length t)) (sym front_is) ∙ ap (λ l. parts.0.items ++ byte ∷ l) (sym back_is),
+          subst (LacksByte byte) (sym front_is) (lacks-in 0 m.0 (omega (arith, (stands m.0 m.1 first.occurs).0)) first.first),
+        )
 
     pub parted_at_byte : (result : Result (Option (Handle × Handle)) E) → OnceAnswers (λ part. part) split_once (byte_ends (λ b. b == byte)) source result → PartedAtByte byte t result
     parted_at_byte result answers =
@@ -232,9 +233,10 @@ module _ (byte : ℕ) (t : List ℕ) where
         let rise : (a b c d : ℕ) → at_byte a ≡ Some b → at_byte c ≡ Some d → a < c → b < d = λ a b c d first second lt. omega (arith, lt, (stands a b first).2, (stands c d second).2) in
         let behind : (k : ℕ) → m.1 ≤ k → k < length t → at_byte k ≡ None =
         λ k low high. option_cases (at_byte k) (λ none. none)
-            (λ b is. absurd (none-behind at_byte (length t) rise k b m ms right occurs (omega (arith, low, (stands m.0 m.1 occurs).2)) (omega (arith, high, (stands k b is).2)) is)) in
-        (joined-byte m.0 m.1 occurs ∙ ap (λ l. l ++ byte ∷ slice_range t m.1 (length t)) (sym front_is) ∙ ap (λ l. parts.0.items ++ byte ∷ l) (sym back_is),
-         subst (LacksByte byte) (sym back_is) (lacks-in m.1 (length t) (omega arith) behind))
+        (λ b is. absurd (none-behind at_byte (length t) rise k b m ms right occurs (omega (arith, low, (stands m.0 m.1 occurs).2)) (omega (arith, high, (stands k b is).2)) is)) in (
+          joined-byte m.0 m.1 occurs ∙ ap (λ l. l ++ byte ∷ slice_range t m.1 (length t)) (sym front_is) ∙ ap (λ l. parts.0.items ++ byte ∷ l) (sym back_is),
+          subst (LacksByte byte) (sym back_is) (lacks-in m.1 (length t) (omega arith) behind),
+        )
 
     pub parted_at_last_byte : (result : Result (Option (Handle × Handle)) E) → OnceAnswers (λ part. part) rsplit_once (byte_ends (λ b. b == byte)) source result → PartedAtLastByte byte t result
     parted_at_last_byte result answers =

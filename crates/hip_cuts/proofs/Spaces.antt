@@ -1,10 +1,10 @@
 -- A trim of white space leaves a part between white space.
-use Rattle.std.proofs.Common.{◌≡◌, ◌∙◌, ℕ, ◌-◌, ◌<◌, ◌≤◌, true, List, [], ◌∷◌, ◌++◌, Option, Result, Ok, Err, Some, IsUtf8, encode_utf8, length, drop, arith, ap, append_assoc, drop-drop, refl, subst, sym, take-append-drop, slice_index}
+use Rattle.std.proofs.Common.{◌≡◌, ◌∙◌, ℕ, ◌-◌, ◌≤◌, true, List, [], ◌∷◌, ◌++◌, Result, Ok, Err, Some, IsUtf8, encode_utf8, length, drop, arith, ap, append_assoc, drop-drop, refl, subst, sym, take-append-drop, slice_index}
 use Rattle.std.proofs.lemmas.{Grind.flat_map-append, List.append-nil, List.drop_all, List.drop_more}
 use Rattle.std.specs.{Char.is_ascii_whitespace, Char.is_whitespace, List.AllByRecursion, List.flat_map, Prelude.slice_range}
 use Rattle.hip_text.specs.Handle.{Handle}
 use Rattle.hip_match.proofs.{GapLemmas.byte-is, TextLemmas.rest_slice}
-use Rattle.hip_match.specs.{Bytes.byte_ends, CharLaws.char_ends-is, Characters.char_ends, Trims.Follows, Trims.FollowsBack}
+use Rattle.hip_match.specs.{CharLaws.char_ends-is, Trims.Follows, Trims.FollowsBack}
 use Rattle.hip_cuts.specs.Piece.{IsPartAt}
 use Rattle.hip_cuts.specs.Cut.{Ends, IsAsciiSpace, IsSpace, LeavesBetween, LeavesEnd, LeavesStart, LeftBefore, LeftBehind, LeftBetween, TrimAnswers, TrimmedBetween, TrimmedEnd, TrimmedStart, ascii_space_ends, space_ends}
 

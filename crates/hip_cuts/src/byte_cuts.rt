@@ -189,7 +189,12 @@ impl<'b, B: Backend> ByteCuts<B> for HipByt<'b, B> {
         byte: u8,
         meter: &mut Meter,
     ) -> Result<Option<(Self, Self)>, AllocError> {
-        parts_at(self, alloc, bytes::rsplit_once(self.as_slice(), byte), meter)
+        parts_at(
+            self,
+            alloc,
+            bytes::rsplit_once(self.as_slice(), byte),
+            meter,
+        )
     }
 }
 

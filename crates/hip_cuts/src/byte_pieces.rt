@@ -158,7 +158,8 @@ impl<'h, 'b, B: Backend, I: ByteRanges + Drop> Iterator for BytePieces<'h, HipBy
 }
 
 /// From the back.
-impl<'h, 'b, B: Backend, I: ByteRanges + Drop> DoubleEndedIterator for BytePieces<'h, HipByt<'b, B>, I> {
+impl<'h, 'b, B: Backend, I: ByteRanges + Drop> DoubleEndedIterator
+    for BytePieces<'h, HipByt<'b, B>, I> {
     ghost next_back_gives = { DrawsLastBytes };
 
     #[inline]

@@ -9,7 +9,11 @@ ghost use Rattle.hipstr.specs.Step.{Costs};
 use crate::command::Command;
 use hip_bytes::Backend;
 pub use hip_cuts::laws::{
-    a_byte_parts_bytes, a_character_parts_as_its_text, a_trim_leaves_what_white_space_surrounds, a_trim_of_bytes_leaves_what_white_space_surrounds, borrowed_pieces_copy_nothing, lines_and_their_ends_are_the_bytes, lines_and_their_ends_are_the_text, pieces_in_order_copy_the_text_once, rsplit_once_parts_at_the_last, shared_pieces_copy_little, split_once_parts_at_the_first, strip_prefix_leaves_the_rest, strip_suffix_leaves_the_front,
+    a_byte_parts_bytes, a_character_parts_as_its_text, a_trim_leaves_what_white_space_surrounds,
+    a_trim_of_bytes_leaves_what_white_space_surrounds, borrowed_pieces_copy_nothing,
+    lines_and_their_ends_are_the_bytes, lines_and_their_ends_are_the_text,
+    pieces_in_order_copy_the_text_once, rsplit_once_parts_at_the_last, shared_pieces_copy_little,
+    split_once_parts_at_the_first, strip_prefix_leaves_the_rest, strip_suffix_leaves_the_front,
 };
 pub use hip_match::laws::{
     ended_pieces_are_the_text, join_undoes_split, join_undoes_split_by_char,

@@ -11,7 +11,8 @@ ghost use Rattle.hipstr.specs.Pieces.{split};
 
 use hipstr::bytes::ByteCuts;
 use hipstr::laws::{
-    a_byte_parts_bytes, split_once_parts_at_the_first, strip_prefix_leaves_the_rest, strip_suffix_leaves_the_front,
+    a_byte_parts_bytes, split_once_parts_at_the_first, strip_prefix_leaves_the_rest,
+    strip_suffix_leaves_the_front,
 };
 use hipstr::pattern::{CharPred, Chosen, Pattern, Split, choose_by};
 use hipstr::string::{HipStr, IterWrapper, TextCuts, Writer};

@@ -68,17 +68,17 @@ fn has_lines(rt: &impl Abort, bytes: &[u8], want: &[Part]) {
 struct Split(&'static [u8], u8, &'static [Part]);
 
 const SPLITS: &[Split] = &[
-        Split(b"", b',', &[(0, 0)]),
-        Split(b",", b',', &[(0, 0), (1, 1)]),
-        Split(b"a", b',', &[(0, 1)]),
-        Split(b"a,b", b',', &[(0, 1), (2, 3)]),
-        Split(b",a,,b,", b',', &[(0, 0), (1, 2), (3, 3), (4, 5), (6, 6)]),
-        Split(b"\xFF,\x80", b',', &[(0, 1), (2, 3)]),
-        Split(b"\xC3,\xA9", b',', &[(0, 1), (2, 3)]),
-        Split(b"a,\xF0\x9F,\x98", b',', &[(0, 1), (2, 4), (5, 6)]),
-        Split(b"ab,cd\xFFef,g", b',', &[(0, 2), (3, 8), (9, 10)]),
-        Split(b"\xFFa\xFF\xFF", 0xFF, &[(0, 0), (1, 2), (3, 3), (4, 4)]),
-        Split(b"abc", 0xFF, &[(0, 3)]),
+    Split(b"", b',', &[(0, 0)]),
+    Split(b",", b',', &[(0, 0), (1, 1)]),
+    Split(b"a", b',', &[(0, 1)]),
+    Split(b"a,b", b',', &[(0, 1), (2, 3)]),
+    Split(b",a,,b,", b',', &[(0, 0), (1, 2), (3, 3), (4, 5), (6, 6)]),
+    Split(b"\xFF,\x80", b',', &[(0, 1), (2, 3)]),
+    Split(b"\xC3,\xA9", b',', &[(0, 1), (2, 3)]),
+    Split(b"a,\xF0\x9F,\x98", b',', &[(0, 1), (2, 4), (5, 6)]),
+    Split(b"ab,cd\xFFef,g", b',', &[(0, 2), (3, 8), (9, 10)]),
+    Split(b"\xFFa\xFF\xFF", 0xFF, &[(0, 0), (1, 2), (3, 3), (4, 4)]),
+    Split(b"abc", 0xFF, &[(0, 3)]),
 ];
 
 #[test]
@@ -93,20 +93,20 @@ fn parts_between_a_byte(rt: HostRuntime) {
 struct Lines(&'static [u8], &'static [Part]);
 
 const LINES: &[Lines] = &[
-        Lines(b"", &[]),
-        Lines(b"\n", &[(0, 0)]),
-        Lines(b"\n\n", &[(0, 0), (1, 1)]),
-        Lines(b"a", &[(0, 1)]),
-        Lines(b"a\n", &[(0, 1)]),
-        Lines(b"a\r\n", &[(0, 1)]),
-        Lines(b"a\r", &[(0, 2)]),
-        Lines(b"\r", &[(0, 1)]),
-        Lines(b"\r\n", &[(0, 0)]),
-        Lines(b"\r\r\n", &[(0, 1)]),
-        Lines(b"a\n\xFF\r\nb", &[(0, 1), (2, 3), (5, 6)]),
-        Lines(b"\x80\n\n\xC3\xA9\r", &[(0, 1), (2, 2), (3, 6)]),
-        Lines(b"a\r\nb\rc\n", &[(0, 1), (3, 6)]),
-        Lines(b"\n\xF0", &[(0, 0), (1, 2)]),
+    Lines(b"", &[]),
+    Lines(b"\n", &[(0, 0)]),
+    Lines(b"\n\n", &[(0, 0), (1, 1)]),
+    Lines(b"a", &[(0, 1)]),
+    Lines(b"a\n", &[(0, 1)]),
+    Lines(b"a\r\n", &[(0, 1)]),
+    Lines(b"a\r", &[(0, 2)]),
+    Lines(b"\r", &[(0, 1)]),
+    Lines(b"\r\n", &[(0, 0)]),
+    Lines(b"\r\r\n", &[(0, 1)]),
+    Lines(b"a\n\xFF\r\nb", &[(0, 1), (2, 3), (5, 6)]),
+    Lines(b"\x80\n\n\xC3\xA9\r", &[(0, 1), (2, 2), (3, 6)]),
+    Lines(b"a\r\nb\rc\n", &[(0, 1), (3, 6)]),
+    Lines(b"\n\xF0", &[(0, 0), (1, 2)]),
 ];
 
 #[test]

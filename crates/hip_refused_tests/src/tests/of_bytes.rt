@@ -198,7 +198,13 @@ fn cut_of<B: Backend>(
         Cut::TrimEnd => bytes.trim_ascii_end(alloc),
         Cut::SplitOnce => Ok(behind(bytes.split_once(alloc, b',')?)),
         Cut::RsplitOnce => Ok(behind(bytes.rsplit_once(alloc, b',')?)),
-        Cut::Split => Ok(bytes.split(alloc, b',').collect()?.pop().unwrap_or_default()),
+        Cut::Split => Ok(
+            bytes
+                .split(alloc, b',')
+                .collect()?
+                .pop()
+                .unwrap_or_default(),
+        ),
         Cut::Lines => Ok(bytes.lines(alloc).collect()?.pop().unwrap_or_default()),
         Cut::TrimMatches
         | Cut::TrimStartMatches

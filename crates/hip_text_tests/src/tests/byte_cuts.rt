@@ -9,8 +9,7 @@ use std::alloc::{AllocError, Global};
 use std::process::Abort;
 
 /// 60 bytes of two lines, of which the second is no UTF-8.
-const LOG: &[u8] =
-    b" GET /a 200 0123456789 0123456789\r\n\xFFET /\x80 404 0123456789 0123\n";
+const LOG: &[u8] = b" GET /a 200 0123456789 0123456789\r\n\xFFET /\x80 404 0123456789 0123\n";
 
 const FIRST: &[u8] = b" GET /a 200 0123456789 0123456789";
 
@@ -155,7 +154,11 @@ impl OfBackend for Costs {
         let owned = must(rt, HipByt::<B>::from_slice(alloc, LOG));
         let lent = HipByt::<B>::borrowed(LOG);
         let copied = if B::SHARES { 0 } else { 33 };
-        equals(rt, &first_of(alloc, &owned), &Some((Kind::Allocated, copied)));
+        equals(
+            rt,
+            &first_of(alloc, &owned),
+            &Some((Kind::Allocated, copied)),
+        );
         equals(rt, &first_of(alloc, &lent), &Some((Kind::Borrowed, 0)));
     }
 }
