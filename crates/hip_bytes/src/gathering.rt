@@ -126,7 +126,7 @@ impl Gathering {
                 inline.push_slice_unchecked_metered(bytes, meter);
             }
             Place::Handle(inline) => {
-                // A call that isn't inlined keeps in memory what it is lent, so it gets a meter of its own, and the bytes by value.
+                // A call that isn't inlined keeps in memory what it is lent, so it gets a meter of its own, and a list that is moved here.
                 let mut apart = Meter::new();
                 let front = mem::replace(inline, Inline::empty());
                 match spilled(alloc, &front, gap, bytes, &mut apart) {

@@ -11,6 +11,8 @@
 //!   [`SplitInclusive`], [`SplitTerminator`], [`SplitN`], [`Matches`] and [`MatchIndices`] from a text's front, [`RSplit`],
 //!   [`RSplitTerminator`], [`RSplitN`], [`RMatches`] and [`RMatchIndices`] from its end, [`Lines`], [`SplitWhitespace`],
 //!   [`SplitAsciiWhitespace`] and [`SplitByte`].
+//! - [`ByteRanges`] is a walk over bytes that needn't be UTF-8, from both ends: [`SplitByte`] and [`ByteLines`]. [`bytes`] trims them, and
+//!   parts them at a byte.
 //! - [`trim_start`], [`trim_end`], [`trim::trim`] and [`trim_matches`] with its kin, [`strip_prefix`], [`strip_suffix`], [`split_once`]
 //!   and [`rsplit_once`] give one range or two.
 //! - [`draw_into`] draws a walk by a script of [`End`]s.
@@ -20,11 +22,12 @@
 //!
 //! The words of the contracts stand in `specs/`: `Occurrence` (where a pattern occurs, and what a search gives), `Characters` and `Texts`
 //! (where sets of characters and texts occur), `Leftmost` and `Rightmost` (the lists of matches), `Pieces` (the parts between matches, and
-//! lists in order), `Runs` (lines, and runs between white space), `Trims` (what is removed from the ends), `Draw` (what a script draws),
-//! `Joined` (pieces put together again), `Answers` (what a closure answers), `AsciiSets` and `MarkedSets` (the characters of a set, and the
-//! places where they start), `Needles` (the bytes of a short needle), `Bits` (which bit is the lowest), `Ready` and `Marks` (what a walk
-//! keeps of its places), `Clones` (what its clone keeps) and `Iterators` (what is said of a walk by its type's own words); `Rows` has what
-//! they give for texts as one writes them down, and `CharLaws` and `TextLaws` what holds of the places where characters and texts occur.
+//! lists in order), `Runs` (lines, and runs between white space), `Bytes` (where bytes that pass a test occur), `Trims` (what is removed from
+//! the ends), `Draw` (what a script draws), `Joined` (pieces put together again), `Answers` (what a closure answers), `AsciiSets` and
+//! `MarkedSets` (the characters of a set, and the places where they start), `Needles` (the bytes of a short needle), `Bits` (which bit is the
+//! lowest), `Ready` and `Marks` (what a walk keeps of its places), `Clones` (what its clone keeps) and `Iterators` (what is said of a walk by
+//! its type's own words); `Rows` has what they give for texts as one writes them down, and `CharLaws` and `TextLaws` what holds of the places
+//! where characters and texts occur.
 #![tactic(auto)]
 
 pub mod ascii_set;
