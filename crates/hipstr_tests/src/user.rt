@@ -1,18 +1,20 @@
 //! Code of a user who names `hipstr` alone: loops over walks, functions of a pattern and over a closure, with clauses that cite what a call
 //! is said to give, a struct that keeps a walk, and records that are cut field by field. A function that is generic in the backend is
 //! proved once for all, and takes longer than one that names `Rc`: most of these do.
-ghost use Rattle.std.specs.Prelude.{◌≡◌, ◌==◌, ◌++◌, ◌∷◌, ℕ, IfOk, IfSome, OnErr, OnOk, codes, length};
+ghost use Rattle.std.specs.Prelude.{◌≡◌, ◌==◌, ◌++◌, ℕ, IfOk, IfSome, OnErr, OnOk, codes, length};
 ghost use Rattle.std.specs.Char.{IsScalar, is_ascii_digit};
 ghost use Rattle.std.specs.Fmt.{decimal};
 ghost use Rattle.hipstr.specs.Answers.{answer_at};
+ghost use Rattle.hipstr.specs.Bytes.{byte_ends};
 ghost use Rattle.hipstr.specs.Characters.{char_ends};
 ghost use Rattle.hipstr.specs.Piece.{AreParts};
 ghost use Rattle.hipstr.specs.Pieces.{split};
+ghost use Rattle.hipstr.specs.Trimmed.{OnceAnswers};
+ghost use Rattle.hipstr.specs.Trims.{split_once};
 
 use hipstr::bytes::ByteCuts;
 use hipstr::laws::{
-    a_byte_parts_bytes, split_once_parts_at_the_first, strip_prefix_leaves_the_rest,
-    strip_suffix_leaves_the_front,
+    split_once_parts_at_the_first, strip_prefix_leaves_the_rest, strip_suffix_leaves_the_front,
 };
 use hipstr::pattern::{CharPred, Chosen, Pattern, Split, choose_by};
 use hipstr::string::{HipStr, IterWrapper, TextCuts, Writer};
@@ -280,12 +282,9 @@ fn key_and_value_bytes<'b>(
     alloc: Global,
     line: &LocalHipByt<'b>,
 ) -> Result<Option<(LocalHipByt<'b>, LocalHipByt<'b>)>, AllocError>
-    ensures { IfOk result (λ found. IfSome found
-        (λ parts. line.now.items ≡ parts.0.items ++ 61 ∷ parts.1.items)) }
+    ensures { OnceAnswers (λ part. part) split_once (byte_ends (λ b. b == 61)) line.now result }
 {
-    let parts = line.split_once(alloc, b'=')?;
-    a_byte_parts_bytes(line.as_slice(), b'=');
-    Ok(parts)
+    line.split_once(alloc, b'=')
 }
 
 /// Whether the texts are these.
