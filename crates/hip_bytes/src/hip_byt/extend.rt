@@ -1,5 +1,5 @@
 //! Bytes and characters that an iterator gives.
-ghost use Rattle.std.specs.Prelude.{◌≡◌, ◌≤◌, ◌<◌, ◌+◌, ◌^◌, [], IsUtf8, nat_le, length, IfOk, OnErr};
+ghost use Rattle.std.specs.Prelude.{◌≡◌, ◌≤◌, ◌<◌, ◌+◌, ◌-◌, ◌^◌, [], IsUtf8, nat_le, length, IfOk, OnErr, OnOk};
 ghost use Rattle.std.specs.Char.{encode_utf8};
 ghost use Rattle.std.specs.Iterator.{IsFinite};
 ghost use Rattle.std.specs.List.{join_by};
@@ -72,6 +72,8 @@ impl<'b, B: Backend> HipByt<'b, B> {
             I.IntoIter.next_gives bytes self.old result self.new }
         ensures counted { ExtendCosts B.SHARES one_byte I.into_iter_gives
             I.IntoIter.next_gives bytes self.old meter.old meter.new }
+        ensures copied { OnOk result (RisesAtLeast meter.old meter.new
+            (length self.new.items - length self.old.items)) }
     {
         let addition = Self::from_bytes_metered(alloc, bytes, meter)?;
         Ok(self.push_slice_metered(alloc, addition.as_slice(), meter)?)

@@ -1,7 +1,8 @@
 //! Characters that an iterator gives.
-ghost use Rattle.std.specs.Prelude.{◌≡◌, []};
+ghost use Rattle.std.specs.Prelude.{◌≡◌, ◌-◌, [], length, OnOk};
 ghost use Rattle.std.specs.Char.{encode_utf8};
 ghost use Rattle.std.specs.Iterator.{IsFinite};
+ghost use Rattle.hip_bytes.specs.Meter.{RisesAtLeast};
 ghost use Rattle.hip_bytes.specs.Made.{ExtendAnswers, ExtendCosts, GatherAnswers, GatherCosts};
 
 use super::HipStr;
@@ -69,6 +70,8 @@ impl<'b, B: Backend> HipStr<'b, B> {
             I.IntoIter.next_gives chars self.old result self.new }
         ensures counted { ExtendCosts B.SHARES encode_utf8 I.into_iter_gives
             I.IntoIter.next_gives chars self.old meter.old meter.new }
+        ensures copied { OnOk result (RisesAtLeast meter.old meter.new
+            (length self.new.items - length self.old.items)) }
     {
         let addition = Self::from_chars_metered(alloc, chars, meter)?;
         Ok(self.push_str_metered(alloc, addition.as_str(), meter)?)
